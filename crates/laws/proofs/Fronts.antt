@@ -1,0 +1,108 @@
+-- `front` and `after`: what a scan's place says of them. Three laws over any test prove every scanner.
+use Prim.Native.Nat.{ℕ, zero, suc, _+_, _-_, _≤_, _<_}
+use mathlib.Core.Path.{_≡_, refl, sym, ap, _∙_}
+use mathlib.Core.List.{List, [], _∷_, _++_}
+use mathlib.Core.Bool.{Bool, true, false, cond, not, _&&_}
+use native.Mathlib.Omega.{arith}
+use lib.ListN.{length, take, drop, getD, drop-of-length-le, length-take, length-drop}
+use lib.Seq.{take-take, drop-drop}
+use lib.Dec.{eqb}
+use borrow.Author.Tests.{eq-eqb, ne-eqb}
+use Rattle.laws.specs.Lists.{front, after, all, other, part}
+use Rattle.laws.proofs.Tests.{by-test}
+use Rattle.laws.proofs.Lists.{from-cons}
+
+module _ {A : Type 0} (p : A → Bool) where
+  -- the element at i passes: the front from i on is longer by it
+  pub front-more : (l : List A) (i : ℕ) (d : A) → i < length l → p (getD l i d) ≡ true
+      → i + 1 + length (front p (drop (i + 1) l)) ≡ i + length (front p (drop i l))
+  unfolding front
+  front-more l i d h e = rw (from-cons l i d h, e) (omega arith)
+
+  -- it does not: the front ends here
+  pub front-stop : (l : List A) (i : ℕ) (d : A) → i < length l → p (getD l i d) ≡ false → i + length (front p (drop i l)) ≡ i
+  unfolding front
+  front-stop l i d h e = rw (from-cons l i d h, e) (omega arith)
+
+  -- nothing is left
+  pub front-end : (l : List A) (i : ℕ) → length l ≤ i → i + length (front p (drop i l)) ≡ i
+  unfolding front
+  front-end l i h = rw (drop-of-length-le l h) (omega arith)
+
+  -- a front is a part, and what follows it is the rest
+  pub front-take : (l : List A) → take (length (front p l)) l ≡ front p l
+  unfolding front
+  front-take [] = refl
+  front-take (b ∷ bs) =
+      elim (p b) as (λ (t : Bool). take (length (cond t (b ∷ front p bs) [])) (b ∷ bs) ≡ cond t (b ∷ front p bs) [])
+      [ true ↦ ap (λ (l : List A). b ∷ l) (front-take bs) | false ↦ refl ]
+
+  pub after-drop : (l : List A) → drop (length (front p l)) l ≡ after p l
+  unfolding front after
+  after-drop [] = refl
+  after-drop (b ∷ bs) =
+      elim (p b) as (λ (t : Bool). drop (length (cond t (b ∷ front p bs) [])) (b ∷ bs) ≡ cond t (after p bs) (b ∷ bs))
+      [ true ↦ after-drop bs | false ↦ refl ]
+
+  pub front-le : (l : List A) → length (front p l) ≤ length l
+  unfolding front
+  front-le [] = omega arith
+  front-le (b ∷ bs) =
+      elim (p b) as (λ (t : Bool). length (cond t (b ∷ front p bs) []) ≤ suc (length bs))
+      [ true ↦ omega (arith, front-le bs) | false ↦ omega arith ]
+
+  -- the two together are the list
+  pub front-after : (l : List A) → front p l ++ after p l ≡ l
+  unfolding front after
+  front-after [] = refl
+  front-after (b ∷ bs) =
+      elim (p b) as (λ (t : Bool). cond t (b ∷ front p bs) [] ++ cond t (after p bs) (b ∷ bs) ≡ b ∷ bs)
+      [ true ↦ ap (λ (l : List A). b ∷ l) (front-after bs) | false ↦ refl ]
+
+  -- a front passes throughout, and what follows it begins with an element that does not pass
+  pub front-all : (l : List A) → all p (front p l) ≡ true
+  unfolding front all
+  front-all [] = refl
+  front-all (b ∷ bs) = by-test (p b) (λ h. simp (h, front-all bs)) (λ h. simp h)
+
+  pub after-stops : (l : List A) (b : A) (bs : List A) → after p l ≡ b ∷ bs → p b ≡ false
+  unfolding after
+  after-stops [] b bs e = let z : _≡_ {A = ℕ} 0 1 = cc in absurd (omega arith)
+  after-stops (x ∷ xs) b bs e =
+      by-test (p x)
+      (λ h. after-stops xs b bs (simp h at e))
+      (λ h. let k : x ∷ xs ≡ b ∷ bs = simp h at e in let q : x ≡ b = cc in rw (sym q) h)
+
+  -- places: the scan from `at` stopped at `stop`
+  pub after-at : (s : List A) (at stop : ℕ) → stop ≡ at + length (front p (drop at s)) → after p (drop at s) ≡ drop stop s
+  after-at s at stop h =
+      sym (after-drop (drop at s)) ∙ drop-drop (length (front p (drop at s))) at s ∙ ap (λ (k : ℕ). drop k s) (sym h)
+
+  pub front-at : (s : List A) (at stop : ℕ) → stop ≡ at + length (front p (drop at s)) → part at stop s ≡ front p (drop at s)
+  front-at s at stop h =
+      let e : stop - at ≡ length (front p (drop at s)) = omega arith in
+      ap (λ (k : ℕ). take k (drop at s)) e ∙ front-take (drop at s)
+
+  -- within the front, a part of the list is a part of the front
+  pub take-front : (l : List A) (m : ℕ) → m ≤ length (front p l) → take m l ≡ take m (front p l)
+  take-front l m h = sym (take-take m (length (front p l)) l h) ∙ ap (take m) (front-take l)
+
+  -- ---- `all`, from a place on
+
+  pub all-end : (l : List A) (i : ℕ) → length l ≤ i → all p (drop i l) ≡ true
+  unfolding all
+  all-end l i h = rw (drop-of-length-le l h)
+
+  pub all-at : (l : List A) (i : ℕ) (d : A) → i < length l → all p (drop i l) ≡ (p (getD l i d) && all p (drop (i + 1) l))
+  unfolding all
+  all-at l i d h = rw (from-cons l i d h)
+
+-- ---- the test against one byte
+
+pub other-no : (c b : ℕ) → b ≡ c → other c b ≡ false
+unfolding other
+other-no c b e = ap not (eq-eqb b c e)
+
+pub other-yes : (c b : ℕ) → (b ≡ c → ⊥) → other c b ≡ true
+unfolding other
+other-yes c b e = ap not (ne-eqb b c e)

@@ -1,0 +1,39 @@
+-- Lists from a place on: one element more, parts and their lengths, over any element.
+use Prim.Native.Nat.{ℕ, zero, suc, _+_, _-_, _≤_, _<_}
+use mathlib.Core.Path.{_≡_, refl, sym, ap, _∙_}
+use mathlib.Core.List.{List, [], _∷_, _++_}
+use native.Mathlib.Numerals.{add-one, sub-one}
+use native.Mathlib.Nat.{not-suc-le-zero}
+use native.Mathlib.Omega.{arith}
+use lib.ListN.{length, take, drop, getD, drop-of-length-le, length-take, length-drop}
+use lib.Seq.{drop-cons, take-suc, getD-take, getD-drop}
+use Rattle.laws.specs.Lists.{part}
+
+module _ {A : Type 0} where
+  -- the element at i, and what follows it
+  pub from-cons : (l : List A) (i : ℕ) (d : A) → i < length l → drop i l ≡ getD l i d ∷ drop (i + 1) l
+  from-cons l i d h = drop-cons l i d h ∙ ap (λ (j : ℕ). getD l i d ∷ drop j l) (sym (add-one i))
+
+  -- the elements before i, and the last of them
+  pub take-down : (l : List A) (i : ℕ) (d : A) → 0 < i → i ≤ length l → take i l ≡ take (i - 1) l ++ (getD l (i - 1) d ∷ [])
+  take-down l zero d h k = absurd (not-suc-le-zero h)
+  take-down l (suc i) d h k =
+      take-suc l i d k ∙ ap (λ (j : ℕ). take j l ++ (getD l j d ∷ [])) (sym (sub-one (suc i)))
+
+  -- past the end one place more is the same
+  pub past-end : (l : List A) (i : ℕ) → length l ≤ i → drop (i + 1) l ≡ drop i l
+  past-end l i h =
+      let k : length l ≤ i + 1 = omega arith in
+      drop-of-length-le l k ∙ sym (drop-of-length-le l h)
+
+  pub part-length : (s : List A) (a e : ℕ) → e ≤ length s → length (part a e s) ≡ e - a
+  part-length s a e h = omega (arith, length-take (e - a) (drop a s), length-drop a s)
+
+  pub part-le : (s : List A) (a e : ℕ) → length (part a e s) ≤ length s
+  part-le s a e = omega (arith, length-take (e - a) (drop a s), length-drop a s)
+
+  -- the first element of a part
+  pub part-first : (s : List A) (a e : ℕ) (d : A) → a < e → getD (part a e s) 0 d ≡ getD s a d
+  part-first s a e d h =
+      let k : a + 0 ≡ a = omega arith in
+      getD-take (e - a) (drop a s) 0 d (omega arith) ∙ getD-drop a s 0 d ∙ ap (λ (n : ℕ). getD s n d) k

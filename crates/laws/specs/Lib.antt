@@ -1,0 +1,3 @@
+-- The definitions that every crate above shares.
+pub mod Bytes
+pub mod Lists

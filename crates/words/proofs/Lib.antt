@@ -1,0 +1,2 @@
+-- Laws on words, cited by the crates above too.
+pub mod Laws

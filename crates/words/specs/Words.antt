@@ -1,0 +1,23 @@
+-- A word is a longest run without blanks.
+use Prim.Native.Nat.{ℕ}
+use mathlib.Core.List.{List, [], _∷_}
+use mathlib.Core.Bool.{Bool, cond, not}
+use Rattle.laws.specs.Bytes.{isBlank}
+
+-- what a word is made of
+unfoldable pub isInk : ℕ → Bool
+isInk b = not (isBlank b)
+
+-- the byte goes in front of the first word
+unfoldable pub onto : ℕ → List (List ℕ) → List (List ℕ)
+onto b [] = (b ∷ []) ∷ []
+onto b (w ∷ ws) = (b ∷ w) ∷ ws
+
+-- a byte of a word, what follows it, and the words there: the byte is a word by itself if a blank or nothing follows
+unfoldable pub grown : ℕ → List ℕ → List (List ℕ) → List (List ℕ)
+grown b [] ws = (b ∷ []) ∷ ws
+grown b (x ∷ xs) ws = cond (isBlank x) ((b ∷ []) ∷ ws) (onto b ws)
+
+unfoldable pub words : List ℕ → List (List ℕ)
+words [] = []
+words (b ∷ bs) = cond (isBlank b) (words bs) (grown b bs (words bs))
