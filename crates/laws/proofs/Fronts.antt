@@ -1,15 +1,15 @@
 -- `front` and `after`: what a scan's place says of them. Three laws over any test prove every scanner.
-use Prim.Native.Nat.{ℕ, zero, suc, _+_, _-_, _≤_, _<_}
+use Prim.Native.Nat.{ℕ, suc, _+_, _-_, _≤_, _<_}
 use mathlib.Core.Path.{_≡_, refl, sym, ap, _∙_}
 use mathlib.Core.List.{List, [], _∷_, _++_}
 use mathlib.Core.Bool.{Bool, true, false, cond, not, _&&_}
 use native.Mathlib.Omega.{arith}
-use lib.ListN.{length, take, drop, getD, drop-of-length-le, length-take, length-drop}
+use lib.ListN.{length, take, drop, getD, drop-of-length-le}
 use lib.Seq.{take-take, drop-drop}
-use lib.Dec.{eqb}
-use borrow.Author.Tests.{eq-eqb, ne-eqb}
-use Rattle.laws.specs.Lists.{front, after, all, other, part}
-use Rattle.laws.proofs.Tests.{by-test}
+use lib.Dec.{eqb, ltb}
+use borrow.Author.Tests.{eq-eqb, ne-eqb, eqb-true, eqb-false, lt-ltb, le-ltb, not-false}
+use Rattle.laws.specs.Lists.{front, after, all, among, other, part}
+use Rattle.laws.proofs.Tests.{by-test, by-order, and-right, and-both, and-first, and-second}
 use Rattle.laws.proofs.Lists.{from-cons}
 
 module _ {A : Type 0} (p : A → Bool) where
@@ -87,6 +87,23 @@ module _ {A : Type 0} (p : A → Bool) where
   pub take-front : (l : List A) (m : ℕ) → m ≤ length (front p l) → take m l ≡ take m (front p l)
   take-front l m h = sym (take-take m (length (front p l)) l h) ∙ ap (take m) (front-take l)
 
+  -- a front that stops where the test first fails, or with the list
+  pub front-whole : (l : List A) → all p l ≡ true → front p l ≡ l
+  unfolding front all
+  front-whole [] h = refl
+  front-whole (b ∷ bs) h =
+      by-test (p b)
+      (λ e. rw e (ap (λ (l : List A). b ∷ l) (front-whole bs (simp e at h))))
+      (λ e. let z : false ≡ true = simp e at h in cc)
+
+  pub front-before : (f : List A) (b : A) (l : List A) → all p f ≡ true → p b ≡ false → front p (f ++ b ∷ l) ≡ f
+  unfolding front all
+  front-before [] b l h e = rw e
+  front-before (x ∷ f) b l h e =
+      by-test (p x)
+      (λ k. rw k (ap (λ (l : List A). x ∷ l) (front-before f b l (simp k at h) e)))
+      (λ k. let z : false ≡ true = simp k at h in cc)
+
   -- ---- `all`, from a place on
 
   pub all-end : (l : List A) (i : ℕ) → length l ≤ i → all p (drop i l) ≡ true
@@ -106,3 +123,50 @@ other-no c b e = ap not (eq-eqb b c e)
 pub other-yes : (c b : ℕ) → (b ≡ c → ⊥) → other c b ≡ true
 unfolding other
 other-yes c b e = ap not (ne-eqb b c e)
+
+pub other-is : (c b : ℕ) → other c b ≡ false → b ≡ c
+unfolding other
+other-is c b h = eqb-true b c (not-false (eqb b c) h)
+
+-- a byte is one of these exactly if a search for it stops before the end
+pub among-found : (b : ℕ) (l : List ℕ) → among b l ≡ ltb (length (front (other b) l)) (length l)
+unfolding among front other
+among-found b [] = refl
+among-found b (x ∷ l) =
+    by-test (eqb x b)
+    (λ e. rw (e, eq-eqb b x (sym (eqb-true x b e))) (sym (lt-ltb 0 (suc (length l)) (omega arith))))
+    (λ e. rw (e, ne-eqb b x (λ q. eqb-false x b e (sym q))) (among-found b l ∙ step (length (front (other b) l)) (length l)))
+  where
+    step : (m n : ℕ) → ltb m n ≡ ltb (suc m) (suc n)
+    step m n =
+        by-order n m
+        (λ h. le-ltb m n h ∙ sym (le-ltb (suc m) (suc n) (omega arith)))
+        (λ h. lt-ltb m n h ∙ sym (lt-ltb (suc m) (suc n) (omega arith)))
+
+module _ {A : Type 0} (p : A → Bool) where
+  -- one element that fails
+  pub all-fails : (f : List A) (b : A) (l : List A) → p b ≡ false → all p (f ++ b ∷ l) ≡ false
+  unfolding all
+  all-fails [] b l h = rw h
+  all-fails (x ∷ f) b l h = rw (all-fails f b l h) (and-right (p x) false refl)
+
+  -- the list, by where a scan stopped
+  pub split-at : (s : List A) (at stop : ℕ) → stop ≡ at + length (front p (drop at s)) → drop at s ≡ front p (drop at s) ++ drop stop s
+  split-at s at stop h = sym (front-after p (drop at s)) ∙ ap (λ (l : List A). front p (drop at s) ++ l) (after-at p s at stop h)
+
+  -- what holds of a list holds of its two parts
+  pub all-first : (f l : List A) → all p (f ++ l) ≡ true → all p f ≡ true
+  unfolding all
+  all-first [] l h = refl
+  all-first (x ∷ f) l h = and-both (p x) (all p f) (and-first (p x) (all p (f ++ l)) h) (all-first f l (and-second (p x) (all p (f ++ l)) h))
+
+  pub all-second : (f l : List A) → all p (f ++ l) ≡ true → all p l ≡ true
+  unfolding all
+  all-second [] l h = h
+  all-second (x ∷ f) l h = all-second f l (and-second (p x) (all p (f ++ l)) h)
+
+pub all-append : {A : Type 0} (p : A → Bool) (l m : List A) → all p l ≡ true → all p m ≡ true → all p (l ++ m) ≡ true
+unfolding all
+all-append p [] m h k = k
+all-append p (b ∷ bs) m h k =
+    and-both (p b) (all p (bs ++ m)) (and-first (p b) (all p bs) h) (all-append p bs m (and-second (p b) (all p bs) h) k)

@@ -1,5 +1,8 @@
 -- The laws, by what they are about.
+
 pub mod Tests
+pub mod Numbers
+pub mod Bytes
 pub mod Lists
 pub mod Fronts
 pub mod Trims

@@ -37,3 +37,23 @@ module _ {A : Type 0} where
   part-first s a e d h =
       let k : a + 0 ≡ a = omega arith in
       getD-take (e - a) (drop a s) 0 d (omega arith) ∙ getD-drop a s 0 d ∙ ap (λ (n : ℕ). getD s n d) k
+
+-- a list with no element
+pub none-of : {A : Type 0} (l : List A) → length l ≡ 0 → l ≡ []
+none-of [] h = refl
+none-of (x ∷ xs) h = absurd (omega arith)
+
+-- a part that ends where it begins, and one that ends a place later
+pub part-none : {A : Type 0} (s : List A) (a : ℕ) → part a a s ≡ []
+part-none s a =
+    let e : a - a ≡ 0 = omega arith in
+    ap (λ (k : ℕ). take k (drop a s)) e
+
+pub part-more : {A : Type 0} (s : List A) (a e : ℕ) (d : A) → a ≤ e → e < length s → part a (e + 1) s ≡ part a e s ++ (getD s e d ∷ [])
+part-more s a e d h k =
+    let n : e + 1 - a ≡ e - a + 1 = omega arith in
+    let m : a + (e - a) ≡ e = omega arith in
+    let l : e - a < length (drop a s) = omega (arith, length-drop a s) in
+    ap (λ (j : ℕ). take j (drop a s)) (n ∙ add-one (e - a))
+    ∙ take-suc (drop a s) (e - a) d l
+    ∙ ap (λ (b : _). take (e - a) (drop a s) ++ (b ∷ [])) (getD-drop a s (e - a) d ∙ ap (λ (j : ℕ). getD s j d) m)

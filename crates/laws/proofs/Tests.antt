@@ -1,9 +1,10 @@
 -- Tests: what a test says, and what `cond` gives once it is known. Each is by cases on the test.
 use Prim.Native.Nat.{ℕ, _≤_, _<_}
 use mathlib.Core.Path.{_≡_, refl, ap}
-use mathlib.Core.Bool.{Bool, true, false, cond, not, _&&_, _||_}
+use mathlib.Core.Bool.{Bool, true, false, cond, _&&_, _||_}
 use native.Mathlib.Decide.{decLe}
 use native.Mathlib.Nat.{lt-of-not-le}
+use native.Mathlib.Omega.{arith}
 
 -- a test, with what it says
 pub by-test {ℓ} : {X : Type ℓ} (t : Bool) → (t ≡ true → X) → (t ≡ false → X) → X
@@ -41,3 +42,28 @@ and-left false t h = refl
 pub and-right : (s t : Bool) → t ≡ false → (s && t) ≡ false
 and-right true t h = h
 and-right false t h = refl
+
+-- a test of two parts that holds: each part holds
+pub and-first : (s t : Bool) → (s && t) ≡ true → s ≡ true
+and-first true t h = refl
+and-first false t h = h
+
+pub and-second : (s t : Bool) → (s && t) ≡ true → t ≡ true
+and-second true t h = h
+and-second false t h = cc
+
+-- no test both holds and fails
+pub never : (t : Bool) → t ≡ true → t ≡ false → ⊥
+never t h k = let z : _≡_ {A = ℕ} 0 1 = cc in omega arith
+
+pub or-none : (t : Bool) → (t || false) ≡ t
+or-none true = refl
+or-none false = refl
+
+pub or-left : (s t : Bool) → (s || t) ≡ false → s ≡ false
+or-left true t h = h
+or-left false t h = refl
+
+pub or-right : (s t : Bool) → (s || t) ≡ false → t ≡ false
+or-right true t h = cc
+or-right false t h = h

@@ -1,11 +1,11 @@
 -- `trim`: from the end, one element at a time; what is left is a part, over any element and test.
-use Prim.Native.Nat.{ℕ, zero, suc, _+_, _-_, _≤_, _<_}
+use Prim.Native.Nat.{ℕ, zero, suc, _-_, _≤_, _<_}
 use mathlib.Core.Path.{_≡_, refl, sym, ap, _∙_}
 use mathlib.Core.List.{List, [], _∷_, _++_}
 use mathlib.Core.Bool.{Bool, true, false, cond}
 use native.Mathlib.Nat.{not-suc-le-zero}
 use native.Mathlib.Omega.{arith}
-use lib.ListN.{length, take, drop, getD, length-take}
+use lib.ListN.{length, take, getD, length-take}
 use Rattle.laws.specs.Lists.{keep, trim}
 use Rattle.laws.proofs.Lists.{take-down}
 

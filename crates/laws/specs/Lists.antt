@@ -29,6 +29,11 @@ unfoldable pub all : {A : Type 0} → (A → Bool) → List A → Bool
 all p [] = true
 all p (b ∷ bs) = p b && all p bs
 
+-- the byte is one of these
+unfoldable pub among : ℕ → List ℕ → Bool
+among b [] = false
+among b (x ∷ xs) = eqb b x || among b xs
+
 -- bytes other than c
 unfoldable pub other : ℕ → ℕ → Bool
 other c b = not (eqb b c)

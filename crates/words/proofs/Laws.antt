@@ -5,7 +5,6 @@ use mathlib.Core.List.{List, [], _∷_}
 use mathlib.Core.Bool.{Bool, true, false, not}
 use native.Mathlib.Omega.{arith}
 use lib.ListN.{length, drop, getD, drop-of-length-le}
-use borrow.Author.Tests.{not-true, not-false}
 use Rattle.laws.specs.Bytes.{isBlank}
 use Rattle.laws.specs.Lists.{front, after, part}
 use Rattle.laws.proofs.Tests.{by-test}

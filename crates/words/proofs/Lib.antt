@@ -1,2 +1,3 @@
 -- Laws on words, cited by the crates above too.
+
 pub mod Laws

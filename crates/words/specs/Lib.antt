@@ -1,3 +1,3 @@
 -- Words of a line, and what a place found in a slice says of them.
 pub mod Words
-pub mod Contracts
+pub mod Places

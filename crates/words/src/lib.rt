@@ -6,7 +6,7 @@ ghost use lib.ListN.{length, drop};
 ghost use Rattle.laws.specs.Bytes.{isBlank, capital};
 ghost use Rattle.laws.specs.Lists.{front, trim, other, eqs};
 ghost use Rattle.words.specs.Words.{isInk};
-ghost use Rattle.words.specs.Contracts.{WordAt};
+ghost use Rattle.words.specs.Places.{WordAt};
 
 // A word, from start up to end. Where no word is left, both are the end of the slice.
 pub struct Word {
@@ -114,20 +114,20 @@ pub fn word_at(s: &[u8], at: usize) -> Word
 }
 
 // The same bytes.
-pub fn same(w: &[u8], name: &[u8]) -> bool
-    ensures { λ r. ⌜ r ≡ eqs (now (w .entry)) (now (name .entry)) ⌝ }
+pub fn same(w: &[u8], other: &[u8]) -> bool
+    ensures { λ r. ⌜ r ≡ eqs (now (w .entry)) (now (other .entry)) ⌝ }
 {
     let mut i = 0;
     while i < w.len() {
-        if name.len() <= i {
+        if other.len() <= i {
             return false;
         }
-        if w[i] != name[i] {
+        if w[i] != other[i] {
             return false;
         }
         i += 1;
     }
-    name.len() <= i
+    other.len() <= i
 }
 
 // The same bytes, once small letters of w are capitals.

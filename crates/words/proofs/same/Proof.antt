@@ -15,18 +15,18 @@ abbrev kept : ℕ → ℕ
 kept b = b
 
 abbrev Inv-loop : tie.InvT-loop
-Inv-loop w name i₀ i = (i ≤ length w) × (eqs (map kept (drop i w)) (drop i name) ≡ eqs w name)
+Inv-loop w other i₀ i = (i ≤ length w) × (eqs (map kept (drop i w)) (drop i other) ≡ eqs w other)
 
 abbrev μ-loop : tie.MeasureT-loop
-μ-loop w name i₀ i = length w - i
+μ-loop w other i₀ i = length w - i
 
 loop-holds : tie.Need-loop-holds Inv-loop μ-loop
-loop-holds c = (omega arith, ap (λ (l : List ℕ). eqs l (now (c .args .name))) (map-same (now (c .args .w))))
+loop-holds c = (omega arith, ap (λ (l : List ℕ). eqs l (now (c .args .other))) (map-same (now (c .args .w))))
 
 returns : tie.Need-returns Inv-loop μ-loop
 returns c =
     let a = c .before .before .before .args in
-    sym (same-short kept (now (a .w)) (now (a .name)) _ (c .before .loop-test .taken) (c .if1 .taken)) ∙ c .before .before .loop .inv .1
+    sym (same-short kept (now (a .w)) (now (a .other)) _ (c .before .loop-test .taken) (c .if1 .taken)) ∙ c .before .before .loop .inv .1
 
 shared-slice-read-if2 : tie.Need-shared-slice-read-if2 Inv-loop μ-loop
 shared-slice-read-if2 c = search needs
@@ -37,7 +37,7 @@ shared-slice-read-if2-2 c = search needs
 returns-2 : tie.Need-returns-2 Inv-loop μ-loop
 returns-2 c =
     let a = c .before .before .before .before .before .before .args in
-    sym (same-differ kept (now (a .w)) (now (a .name)) _ (c .before .before .before .before .loop-test .taken) (c .before .before .before .if1 .left) (c .if2 .taken)) ∙ c .before .before .before .before .before .loop .inv .1
+    sym (same-differ kept (now (a .w)) (now (a .other)) _ (c .before .before .before .before .loop-test .taken) (c .before .before .before .if1 .left) (c .if2 .taken)) ∙ c .before .before .before .before .before .loop .inv .1
 
 add-i : tie.Need-add-i Inv-loop μ-loop
 add-i c = search needs
@@ -48,12 +48,12 @@ loop-less c = search needs
 loop-again : tie.Need-loop-again Inv-loop μ-loop
 loop-again c =
     let a = c .before .before .before .before .before .before .args in
-    (omega arith, same-go kept (now (a .w)) (now (a .name)) _ (c .before .before .before .before .loop-test .taken) (c .before .before .before .if1 .left) (c .if2 .left) ∙ c .before .before .before .before .before .loop .inv .1)
+    (omega arith, same-go kept (now (a .w)) (now (a .other)) _ (c .before .before .before .before .loop-test .taken) (c .before .before .before .if1 .left) (c .if2 .left) ∙ c .before .before .before .before .before .loop .inv .1)
 
 returns-3 : tie.Need-returns-3 Inv-loop μ-loop
 returns-3 c =
     let a = c .before .before .args in
-    sym (same-end kept (now (a .w)) (now (a .name)) _ (c .loop-test .left)) ∙ c .before .loop .inv .1
+    sym (same-end kept (now (a .w)) (now (a .other)) _ (c .loop-test .left)) ∙ c .before .loop .inv .1
 
 pub same-spec : {M : Type 1} → statement M
 same-spec =

@@ -1,0 +1,9 @@
+-- The laws that the proofs cite, by what they are about.
+
+pub mod Capped
+pub mod Numerals
+pub mod Parts
+pub mod Results
+pub mod Order
+pub mod Cells
+pub mod Fine

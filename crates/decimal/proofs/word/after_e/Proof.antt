@@ -1,0 +1,34 @@
+-- `decimal::after_e`: one law where no digit follows, and one where some do.
+use borrow.Author.Needs.{needs}
+use Rattle.decimal.proofs.Parts.{exponent-empty, exponent-some}
+use Rattle.decimal.proofs.word.after_e.Statement.{statement}
+use Rattle.decimal.proofs.word.after_e.Tie as tie
+
+add-sign-at : tie.Need-add-sign-at
+add-sign-at c = search needs
+
+sign-at-requires : tie.Need-sign-at-requires
+sign-at-requires c κs = search needs
+
+digits-at-requires : tie.Need-digits-at-requires
+digits-at-requires c κs = search needs
+
+returns : tie.Need-returns
+returns c =
+    let p = c .before .before .before .before .before .pre in
+    let s = c .before .before .before .sign-at in
+    let d = c .before .before .digits-at in
+    exponent-empty _ _ (p .0) (p .1) (s .result) (s .ensures) (d .result) (d .ensures) (c .if1 .taken)
+
+grow-requires : tie.Need-grow-requires
+grow-requires c κs = search needs
+
+returns-2 : tie.Need-returns-2
+returns-2 c =
+    let p = c .before .before .before .before .before .before .pre in
+    let s = c .before .before .before .before .sign-at in
+    let d = c .before .before .before .digits-at in
+    exponent-some _ _ (p .0) (p .1) (s .result) (s .ensures) (d .result) (d .ensures) (c .grow .result) (c .before .if1 .left) (c .grow .ensures)
+
+pub after-e-spec : {M : Type 1} → statement M
+after-e-spec = tie.close (tie.spec add-sign-at sign-at-requires digits-at-requires returns grow-requires returns-2)

@@ -1,0 +1,234 @@
+// Numbers: a word as an exact decimal or a cell, the order of decimals, and a cell as one word of the row store.
+ghost use mathlib.Core.Bool.{cond};
+ghost use mathlib.Core.Path.{_≡_};
+ghost use Prim.Native.Nat.{_+_, _/_, _^_, _<_};
+ghost use lib.Dec.{ltb};
+ghost use Rattle.decimal.specs.Decimal.{numberOf, cellOf, isMissing, lessThan, sizeOf, aboveZero, wordOf, cellIn, signBit, ranged};
+
+mod word; // word.rt: the parts of a word
+
+use word::Exponent;
+use word::exponent_at;
+use word::letters_from;
+use word::mantissa_at;
+use word::scale_down;
+use word::scale_up;
+use word::sign_at;
+
+// power has 40 added: 0 to 64 stand for -40 to 24.
+pub struct Decimal {
+    pub negative: bool,
+    pub digits: u64,
+    pub power: u8,
+}
+
+// A cell of a table: a number, or missing (NA).
+pub enum Cell {
+    Number(Decimal),
+    Missing,
+}
+
+// What a word says as a number. Wrong holds the fault: 11 not a number, 12 out of range.
+pub enum NumberRead {
+    Value(Decimal),
+    Wrong(u8),
+}
+
+// What a word says as a cell, or the fault.
+pub enum CellRead {
+    Read(Cell),
+    Bad(u8),
+}
+
+// The first number of 16 digits.
+const LIMIT: u64 = 1_000_000_000_000_000;
+
+// Powers go from minus LOWEST to HIGHEST, and are kept with LOWEST added.
+const LOWEST: u64 = 40;
+
+const HIGHEST: u64 = 24;
+
+const SPAN: u64 = LOWEST + HIGHEST;
+
+// The word of a missing cell.
+const MISSING: u64 = 18_446_744_073_709_551_615;
+
+// number with the power high less low, which has LOWEST added.
+fn fit(minus: bool, number: u64, high: u64, low: u64) -> NumberRead
+    requires { ⌜ (0 < number) × (number < 10 ^ 15) × (low < 2 ^ 63 + 100) ⌝ }
+    ensures { λ r. ⌜ r ≡ ranged minus number high (low + 40) ⌝ }
+{
+    if high < low {
+        return NumberRead::Wrong(12);
+    }
+    if low + SPAN < high {
+        return NumberRead::Wrong(12);
+    }
+    NumberRead::Value(Decimal {
+        negative: minus,
+        digits: number,
+        power: (high - low) as u8,
+    })
+}
+
+// number with the power up less down, and the exponent. Its size is only taken off: added, it could wrap.
+fn finish(minus: bool, number: u64, up: u64, down: u64, exponent: Exponent) -> NumberRead
+    requires { ⌜ (up < 2 ^ 63 + 20) × (down < 2 ^ 63 + 20) ⌝ }
+    ensures { λ r. ⌜ r ≡ ranged minus number (up + cond (exponent .minus) 0 (exponent .size)) (down + cond (exponent .minus) (exponent .size) 0) ⌝ }
+{
+    if number == 0 {
+        return NumberRead::Value(Decimal {
+            negative: false,
+            digits: 0,
+            power: 40,
+        });
+    }
+    if LIMIT <= number {
+        return NumberRead::Wrong(12);
+    }
+    if exponent.minus {
+        if up + LOWEST < exponent.size {
+            return NumberRead::Wrong(12);
+        }
+        return fit(minus, number, up + LOWEST - exponent.size, down);
+    }
+    if down + HIGHEST < exponent.size {
+        return NumberRead::Wrong(12);
+    }
+    fit(minus, number, up + SPAN, down + HIGHEST - exponent.size)
+}
+
+// What a word says as a number.
+pub fn number_of(w: &[u8]) -> NumberRead
+    ensures { λ r. ⌜ r ≡ numberOf (now (w .entry)) ⌝ }
+{
+    let sign = sign_at(w, 0);
+    let mantissa = mantissa_at(w, sign.at);
+    if mantissa.count == 0 {
+        return NumberRead::Wrong(11);
+    }
+    let exponent = exponent_at(w, mantissa.at);
+    let at = exponent.at;
+    if !letters_from(w, at) {
+        return NumberRead::Wrong(11);
+    }
+    let up = mantissa.zeros + scale_up(w, at);
+    let down = mantissa.places + scale_down(w, at);
+    finish(sign.minus, mantissa.number, up, down, exponent)
+}
+
+// Is the word NA, in any letter case?
+fn missing(w: &[u8]) -> bool
+    ensures { λ r. ⌜ r ≡ isMissing (now (w .entry)) ⌝ }
+{
+    if w.len() != 2 {
+        return false;
+    }
+    let first = w[0];
+    let second = w[1];
+    match first {
+        b'N' | b'n' => match second {
+            b'A' | b'a' => true,
+            _ => false,
+        },
+        _ => false,
+    }
+}
+
+// What a word says as a cell.
+pub fn cell_of(w: &[u8]) -> CellRead
+    ensures { λ r. ⌜ r ≡ cellOf (now (w .entry)) ⌝ }
+{
+    if missing(w) {
+        return CellRead::Read(Cell::Missing);
+    }
+    match number_of(w) {
+        NumberRead::Value(d) => CellRead::Read(Cell::Number(d)),
+        NumberRead::Wrong(fault) => CellRead::Bad(fault),
+    }
+}
+
+// number without its last digits, as many as count says.
+fn shrink(number: u64, count: u8) -> u64
+    ensures { λ r. ⌜ r ≡ number / 10 ^ count ⌝ }
+{
+    let mut rest = number;
+    let mut left = count;
+    while 0 < left {
+        rest = rest / 10;
+        left -= 1;
+    }
+    rest
+}
+
+// Is a below b, signs aside? The one with the lower power is cut to whole units of the other, so that nothing grows.
+fn smaller(a: Decimal, b: Decimal) -> bool
+    ensures { λ r. ⌜ r ≡ ltb (sizeOf a) (sizeOf b) ⌝ }
+{
+    if a.power <= b.power {
+        return shrink(a.digits, b.power - a.power) < b.digits;
+    }
+    if b.digits == 0 {
+        return false;
+    }
+    a.digits <= shrink(b.digits - 1, a.power - b.power)
+}
+
+// Is a below b?
+pub fn less(a: Decimal, b: Decimal) -> bool
+    ensures { λ r. ⌜ r ≡ lessThan a b ⌝ }
+{
+    if a.negative {
+        if b.negative {
+            return smaller(b, a);
+        }
+        // Minus zero is zero.
+        if a.digits == 0 {
+            return 0 < b.digits;
+        }
+        return true;
+    }
+    if b.negative {
+        return false;
+    }
+    smaller(a, b)
+}
+
+pub fn above_zero(d: Decimal) -> bool
+    ensures { λ r. ⌜ r ≡ aboveZero d ⌝ }
+{
+    if d.negative {
+        return false;
+    }
+    0 < d.digits
+}
+
+fn bit(b: bool) -> u64
+    ensures { λ r. ⌜ r ≡ signBit b ⌝ }
+{
+    if b { 1 } else { 0 }
+}
+
+// A cell as one word of the row store: 50 bits of digits, eight of power and one of sign.
+pub fn word_of(c: Cell) -> u64
+    ensures { λ r. ⌜ r ≡ wordOf c ⌝ }
+{
+    match c {
+        Cell::Number(d) => d.digits % LIMIT * 512 + d.power as u64 * 2 + bit(d.negative),
+        Cell::Missing => MISSING,
+    }
+}
+
+// The cell that a word of the row store holds.
+pub fn cell_in(w: u64) -> Cell
+    ensures { λ r. ⌜ r ≡ cellIn w ⌝ }
+{
+    if w == MISSING {
+        return Cell::Missing;
+    }
+    Cell::Number(Decimal {
+        negative: w % 2 == 1,
+        digits: w / 512,
+        power: (w / 2 % 256) as u8,
+    })
+}

@@ -1,0 +1,3 @@
+-- Laws on keyword lines.
+
+pub mod Laws

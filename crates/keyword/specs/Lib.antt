@@ -1,0 +1,3 @@
+-- Keyword lines: their form, and the keywords that are carried.
+pub mod Form
+pub mod Carried

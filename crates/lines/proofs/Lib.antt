@@ -1,0 +1,4 @@
+-- Laws on lines, cited by the crates above too.
+
+pub mod Laws
+pub mod Places

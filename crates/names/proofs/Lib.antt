@@ -1,0 +1,3 @@
+-- Laws on tables of names, cited by the crates above.
+
+pub mod Laws

@@ -1,0 +1,2 @@
+-- A name looked up in a table of names.
+pub mod Names
