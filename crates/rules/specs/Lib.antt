@@ -1,0 +1,11 @@
+-- Document 01 from "Numbers" on, as definitions, in its order and words.
+pub mod Fields
+pub mod Tables
+pub mod Going
+pub mod Header
+pub mod Component
+pub mod Selector
+pub mod Model
+pub mod Steps
+pub mod Outline
+pub mod Whole
