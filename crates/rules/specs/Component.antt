@@ -9,18 +9,15 @@ use Rattle.laws.specs.Bytes.{bytes}
 use Rattle.laws.specs.Lists.{eqs}
 use Rattle.decimal.specs.Decimal.{cellOf}
 use Rattle.words.specs.Words.{words}
-use Rattle.names.specs.Names.{meaning}
+use Rattle.names.specs.declared.Found.{Found}
+use Rattle.names.specs.declared.Found.the-variants.{At, Nothing}
 use Rattle.keyword.specs.declared.ComponentPart.{ComponentPart}
 use Rattle.keyword.specs.declared.ComponentPart.the-variants.{Manufacturer, Package, Pin}
-use Rattle.rules.specs.Fields.{isSized, isPinName, isPinModel, lineNamed, namedWord, namedCells, tripleFault, cellFault}
+use Rattle.rules.specs.Fields.{isSized, isPinName, isPinModel, isSome, lineAt, wordFault, namedCells, tripleFault, cellFault}
+use Rattle.rules.specs.Given.{noneGiven, has, with}
 use Rattle.rules.specs.Tables.{componentLines, locations, packageLines}
 use Rattle.rules.specs.Going.{stop, unless, refuse, firstOf, quietly}
-use Rattle.rules.specs.declared.Location.{Location}
-use Rattle.rules.specs.declared.ComponentLine.{ComponentLine}
-use Rattle.rules.specs.declared.ComponentLine.the-variants.{SiLocation, TimingLocation}
-use Rattle.rules.specs.declared.PackageLine.{PackageLine}
-use Rattle.rules.specs.declared.PackageLine.the-variants.{Resistance, Inductance, Capacitance}
-use Rattle.rules.specs.declared.PackageGiven.{PackageGiven}
+use Rattle.rules.specs.declared.Given.{Given}
 use Rattle.rules.specs.declared.ComponentList.{ComponentList}
 use Rattle.rules.specs.declared.ComponentList.the-variants.{ComponentFirst, ComponentShut, PackageLines, PinRows}
 use Rattle.rules.specs.declared.ComponentState.{ComponentState}
@@ -30,60 +27,29 @@ use Rattle.rules.specs.declared.Went.{Went}
 use Rattle.rules.specs.declared.Went.the-variants.{On}
 
 abbrev pub newComponent : ℕ → ComponentState
-newComponent k =
-    record { line = k; si = false; timing = false; manufacturer = false; packaged = false; pins = false; list = ComponentFirst }
+newComponent k = record { line = k; first = noneGiven; parts = noneGiven; list = ComponentFirst }
 
 -- the same with another list open
 abbrev pub withList : ComponentState → ComponentList → ComponentState
-withList c l =
-    record { line = c .line; si = c .si; timing = c .timing; manufacturer = c .manufacturer; packaged = c .packaged; pins = c .pins; list = l }
+withList c l = record { line = c .line; first = c .first; parts = c .parts; list = l }
 
 -- ---- "at most one each of Si_location and Timing_location, `Pin` or `Die`"
 
-abbrev pub locationGiven : ComponentState → ComponentLine → Bool
-locationGiven c SiLocation = c .si
-locationGiven c TimingLocation = c .timing
-
-abbrev pub withLocation : ComponentState → ComponentLine → ComponentState
-withLocation c SiLocation =
-    record { line = c .line; si = true; timing = c .timing; manufacturer = c .manufacturer; packaged = c .packaged; pins = c .pins; list = c .list }
-withLocation c TimingLocation =
-    record { line = c .line; si = c .si; timing = true; manufacturer = c .manufacturer; packaged = c .packaged; pins = c .pins; list = c .list }
-
--- the word of a line among the words that may stand there, or 10
-abbrev pub isGiven : {A : Type 0} → Option A → Bool
-isGiven none = false
-isGiven (some a) = true
-
-abbrev pub locationWord : Option (List ℕ) → Bool
-locationWord none = false
-locationWord (some w) = isGiven (meaning w locations)
-
-abbrev pub firstLine : ComponentState → ℕ → List ℕ → Option ComponentLine → Went
-firstLine c k w none = stop 10 k
-firstLine c k w (some n) =
-    refuse (locationGiven c n) 8 k
-    (refuse (not (locationWord (namedWord w))) 10 k
-    (quietly (InComponent (withLocation c n))))
+abbrev pub locationLine : ComponentState → ℕ → List ℕ → Found → Went
+locationLine c k w Nothing = stop 10 k
+locationLine c k w (At n) =
+    refuse (has (c .first) n) 8 k
+    (unless (wordFault locations w) k
+    (quietly (InComponent (record { line = c .line; first = with (c .first) n; parts = c .parts; list = c .list }))))
 
 -- ---- [Package]: "R_pkg, L_pkg, C_pkg once each, three cells typ min max"
 
-abbrev pub packageGiven : PackageGiven → PackageLine → Bool
-packageGiven p Resistance = p .resistance
-packageGiven p Inductance = p .inductance
-packageGiven p Capacitance = p .capacitance
-
-abbrev pub withPackage : PackageGiven → PackageLine → PackageGiven
-withPackage p Resistance = record { resistance = true; inductance = p .inductance; capacitance = p .capacitance }
-withPackage p Inductance = record { resistance = p .resistance; inductance = true; capacitance = p .capacitance }
-withPackage p Capacitance = record { resistance = p .resistance; inductance = p .inductance; capacitance = true }
-
-abbrev pub packageLine : ComponentState → ℕ → PackageGiven → ℕ → List ℕ → Option PackageLine → Went
-packageLine c o p k w none = stop 10 k
-packageLine c o p k w (some n) =
-    refuse (packageGiven p n) 8 k
+abbrev pub packageLine : ComponentState → ℕ → Given → ℕ → List ℕ → Found → Went
+packageLine c o g k w Nothing = stop 10 k
+packageLine c o g k w (At n) =
+    refuse (has g n) 8 k
     (unless (tripleFault (namedCells w)) k
-    (quietly (InComponent (withList c (PackageLines o (withPackage p n))))))
+    (quietly (InComponent (withList c (PackageLines o (with g n))))))
 
 -- ---- [Pin]: "`signal_name model_name`, or those and `R_pin L_pin C_pin`"
 
@@ -119,37 +85,37 @@ pinRow long (a ∷ b ∷ c ∷ d ∷ e ∷ f ∷ g ∷ ws) = 10
 -- ---- a line that is no keyword line, by the list that is open
 
 abbrev pub componentLine : ComponentState → ℕ → List ℕ → ComponentList → Went
-componentLine c k w ComponentFirst = firstLine c k w (lineNamed componentLines w)
+componentLine c k w ComponentFirst = locationLine c k w (lineAt componentLines w)
 componentLine c k w ComponentShut = stop 7 k
-componentLine c k w (PackageLines o p) = packageLine c o p k w (lineNamed packageLines w)
+componentLine c k w (PackageLines o g) = packageLine c o g k w (lineAt packageLines w)
 componentLine c k w (PinRows o long any) = unless (pinRow long (words w)) k (On (InComponent (withList c (PinRows o long true))) PinRow)
 
 -- ---- "[Manufacturer] (1 to 40 characters), [Package], [Pin]: each once, any order"
 
-abbrev pub pinHeading : ComponentState → ℕ → Option Bool → Went
-pinHeading c k none = stop 10 k
-pinHeading c k (some long) =
-    quietly
-    (InComponent
-    (record { line = c .line; si = c .si; timing = c .timing; manufacturer = c .manufacturer; packaged = c .packaged; pins = true; list = PinRows k long false }))
+abbrev pub componentPlace : ComponentPart → ℕ
+componentPlace Manufacturer = 0
+componentPlace Package = 1
+componentPlace Pin = 2
 
-abbrev pub noPackage : PackageGiven
-noPackage = record { resistance = false; inductance = false; capacitance = false }
+abbrev pub componentFault : List ℕ → ComponentPart → ℕ
+componentFault argument Manufacturer = cond (isSized 40 argument) 0 10
+componentFault argument Package = cond (eqb (length argument) 0) 0 10
+componentFault argument Pin = cond (isSome (heading (words argument))) 0 10
 
-abbrev pub componentPart : ComponentState → ℕ → List ℕ → ComponentPart → Went
-componentPart c k argument Manufacturer =
-    refuse (c .manufacturer) 8 k
-    (refuse (not (isSized 40 argument)) 10 k
-    (quietly
-    (InComponent
-    (record { line = c .line; si = c .si; timing = c .timing; manufacturer = true; packaged = c .packaged; pins = c .pins; list = ComponentShut }))))
-componentPart c k argument Package =
-    refuse (c .packaged) 8 k
-    (refuse (not (eqb (length argument) 0)) 10 k
-    (quietly
-    (InComponent
-    (record { line = c .line; si = c .si; timing = c .timing; manufacturer = c .manufacturer; packaged = true; pins = c .pins; list = PackageLines k noPackage }))))
-componentPart c k argument Pin = refuse (c .pins) 8 k (pinHeading c k (heading (words argument)))
+abbrev pub isLong : Option Bool → Bool
+isLong none = false
+isLong (some long) = long
+
+abbrev pub componentOpens : ℕ → List ℕ → ComponentPart → ComponentList
+componentOpens k argument Manufacturer = ComponentShut
+componentOpens k argument Package = PackageLines k noneGiven
+componentOpens k argument Pin = PinRows k (isLong (heading (words argument))) false
+
+unfoldable pub componentPart : ComponentState → ℕ → List ℕ → ComponentPart → Went
+componentPart c k argument p =
+    refuse (has (c .parts) (componentPlace p)) 8 k
+    (unless (componentFault argument p) k
+    (quietly (InComponent (record { line = c .line; first = c .first; parts = with (c .parts) (componentPlace p); list = componentOpens k argument p }))))
 
 -- ---- closing
 
@@ -157,10 +123,10 @@ componentPart c k argument Pin = refuse (c .pins) 8 k (pinHeading c k (heading (
 abbrev pub componentShut : ComponentState → ComponentList → Went
 componentShut c ComponentFirst = quietly (InComponent (withList c ComponentShut))
 componentShut c ComponentShut = quietly (InComponent (withList c ComponentShut))
-componentShut c (PackageLines o p) =
-    refuse (not (p .resistance && (p .inductance && p .capacitance))) 9 o (quietly (InComponent (withList c ComponentShut)))
+componentShut c (PackageLines o g) =
+    refuse (not (has g 0 && (has g 1 && has g 2))) 9 o (quietly (InComponent (withList c ComponentShut)))
 componentShut c (PinRows o long any) = refuse (not any) 9 o (quietly (InComponent (withList c ComponentShut)))
 
 -- the section: 9 at [Component]
 unfoldable pub componentDone : ComponentState → ℕ
-componentDone c = cond (c .manufacturer && (c .packaged && c .pins)) 0 9
+componentDone c = cond (has (c .parts) 0 && (has (c .parts) 1 && has (c .parts) 2)) 0 9

@@ -1,6 +1,7 @@
 -- What stands on a line: names, cells, numbers behind `=`, rows and slopes. A fault is document 01's number; 0 is none.
 use Prim.Native.Nat.{ℕ}
 use Prim.Native.Char.{code}
+use Prim.Native.String.{String}
 use mathlib.Core.List.{List, [], _∷_, map}
 use mathlib.Core.Bool.{Bool, true, false, cond, not, _&&_, _||_}
 use mathlib.Core.Option.{Option, none, some}
@@ -17,7 +18,8 @@ use Rattle.decimal.specs.declared.NumberRead.the-variants.{Value, Wrong}
 use Rattle.decimal.specs.declared.CellRead.{CellRead}
 use Rattle.decimal.specs.declared.CellRead.the-variants.{Read, Bad}
 use Rattle.words.specs.Words.{words}
-use Rattle.names.specs.Names.{Entry, meaning}
+use Rattle.names.specs.Names.{Entry, meaning, placeFrom}
+use Rattle.names.specs.declared.Found.{Found}
 use Rattle.rules.specs.declared.Triple.{Triple}
 use Rattle.rules.specs.declared.TripleRead.{TripleRead}
 use Rattle.rules.specs.declared.TripleRead.the-variants.{Cells, Flawed}
@@ -90,9 +92,9 @@ otherWords (a ∷ ws) = ws
 unfoldable pub nameOf : List ℕ → List ℕ
 nameOf w = front (other (code "=")) (firstWord (words w))
 
--- what a line's name means among the names that may stand there
-unfoldable pub lineNamed : {A : Type 0} → List (Entry A) → List ℕ → Option A
-lineNamed table w = meaning (nameOf w) table
+-- the place of a line's name among the names that may stand there, which a text lists with a blank between
+unfoldable pub lineAt : String → List ℕ → Found
+lineAt table w = placeFrom 0 (nameOf w) (words (bytes table))
 
 -- the first word is the name alone
 unfoldable pub isNameAlone : List ℕ → Bool
@@ -109,6 +111,18 @@ wordFrom alone (a ∷ b ∷ c ∷ ws) = none
 
 unfoldable pub namedWord : List ℕ → Option (List ℕ)
 namedWord w = wordFrom (isNameAlone w) (words w)
+
+-- what that word means in a table, if it is one of the table's
+abbrev pub meaningIn : {A : Type 0} → List (Entry A) → Option (List ℕ) → Option A
+meaningIn table none = none
+meaningIn table (some w) = meaning w table
+
+abbrev pub wordMeaning : {A : Type 0} → List (Entry A) → List ℕ → Option A
+wordMeaning table w = meaningIn table (namedWord w)
+
+abbrev pub isSome : {A : Type 0} → Option A → Bool
+isSome none = false
+isSome (some a) = true
 
 -- ---- name, `=`, number, blanks free around it
 
@@ -247,3 +261,7 @@ tripleFault (Flawed n) = n
 abbrev pub rampFault : RampRead → ℕ
 rampFault (Slopes t) = 0
 rampFault (Refused n) = n
+
+-- a word that is none of a table's is 10
+unfoldable pub wordFault : {A : Type 0} → List (Entry A) → List ℕ → ℕ
+wordFault table w = cond (isSome (wordMeaning table w)) 0 10

@@ -12,78 +12,56 @@ use Rattle.keyword.specs.declared.HeaderPart.the-variants.{FileName, FileRev, F
 use Rattle.keyword.specs.declared.HeaderText.{HeaderText}
 use Rattle.keyword.specs.declared.HeaderText.the-variants.{Date, Source, Notes, Disclaimer, Copyright}
 use Rattle.rules.specs.Fields.{isFileName, oneWord}
-use Rattle.rules.specs.Going.{stop, refuse, quietly}
+use Rattle.rules.specs.Given.{noneGiven, has, with}
+use Rattle.rules.specs.Going.{stop, refuse, unless, quietly}
 use Rattle.rules.specs.declared.HeaderState.{HeaderState}
 use Rattle.rules.specs.declared.Stage.the-variants.{InHeader}
 use Rattle.rules.specs.declared.Went.{Went}
 
 -- "[IBIS Ver] is the first keyword, argument `5.0`"
-abbrev pub newHeader : ℕ → HeaderState
-newHeader k =
-    record { line = k; text = false; name = false; rev = false; date = false; source = false; notes = false; disclaimer = false; copyright = false }
-
 unfoldable pub version : ℕ → List ℕ → Went
-version k argument = refuse (not (eqs argument (bytes "5.0"))) 10 k (quietly (InHeader (newHeader k)))
+version k argument =
+    refuse (not (eqs argument (bytes "5.0"))) 10 k (quietly (InHeader (record { line = k; text = false; parts = noneGiven })))
 
--- no text is open any more
-abbrev pub textShut : HeaderState → HeaderState
-textShut h =
-    record {
-      line = h .line;
-      text = false;
-      name = h .name;
-      rev = h .rev;
-      date = h .date;
-      source = h .source;
-      notes = h .notes;
-      disclaimer = h .disclaimer;
-      copyright = h .copyright;
-    }
+-- "Then, in any order, each at most once, [File Name] .., [File Rev] .., and the five text keywords"
+abbrev pub textPlace : HeaderText → ℕ
+textPlace Date = 2
+textPlace Source = 3
+textPlace Notes = 4
+textPlace Disclaimer = 5
+textPlace Copyright = 6
 
-abbrev pub withFileName : HeaderState → HeaderState
-withFileName h =
-    record { line = h .line; text = false; name = true; rev = h .rev; date = h .date; source = h .source; notes = h .notes; disclaimer = h .disclaimer; copyright = h .copyright }
+abbrev pub headerPlace : HeaderPart → ℕ
+headerPlace FileName = 0
+headerPlace FileRev = 1
+headerPlace (FreeText t) = textPlace t
 
-abbrev pub withFileRev : HeaderState → HeaderState
-withFileRev h =
-    record { line = h .line; text = false; name = h .name; rev = true; date = h .date; source = h .source; notes = h .notes; disclaimer = h .disclaimer; copyright = h .copyright }
+-- "(one word ..)", "(not empty)"
+abbrev pub headerFault : List ℕ → HeaderPart → ℕ
+headerFault argument FileName = cond (oneWord isFileName (words argument)) 0 10
+headerFault argument FileRev = cond (eqb (length argument) 0) 10 0
+headerFault argument (FreeText t) = 0
 
--- "the five text keywords, whose text runs to the next keyword": is it given, and given from here on
-abbrev pub textGiven : HeaderState → HeaderText → Bool
-textGiven h Date = h .date
-textGiven h Source = h .source
-textGiven h Notes = h .notes
-textGiven h Disclaimer = h .disclaimer
-textGiven h Copyright = h .copyright
+-- "whose text runs to the next keyword"
+abbrev pub isText : HeaderPart → Bool
+isText FileName = false
+isText FileRev = false
+isText (FreeText t) = true
 
-abbrev pub withText : HeaderState → HeaderText → HeaderState
-withText h Date =
-    record { line = h .line; text = true; name = h .name; rev = h .rev; date = true; source = h .source; notes = h .notes; disclaimer = h .disclaimer; copyright = h .copyright }
-withText h Source =
-    record { line = h .line; text = true; name = h .name; rev = h .rev; date = h .date; source = true; notes = h .notes; disclaimer = h .disclaimer; copyright = h .copyright }
-withText h Notes =
-    record { line = h .line; text = true; name = h .name; rev = h .rev; date = h .date; source = h .source; notes = true; disclaimer = h .disclaimer; copyright = h .copyright }
-withText h Disclaimer =
-    record { line = h .line; text = true; name = h .name; rev = h .rev; date = h .date; source = h .source; notes = h .notes; disclaimer = true; copyright = h .copyright }
-withText h Copyright =
-    record { line = h .line; text = true; name = h .name; rev = h .rev; date = h .date; source = h .source; notes = h .notes; disclaimer = h .disclaimer; copyright = true }
-
--- "in any order, each at most once, [File Name] (one word ..), [File Rev] (not empty), .. and the five text keywords"
-abbrev pub headerPart : HeaderState → ℕ → List ℕ → HeaderPart → Went
-headerPart h k argument FileName =
-    refuse (h .name) 8 k
-    (refuse (not (oneWord isFileName (words argument))) 10 k
-    (quietly (InHeader (withFileName h))))
-headerPart h k argument FileRev =
-    refuse (h .rev) 8 k
-    (refuse (eqb (length argument) 0) 10 k
-    (quietly (InHeader (withFileRev h))))
-headerPart h k argument (FreeText t) = refuse (textGiven h t) 8 k (quietly (InHeader (withText h t)))
+unfoldable pub headerPart : HeaderState → ℕ → List ℕ → HeaderPart → Went
+headerPart h k argument p =
+    refuse (has (h .parts) (headerPlace p)) 8 k
+    (unless (headerFault argument p) k
+    (quietly (InHeader (record { line = h .line; text = isText p; parts = with (h .parts) (headerPlace p) }))))
 
 -- a line that is no keyword line: part of a text, or without a place
 unfoldable pub headerLine : HeaderState → ℕ → Went
 headerLine h k = cond (h .text) (quietly (InHeader h)) (stop 7 k)
 
+-- closing a text
+abbrev pub headerShut : HeaderState → Went
+headerShut h = quietly (InHeader (record { line = h .line; text = false; parts = h .parts }))
+
 -- "both required"; "a missing header keyword is told at [IBIS Ver]"
 unfoldable pub headerDone : HeaderState → ℕ
-headerDone h = cond (h .name && h .rev) 0 9
+headerDone h = cond (has (h .parts) 0 && has (h .parts) 1) 0 9

@@ -1,6 +1,7 @@
 -- Document 01 from "Numbers" on, as definitions, in its order and words.
 pub mod Fields
 pub mod Tables
+pub mod Given
 pub mod Going
 pub mod Header
 pub mod Component
@@ -9,3 +10,5 @@ pub mod Model
 pub mod Steps
 pub mod Outline
 pub mod Whole
+pub mod Reading
+pub mod Laid

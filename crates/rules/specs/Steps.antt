@@ -20,7 +20,7 @@ use Rattle.keyword.specs.declared.KeyRead.the-variants.{Known, Unknown, Malform
 use Rattle.texts.specs.Texts.{Text, plain, change}
 use Rattle.rules.specs.Fields.{isSized, isModelName, isBracketed, oneWord}
 use Rattle.rules.specs.Going.{stop, unless, refuse, andThen, quietly}
-use Rattle.rules.specs.Header.{version, textShut, headerPart, headerLine, headerDone}
+use Rattle.rules.specs.Header.{version, headerPart, headerLine, headerShut, headerDone}
 use Rattle.rules.specs.Component.{newComponent, componentPart, componentLine, componentShut, componentDone}
 use Rattle.rules.specs.Selector.{newSelector, selectorLine, selectorShut}
 use Rattle.rules.specs.Model.{newModel, modelPart, modelLine, modelShut, modelDone}
@@ -36,7 +36,7 @@ use Rattle.rules.specs.declared.Went.the-variants.{On, Stop}
 -- "Every keyword line but [Comment Char], even a faulty one, closes the table or list above it"
 abbrev pub shut : Stage → Went
 shut BeforeVersion = quietly BeforeVersion
-shut (InHeader h) = quietly (InHeader (textShut h))
+shut (InHeader h) = headerShut h
 shut (InComponent c) = componentShut c (c .list)
 shut (InSelector s) = selectorShut s
 shut (InModel m) = modelShut m (m .list)

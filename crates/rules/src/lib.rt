@@ -1,7 +1,6 @@
 // The types of document 01's rules: what is read and kept, and the state of a reading. The rules themselves are in specs/.
 use decimal::Cell;
 use decimal::Decimal;
-use keyword::CurrentTable;
 use keyword::Edge;
 use keyword::Section;
 use lines::Fault;
@@ -78,89 +77,40 @@ pub enum Location {
     AtDie,
 }
 
-// The lines that have a name, by where they stand.
-pub enum ComponentLine {
-    SiLocation,
-    TimingLocation,
-}
-
-pub enum PackageLine {
-    Resistance,
-    Inductance,
-    Capacitance,
-}
-
-pub enum Threshold {
-    Vinl,
-    Vinh,
-    Vmeas,
-    Cref,
-    Rref,
-    Vref,
-}
-
-pub enum ModelLine {
-    TypeLine,
-    PolarityLine,
-    EnableLine,
-    CompLine,
-    Assigned(Threshold),
-}
-
-pub enum RampLine {
-    Rise,
-    Fall,
-    Load,
-}
-
-pub enum Fixture {
-    RFixture,
-    VFixture,
-    VFixtureMin,
-    VFixtureMax,
-    CFixture,
-    LFixture,
-    RDut,
-    LDut,
-    CDut,
-}
-
 // ---- the state of a reading: what was given of a section so far, and the list or table that is open
+
+// Which of up to ten things were given, by their places in document 01's list of them.
+pub struct Given {
+    pub a: bool,
+    pub b: bool,
+    pub c: bool,
+    pub d: bool,
+    pub e: bool,
+    pub f: bool,
+    pub g: bool,
+    pub h: bool,
+    pub i: bool,
+    pub j: bool,
+}
 
 pub struct HeaderState {
     pub line: u64,
     pub text: bool,
-    pub name: bool,
-    pub rev: bool,
-    pub date: bool,
-    pub source: bool,
-    pub notes: bool,
-    pub disclaimer: bool,
-    pub copyright: bool,
-}
-
-// The package's lines.
-pub struct PackageGiven {
-    pub resistance: bool,
-    pub inductance: bool,
-    pub capacitance: bool,
+    pub parts: Given,
 }
 
 // The list that is open in a component, with the line of its keyword.
 pub enum ComponentList {
     ComponentFirst,
     ComponentShut,
-    PackageLines { line: u64, given: PackageGiven },
+    PackageLines { line: u64, given: Given },
     PinRows { line: u64, long: bool, any: bool },
 }
 
 pub struct ComponentState {
     pub line: u64,
-    pub si: bool,
-    pub timing: bool,
-    pub manufacturer: bool,
-    pub packaged: bool,
-    pub pins: bool,
+    pub first: Given,
+    pub parts: Given,
     pub list: ComponentList,
 }
 
@@ -177,24 +127,6 @@ pub struct RowsSeen {
     pub tail: bool,
 }
 
-pub struct RampGiven {
-    pub rise: bool,
-    pub fall: bool,
-    pub load: bool,
-}
-
-pub struct FixturesGiven {
-    pub rfixture: bool,
-    pub vfixture: bool,
-    pub vmin: bool,
-    pub vmax: bool,
-    pub cfixture: bool,
-    pub lfixture: bool,
-    pub rdut: bool,
-    pub ldut: bool,
-    pub cdut: bool,
-}
-
 // The list or table that is open in a model, with the line of its keyword.
 pub enum ModelList {
     ModelFirst,
@@ -205,51 +137,25 @@ pub enum ModelList {
     },
     RampLines {
         line: u64,
-        given: RampGiven,
+        given: Given,
     },
     WaveformRows {
         line: u64,
-        given: FixturesGiven,
+        given: Given,
         rows: RowsSeen,
     },
 }
 
-// The type of a model, once it is given.
-pub enum TypeGiven {
-    NoType,
-    OfType(ModelType),
-}
-
-// A model's first lines. Vinl and Vinh are kept for the check at its close; missing is not given.
-pub struct FirstGiven {
-    pub kind: TypeGiven,
-    pub polarity: bool,
-    pub enable: bool,
-    pub comp: bool,
-    pub vinl: Cell,
-    pub vinh: Cell,
-    pub vmeas: bool,
-    pub cref: bool,
-    pub rref: bool,
-    pub vref: bool,
-}
-
-// A model's keywords.
-pub struct PartsGiven {
-    pub voltage: bool,
-    pub temperature: bool,
-    pub pulldown: bool,
-    pub pullup: bool,
-    pub ground: bool,
-    pub power: bool,
-    pub ramp: bool,
-    pub waveforms: u8,
-}
-
+// input and driven: the type begins Input or I/O, and wants a ramp. Vinl and Vinh are kept for the check at the close.
 pub struct ModelState {
     pub line: u64,
-    pub first: FirstGiven,
-    pub parts: PartsGiven,
+    pub first: Given,
+    pub input: bool,
+    pub driven: bool,
+    pub vinl: Cell,
+    pub vinh: Cell,
+    pub parts: Given,
+    pub waveforms: u8,
     pub list: ModelList,
 }
 

@@ -1,0 +1,29 @@
+-- Laws of `rules/specs/Given.antt`: past the tenth nothing is given, and nothing changes.
+use Prim.Native.Nat.{ℕ, _≤_, _<_}
+use mathlib.Core.Path.{_≡_, refl, ap}
+use mathlib.Core.Bool.{true, false}
+use native.Mathlib.Omega.{arith}
+use lib.ListN.{List·getD-eq-default}
+use borrow.Author.Tests.{ne-eqb}
+use Rattle.rules.specs.Given.{flags, has, with}
+use Rattle.rules.specs.declared.Given.{Given}
+
+pub has-past : (x : Given) (k : ℕ) → 10 ≤ k → has x k ≡ false
+unfolding has
+has-past x k h = List·getD-eq-default (flags x) false h
+
+pub with-past : (x : Given) (k : ℕ) → 10 ≤ k → with x k ≡ x
+unfolding with
+with-past x k h =
+    rw (
+      ne-eqb k 0 (omega arith),
+      ne-eqb k 1 (omega arith),
+      ne-eqb k 2 (omega arith),
+      ne-eqb k 3 (omega arith),
+      ne-eqb k 4 (omega arith),
+      ne-eqb k 5 (omega arith),
+      ne-eqb k 6 (omega arith),
+      ne-eqb k 7 (omega arith),
+      ne-eqb k 8 (omega arith),
+      ne-eqb k 9 (omega arith),
+    )

@@ -1,0 +1,2 @@
+-- Laws on what was given, cited by the crates above.
+pub mod Laws

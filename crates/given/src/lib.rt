@@ -1,0 +1,91 @@
+// What was given so far, of up to ten things; and a fault as a step's answer.
+ghost use mathlib.Core.Path.{_≡_};
+ghost use Rattle.rules.specs.Given.{noneGiven, has, with};
+ghost use Rattle.rules.specs.Going.{stop};
+use lines::Fault;
+use rules::Given;
+use rules::Went;
+
+pub fn none_given() -> Given
+    ensures { λ r. ⌜ r ≡ noneGiven ⌝ }
+{
+    Given {
+        a: false,
+        b: false,
+        c: false,
+        d: false,
+        e: false,
+        f: false,
+        g: false,
+        h: false,
+        i: false,
+        j: false,
+    }
+}
+
+// The thing at place k was given.
+pub fn is_given(x: Given, k: usize) -> bool
+    ensures { λ r. ⌜ r ≡ has x k ⌝ }
+{
+    match k {
+        0 => x.a,
+        1 => x.b,
+        2 => x.c,
+        3 => x.d,
+        4 => x.e,
+        5 => x.f,
+        6 => x.g,
+        7 => x.h,
+        8 => x.i,
+        9 => x.j,
+        _ => false,
+    }
+}
+
+// The thing at place k is given too.
+pub fn also(x: Given, k: usize) -> Given
+    ensures { λ r. ⌜ r ≡ with x k ⌝ }
+{
+    let mut y = x;
+    match k {
+        0 => {
+            y.a = true;
+        }
+        1 => {
+            y.b = true;
+        }
+        2 => {
+            y.c = true;
+        }
+        3 => {
+            y.d = true;
+        }
+        4 => {
+            y.e = true;
+        }
+        5 => {
+            y.f = true;
+        }
+        6 => {
+            y.g = true;
+        }
+        7 => {
+            y.h = true;
+        }
+        8 => {
+            y.i = true;
+        }
+        9 => {
+            y.j = true;
+        }
+        _ => {}
+    }
+    y
+}
+
+// Fault n, told at line k.
+pub fn stopped(n: u8, k: u64) -> Went
+    ensures { λ r. ⌜ r ≡ stop n k ⌝ }
+{
+    Went::Stop(Fault { number: n, line: k })
+}

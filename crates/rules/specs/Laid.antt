@@ -1,0 +1,264 @@
+-- What is kept of a file, when two files say the same, and how a file lies in the lent tables.
+use Prim.Native.Nat.{ℕ, _+_, _-_}
+use mathlib.Core.List.{List, [], _∷_, _++_, map}
+use mathlib.Core.Bool.{Bool, true, false, cond}
+use mathlib.Core.Option.{Option, none, some}
+use mathlib.Core.Path.{_≡_}
+use lib.ListN.{length, drop, getD, replicate}
+use lib.Dec.{eqb}
+use Rattle.decimal.specs.Decimal.{wordOf}
+use Rattle.decimal.specs.declared.Cell.{Cell}
+use Rattle.decimal.specs.declared.Cell.the-variants.{Number, Missing}
+use Rattle.names.specs.Names.{meaning}
+use Rattle.keyword.specs.declared.CurrentTable.{CurrentTable}
+use Rattle.keyword.specs.declared.CurrentTable.the-variants.{Pulldown, Pullup, GndClamp, PowerClamp}
+use Rattle.rules.specs.Tables.{modelTypes}
+use Rattle.rules.specs.Model.{tablePlace}
+use Rattle.rules.specs.Reading.{noCells, noSlopes, orGiven, PinIs, ComponentIs, ChoiceIs, SelectorIs, FirstIs, RampIs, WaveformIs, TableIs, current, waveform, ModelIs, SectionIs, component, selector, model, FileIs}
+use Rattle.rules.specs.declared.Location.the-variants.{AtPin}
+use Rattle.rules.specs.declared.ModelType.the-variants.{Terminator}
+use Rattle.rules.specs.declared.Triple.{Triple}
+use Rattle.rules.specs.declared.Row.{Row}
+use Rattle.rules.specs.declared.Name.{Name}
+use Rattle.rules.specs.declared.Words.{Words}
+use Rattle.rules.specs.declared.Component.{Component}
+use Rattle.rules.specs.declared.Pin.{Pin}
+use Rattle.rules.specs.declared.Selector.{Selector}
+use Rattle.rules.specs.declared.Choice.{Choice}
+use Rattle.rules.specs.declared.Marked.{Marked}
+use Rattle.rules.specs.declared.Marked.the-variants.{Unmarked, First, Second}
+use Rattle.rules.specs.declared.Table.{Table}
+use Rattle.rules.specs.declared.Range.{Range}
+use Rattle.rules.specs.declared.RampTable.{RampTable}
+use Rattle.rules.specs.declared.Model.{Model}
+use Rattle.rules.specs.declared.Waveform.{Waveform}
+
+-- ---- "Kept is all that is read, the order of sections and of waveforms included, but not .. the order of other parts within a section"
+
+unfoldable pub rowsOf : CurrentTable → List TableIs → Option (List Row)
+rowsOf t [] = none
+rowsOf t (current u rs ∷ ts) = cond (eqb (tablePlace t) (tablePlace u)) (some rs) (rowsOf t ts)
+rowsOf t (waveform x ∷ ts) = rowsOf t ts
+
+unfoldable pub waveformsOf : List TableIs → List WaveformIs
+waveformsOf [] = []
+waveformsOf (current u rs ∷ ts) = waveformsOf ts
+waveformsOf (waveform x ∷ ts) = x ∷ waveformsOf ts
+
+-- the tables by kind, the waveforms in file order
+unfoldable pub inOrder : List TableIs → List (Option (List Row)) × List WaveformIs
+inOrder ts = (rowsOf Pulldown ts ∷ rowsOf Pullup ts ∷ rowsOf GndClamp ts ∷ rowsOf PowerClamp ts ∷ [], waveformsOf ts)
+
+-- "Tables say the same if all that is kept is equal"
+pub record SameModel (m n : ModelIs) : Type 0 where
+  pub name : m .name ≡ n .name
+  pub first : m .first ≡ n .first
+  pub voltage : m .voltage ≡ n .voltage
+  pub temperature : m .temperature ≡ n .temperature
+  pub ramp : m .ramp ≡ n .ramp
+  pub tables : inOrder (m .tables) ≡ inOrder (n .tables)
+
+abbrev pub SameSection : SectionIs → SectionIs → Type 0
+SameSection (component a) (component b) = a ≡ b
+SameSection (component a) (selector b) = ⊥
+SameSection (component a) (model b) = ⊥
+SameSection (selector a) (component b) = ⊥
+SameSection (selector a) (selector b) = a ≡ b
+SameSection (selector a) (model b) = ⊥
+SameSection (model a) (component b) = ⊥
+SameSection (model a) (selector b) = ⊥
+SameSection (model a) (model b) = SameModel a b
+
+abbrev pub SameSections : List SectionIs → List SectionIs → Type 0
+SameSections [] [] = Unit {0}
+SameSections [] (b ∷ bs) = ⊥
+SameSections (a ∷ xs) [] = ⊥
+SameSections (a ∷ xs) (b ∷ bs) = SameSection a b × SameSections xs bs
+
+pub record SaysTheSame (f g : FileIs) : Type 0 where
+  pub name : f .name ≡ g .name
+  pub revision : f .revision ≡ g .revision
+  pub sections : SameSections (f .sections) (g .sections)
+
+-- ---- texts as they lie in a record
+
+unfoldable pub padded : ℕ → List ℕ → List ℕ
+padded n w = w ++ replicate (n - length w) 0
+
+abbrev pub nameLaid : List ℕ → Name
+nameLaid w = record { bytes = padded 40 w; len = length w }
+
+abbrev pub wordsLaid : List ℕ → Words
+wordsLaid w = record { bytes = padded 120 w; len = length w }
+
+-- ---- the tables: what lies in them from their start on; of the rows, four words each
+
+pub record Laid : Type 0 where
+  pub components : List Component
+  pub pins : List Pin
+  pub selectors : List Selector
+  pub choices : List Choice
+  pub models : List Model
+  pub waveforms : List Waveform
+  pub rows : List Row
+
+abbrev pub nothingLaid : Laid
+nothingLaid = record { components = []; pins = []; selectors = []; choices = []; models = []; waveforms = []; rows = [] }
+
+-- ---- [Component]; n is the section's place in the file
+
+unfoldable pub componentLaid : ℕ → ℕ → ComponentIs → Component
+componentLaid n start c =
+    record {
+      section = n;
+      name = nameLaid (c .name);
+      si = getD (c .locations) 0 AtPin;
+      timing = getD (c .locations) 1 AtPin;
+      manufacturer = nameLaid (c .manufacturer);
+      resistance = getD (c .boxed) 0 noCells;
+      inductance = getD (c .boxed) 1 noCells;
+      capacitance = getD (c .boxed) 2 noCells;
+      pins = record { start = start; count = length (c .pins) };
+    }
+
+unfoldable pub pinLaid : PinIs → Pin
+pinLaid p =
+    record { name = nameLaid (p .name); signal = nameLaid (p .signal); model = nameLaid (p .model); resistance = p .resistance; inductance = p .inductance; capacitance = p .capacitance }
+
+-- ---- [Model Selector]
+
+unfoldable pub selectorLaid : ℕ → ℕ → SelectorIs → Selector
+selectorLaid n start s = record { section = n; name = nameLaid (s .name); choices = record { start = start; count = length (s .choices) } }
+
+unfoldable pub choiceLaid : ChoiceIs → Choice
+choiceLaid c = record { model = nameLaid (c .model); description = wordsLaid (c .description) }
+
+-- ---- [Model]: "In file order, each table's rows are written into the rest of the lent row store, after the rows before"
+
+abbrev pub rowsIn : TableIs → List Row
+rowsIn (current t rs) = rs
+rowsIn (waveform x) = x .rows
+
+unfoldable pub allRows : List TableIs → List Row
+allRows [] = []
+allRows (t ∷ ts) = rowsIn t ++ allRows ts
+
+-- where the rows of a current table lie; the next row's place is n
+unfoldable pub tableAt : CurrentTable → ℕ → List TableIs → Table
+tableAt t n [] = record { given = false; rows = record { start = 0; count = 0 } }
+tableAt t n (current u rs ∷ ts) =
+    cond (eqb (tablePlace t) (tablePlace u)) (record { given = true; rows = record { start = n; count = length rs } }) (tableAt t (n + length rs) ts)
+tableAt t n (waveform x ∷ ts) = tableAt t (n + length (x .rows)) ts
+
+unfoldable pub waveformLaid : ℕ → WaveformIs → Waveform
+waveformLaid n x =
+    record {
+      edge = x .edge;
+      rfixture = getD (x .numbers) 0 Missing;
+      vfixture = getD (x .numbers) 1 Missing;
+      vmin = getD (x .numbers) 2 Missing;
+      vmax = getD (x .numbers) 3 Missing;
+      cfixture = getD (x .numbers) 4 Missing;
+      lfixture = getD (x .numbers) 5 Missing;
+      rdut = getD (x .numbers) 6 Missing;
+      ldut = getD (x .numbers) 7 Missing;
+      cdut = getD (x .numbers) 8 Missing;
+      rows = record { start = n; count = length (x .rows) };
+    }
+
+unfoldable pub waveformsLaid : ℕ → List TableIs → List Waveform
+waveformsLaid n [] = []
+waveformsLaid n (current t rs ∷ ts) = waveformsLaid (n + length rs) ts
+waveformsLaid n (waveform x ∷ ts) = waveformLaid n x ∷ waveformsLaid (n + length (x .rows)) ts
+
+abbrev pub markedLaid : Option Bool → Marked
+markedLaid none = Unmarked
+markedLaid (some true) = First
+markedLaid (some false) = Second
+
+abbrev pub rangeLaid : Option Triple → Range
+rangeLaid none = record { given = false; cells = noCells }
+rangeLaid (some t) = record { given = true; cells = t }
+
+abbrev pub rampLaid : Option RampIs → RampTable
+rampLaid none = record { given = false; rise = noSlopes; fall = noSlopes; load = Missing }
+rampLaid (some r) = record { given = true; rise = getD (r .slopes) 0 noSlopes; fall = getD (r .slopes) 1 noSlopes; load = r .load }
+
+-- row and start: the places of the model's first row and first waveform
+unfoldable pub modelLaid : ℕ → ℕ → ℕ → ModelIs → Model
+modelLaid n row start m =
+    record {
+      section = n;
+      name = nameLaid (m .name);
+      kind = orGiven (meaning (m .first .kind) modelTypes) Terminator;
+      polarity = markedLaid (m .first .polarity);
+      enable = markedLaid (m .first .enable);
+      comp = m .first .comp;
+      vinl = getD (m .first .numbers) 0 Missing;
+      vinh = getD (m .first .numbers) 1 Missing;
+      vmeas = getD (m .first .numbers) 2 Missing;
+      cref = getD (m .first .numbers) 3 Missing;
+      rref = getD (m .first .numbers) 4 Missing;
+      vref = getD (m .first .numbers) 5 Missing;
+      voltage = m .voltage;
+      temperature = rangeLaid (m .temperature);
+      pulldown = tableAt Pulldown row (m .tables);
+      pullup = tableAt Pullup row (m .tables);
+      ground = tableAt GndClamp row (m .tables);
+      power = tableAt PowerClamp row (m .tables);
+      ramp = rampLaid (m .ramp);
+      waveforms = record { start = start; count = length (waveformsOf (m .tables)) };
+    }
+
+-- ---- section by section
+
+abbrev pub withSection : Laid → ℕ → SectionIs → Laid
+withSection l n (component c) =
+    record {
+      components = l .components ++ (componentLaid n (length (l .pins)) c ∷ []);
+      pins = l .pins ++ map pinLaid (c .pins);
+      selectors = l .selectors;
+      choices = l .choices;
+      models = l .models;
+      waveforms = l .waveforms;
+      rows = l .rows;
+    }
+withSection l n (selector s) =
+    record {
+      components = l .components;
+      pins = l .pins;
+      selectors = l .selectors ++ (selectorLaid n (length (l .choices)) s ∷ []);
+      choices = l .choices ++ map choiceLaid (s .choices);
+      models = l .models;
+      waveforms = l .waveforms;
+      rows = l .rows;
+    }
+withSection l n (model m) =
+    record {
+      components = l .components;
+      pins = l .pins;
+      selectors = l .selectors;
+      choices = l .choices;
+      models = l .models ++ (modelLaid n (length (l .rows)) (length (l .waveforms)) m ∷ []);
+      waveforms = l .waveforms ++ waveformsLaid (length (l .rows)) (m .tables);
+      rows = l .rows ++ allRows (m .tables);
+    }
+
+unfoldable pub laidFrom : Laid → ℕ → List SectionIs → Laid
+laidFrom l n [] = l
+laidFrom l n (s ∷ ss) = laidFrom (withSection l n s) (n + 1) ss
+
+unfoldable pub laid : FileIs → Laid
+laid f = laidFrom nothingLaid 0 (f .sections)
+
+-- a row in the row store: four words, a word a cell
+abbrev pub rowWords : Row → List ℕ
+rowWords r = wordOf (Number (r .number)) ∷ wordOf (r .cells .typ) ∷ wordOf (r .cells .min) ∷ wordOf (r .cells .max) ∷ []
+
+unfoldable pub stored : List Row → List ℕ
+stored [] = []
+stored (r ∷ rs) = rowWords r ++ stored rs
+
+-- "After acceptance, records and rows past those used keep their content"
+unfoldable pub over : {A : Type 0} → List A → List A → List A
+over table new = new ++ drop (length new) table
