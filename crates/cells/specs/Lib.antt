@@ -1,0 +1,3 @@
+-- What the code's own types say.
+pub mod Threes
+pub mod Headings

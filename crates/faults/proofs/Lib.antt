@@ -1,0 +1,2 @@
+-- Laws on the faults of a line.
+pub mod Laws

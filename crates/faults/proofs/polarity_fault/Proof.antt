@@ -1,0 +1,35 @@
+-- By what the word means, with `mark-fault`.
+use mathlib.Core.Path.{sym, ap, _∙_}
+use borrow.Author.Needs.{needs}
+use denote.Ref.{now}
+use Rattle.fields.specs.Views.{markFault}
+use Rattle.fields.proofs.TableLaws.{mark-fault}
+use Rattle.rules.specs.Tables.{polarities}
+use Rattle.faults.proofs.polarity_fault.Statement.{statement}
+use Rattle.faults.proofs.polarity_fault.Tie as tie
+
+polarity-of-requires : tie.Need-polarity-of-requires
+polarity-of-requires c κs = search needs
+
+enum-told : tie.Need-enum-told
+enum-told c = search needs
+
+enum-told-2 : tie.Need-enum-told-2
+enum-told-2 c = search needs
+
+enum-told-3 : tie.Need-enum-told-3
+enum-told-3 c = search needs
+
+returns : tie.Need-returns
+returns c = sym (mark-fault polarities (now (c .before .before .before .before .args .w)) ∙ ap markFault (sym (c .before .before .polarity-of .ensures) ∙ c .enum-told .given .1))
+
+returns-2 : tie.Need-returns-2
+returns-2 c = sym (mark-fault polarities (now (c .before .before .before .before .args .w)) ∙ ap markFault (sym (c .before .before .polarity-of .ensures) ∙ c .enum-told2 .given .1))
+
+returns-3 : tie.Need-returns-3
+returns-3 c = sym (mark-fault polarities (now (c .before .before .before .before .args .w)) ∙ ap markFault (sym (c .before .before .polarity-of .ensures) ∙ c .enum-told3 .given .1))
+
+pub polarity-fault-spec : {M : Type 1} → statement M
+polarity-fault-spec =
+    tie.close
+    (tie.spec polarity-of-requires enum-told enum-told-2 enum-told-3 returns returns-2 returns-3)

@@ -1,0 +1,2 @@
+-- Small definitions for this crate's own functions.
+pub mod Arguments

@@ -1,0 +1,30 @@
+-- The words in the code are the table's, by computing both, so the place found stands for the meaning.
+use mathlib.Core.Path.{ap, _∙_}
+use borrow.Author.Needs.{needs}
+use denote.Ref.{now}
+use Rattle.laws.specs.Bytes.{isBlank}
+use Rattle.words.specs.Words.{words, grown, onto}
+use Rattle.names.specs.Names.{namesOf}
+use Rattle.rules.specs.Fields.{namedWord}
+use Rattle.rules.specs.Tables.{polarities}
+use Rattle.fields.specs.Views.{asMarked}
+use Rattle.fields.proofs.TableLaws.{word-found}
+use Rattle.fields.proofs.lookups.polarity_of.Statement.{statement}
+use Rattle.fields.proofs.lookups.polarity_of.Tie as tie
+
+slice-aggregate-word-in : tie.Need-slice-aggregate-word-in
+slice-aggregate-word-in c = search needs
+
+word-in-requires : tie.Need-word-in-requires
+word-in-requires c κs = search needs
+
+mark-at-requires : tie.Need-mark-at-requires
+mark-at-requires c κs = search needs
+
+returns : tie.Need-returns
+unfolding words grown onto isBlank namesOf polarities
+returns c = c .mark-at .ensures .0 ∙ ap asMarked (word-found polarities (namedWord (now (c .before .before .before .before .args .w))) _ (c .before .word-in .ensures))
+
+pub polarity-of-spec : {M : Type 1} → statement M
+polarity-of-spec =
+    tie.close (tie.spec slice-aggregate-word-in word-in-requires mark-at-requires returns)

@@ -1,0 +1,3 @@
+-- What the answers of the code say of a line.
+pub mod Places
+pub mod Views
