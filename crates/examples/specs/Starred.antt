@@ -2,22 +2,58 @@
 -- asked and what the paper answers; `answered` asks the definitions again, and one computation shows that nothing changes.
 use Prim.Native.Nat.{ℕ, _+_, _-_}
 use Prim.Native.Char.{code}
-use Prim.Native.String.{String}
+use Prim.Native.String.{String, _++_ as _++ˢ_}
 use mathlib.Core.List.{List, [], _∷_, _++_, map}
 use mathlib.Core.Path.{_≡_, refl}
 use mathlib.Core.Bool.{true, false}
 use lib.ListN.{replicate}
-use Rattle.laws.specs.Bytes.{bytes, isDigit, isLetter, isCapital, isSmall, capital}
-use Rattle.laws.specs.Lists.{front, after, all, trim, keep, eqs}
-use Rattle.decimal.specs.Decimal.{isMinus, afterSign, pointPlaces, afterPoint, places, figures, afterFigures, numeral, numeralFrom, isZero, significant, zerosCut, afterE, exponentDigits, plusExponent, minusExponent, letters, scaleUp, scaleDown, ranged, resultOf, unsigned, numberOf, isMissing, cellOf}
+use Rattle.laws.specs.Bytes.{bytes, isBlank, isDigit, isCapital, isSmall, isLetter, capital, small}
+use Rattle.laws.specs.Lists.{front, after, keep, trim, all, among, other, eqs}
+use Rattle.decimal.specs.Decimal.{isMinus, afterSign, pointPlaces, afterPoint, places, figures, afterFigures, numeralFrom, numeral, isZero, significant, zerosCut, afterE, exponentDigits, plusExponent, minusExponent, letters, scaleUp, scaleDown, ranged, resultOf, unsigned, numberOf, isMissing, cellOf, lessThan, aboveZero, cellIn}
+use Rattle.words.specs.Words.{isInk, grown, words}
+use Rattle.lines.specs.Lines.{isReturn, linesOf, isAllowed, lineFault, faultFrom, bytesFault, cut}
+use Rattle.names.specs.Names.{meaning, namesOf, placeFrom, meaningAt, meaningOf}
+use Rattle.keyword.specs.Form.{inside, closing, isJoint, inParts, isClosed, isFormed, plain, spelled, argument}
+use Rattle.keyword.specs.Carried.{carried, keyOf}
+use Rattle.texts.specs.Change.{begins, isChange, noneOr, isRemark, changeTo, changeOf}
+use Rattle.texts.specs.Texts.{textsFrom, rest, past}
+use Rattle.rules.specs.Fields.{isSized, isBracketed, oneOf, needsNoModel, isNoModel, isModelName, isPinModel, isPinName, oneWord, isFileByte, isFileName, firstWord, otherWords, nameOf, lineAt, isNameAlone, wordFrom, namedWord, afterName, soleNumber, behindEquals, assignedNumber, threeCells, namedCells, rowOf, slopeFrom, slopeOf, slopeOrMissing, upward, threeSlopes, namedSlopes, wordFault}
+use Rattle.rules.specs.Tables.{locations, modelTypes, polarities, enables}
+use Rattle.rules.specs.Given.{has, with}
+use Rattle.rules.specs.Going.{unless, refuse, firstOf}
+use Rattle.rules.specs.Header.{version, headerPart, headerLine, headerDone}
+use Rattle.rules.specs.Component.{heading, pinNames, cellsFault, pinRow, componentPart, componentDone}
+use Rattle.rules.specs.Selector.{selectorLine, selectorShut}
+use Rattle.rules.specs.Model.{firstFault, isInput, isDriven, withFirst, rises, rampLineFault, beginsLetter, waveformLine, singlePart, waveformPart, tableFault, modelDone}
+use Rattle.rules.specs.Steps.{onBegun}
+use Rattle.rules.specs.Outline.{named, lists, count, firstFailing}
+use Rattle.rules.specs.Whole.{Outcome, passed, refused, admitEntry, thirdWord, runs, lastChecks, textsOf, outcome}
 use Rattle.decimal.specs.declared.Cell.the-variants.{Number, Missing}
 use Rattle.decimal.specs.declared.NumberRead.{NumberRead}
 use Rattle.decimal.specs.declared.NumberRead.the-variants.{Value, Wrong}
 use Rattle.decimal.specs.declared.CellRead.{CellRead}
 use Rattle.decimal.specs.declared.CellRead.the-variants.{Read, Bad}
-use Rattle.lines.specs.Lines.{isReturn, onto, linesOf, isAllowed, lineFault, faultFrom, bytesFault}
 use Rattle.lines.specs.declared.Bytes.{Bytes}
 use Rattle.lines.specs.declared.Bytes.the-variants.{Clean, Faulty}
+use Rattle.rules.specs.declared.Lengths.{Lengths}
+
+-- accepted, or refused with this fault at this line
+pub data Verdict : Type 0 where
+  accepted : Verdict
+  refusal : ℕ → ℕ → Verdict
+
+abbrev pub verdict : Outcome → Verdict
+verdict (passed h) = accepted
+verdict (refused n k) = refusal n k
+
+abbrev pub lent : Lengths
+lent = record { components = 8; pins = 512; selectors = 32; choices = 256; models = 64; waveforms = 1024; rows = 1000 }
+
+-- the listing's file, with its line 11, 12 and 14
+abbrev pub listing : String → String → String → String
+listing eleven twelve fourteen =
+    "[IBIS Ver] 5.0\n[File Name] lk.ibs\n[File Rev] 1\n[Component] LK1\n[Manufacturer] House\n[Package]\nR_pkg 250m NA NA\nL_pkg 15nH NA NA\nC_pkg 18pF NA NA\n[Pin] signal_name model_name\n"
+    ++ˢ eleven ++ˢ "\n" ++ˢ twelve ++ˢ "\n[Model] in1\n" ++ˢ fourteen ++ˢ "\nC_comp 5pF NA NA\n[Voltage Range] 3.3 NA NA\n[End]\n"
 
 pub data Example : Type 0 where
   -- a word as a number, and as a cell
@@ -25,10 +61,13 @@ pub data Example : Type 0 where
   cell : String → CellRead → Example
   -- a file of one line, with so many characters before its LF
   line : ℕ → Bytes → Example
+  -- a file, read with tables at their bounds and 1,000 rows
+  file : String → Verdict → Example
 
 unfoldable pub answered : Example → Example
 answered (number w r) = number w (numberOf (bytes w))
 answered (cell w r) = cell w (cellOf (bytes w))
+answered (file s r) = file s (verdict (outcome lent (bytes s)))
 answered (line n r) = line n (bytesFault (replicate n (code "x") ++ (code "\n" ∷ [])))
 
 infix 70 _e+_ _e-_
@@ -56,7 +95,12 @@ starred =
     ∷ number "0e99" (0 e+ 0)
     ∷ line 120 Clean
     ∷ line 121 (Faulty (record { number = 3; line = 1 }))
+    ∷ file "" (refusal 19 1)
     -- not starred
+    ∷ file (listing "1 DOOR in1" "2 VSS GND" "Model_type Input") accepted
+    ∷ file (listing "1 DOOR in1" "2 VSS GND" "Model_type Output") (refusal 9 13)
+    ∷ file (listing "1 DOOR in1" "2 VSS GNDX" "Model_type Input") (refusal 15 12)
+    ∷ file (listing "1 DOOR GND" "2 VSS GND" "Model_type Input") (refusal 16 13)
     ∷ number "1e-40" (1 e- 40)
     ∷ number "1e-41" (Wrong 12)
     ∷ number "10e24" (Wrong 12)
@@ -81,5 +125,5 @@ starred =
     ∷ []
 
 pub examples : map answered starred ≡ starred
-unfolding answered starred numberOf unsigned resultOf ranged isMinus afterSign pointPlaces afterPoint places figures afterFigures numeral numeralFrom isZero significant zerosCut afterE exponentDigits plusExponent minusExponent letters scaleUp scaleDown isMissing cellOf isDigit isLetter isCapital isSmall capital front after all trim keep eqs isReturn onto linesOf isAllowed lineFault faultFrom bytesFault
+unfolding answered starred isBlank isDigit isCapital isSmall isLetter capital small front after keep trim all among other eqs isMinus afterSign pointPlaces afterPoint places figures afterFigures numeralFrom numeral isZero significant zerosCut afterE exponentDigits plusExponent minusExponent letters scaleUp scaleDown ranged resultOf unsigned numberOf isMissing cellOf lessThan aboveZero cellIn isInk Rattle.words.specs.Words.onto grown words isReturn Rattle.lines.specs.Lines.onto linesOf isAllowed lineFault faultFrom bytesFault cut meaning namesOf placeFrom meaningAt meaningOf inside closing isJoint inParts isClosed isFormed plain spelled argument carried keyOf begins isChange noneOr isRemark changeTo changeOf Rattle.texts.specs.Texts.onto textsFrom rest past isSized isBracketed oneOf needsNoModel isNoModel isModelName isPinModel isPinName oneWord isFileByte isFileName firstWord otherWords nameOf lineAt isNameAlone wordFrom namedWord afterName soleNumber behindEquals assignedNumber threeCells namedCells rowOf slopeFrom slopeOf slopeOrMissing upward threeSlopes namedSlopes wordFault locations modelTypes polarities enables has with unless refuse firstOf version headerPart headerLine headerDone heading pinNames cellsFault pinRow componentPart componentDone selectorLine selectorShut firstFault isInput isDriven withFirst rises rampLineFault beginsLetter waveformLine singlePart waveformPart tableFault modelDone onBegun named lists count firstFailing admitEntry thirdWord runs lastChecks textsOf outcome
 examples = refl

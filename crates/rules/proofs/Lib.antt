@@ -1,0 +1,2 @@
+-- Small laws that the definitions must keep.
+pub mod Sanity

@@ -1,5 +1,5 @@
 -- Document 01, "Sections": [Model] with its first lines, its ranges, current tables, ramp and waveforms.
-use Prim.Native.Nat.{ℕ, _+_}
+use Prim.Native.Nat.{ℕ, _+_, min}
 use mathlib.Core.List.{List, [], _∷_}
 use mathlib.Core.Bool.{Bool, true, false, cond, not, _&&_, _||_}
 use mathlib.Core.Option.{Option, none, some}
@@ -103,8 +103,9 @@ noRows = record { count = 0; last = record { negative = false; digits = 0; power
 unfoldable pub rises : RowsSeen → Decimal → Bool
 rises r d = cond (eqb (r .count) 0) true (lessThan (r .last) d)
 
+-- rows are counted up to 1,001: no table may have more, and no caller has to keep a bound
 abbrev pub withRow : RowsSeen → Decimal → Bool → RowsSeen
-withRow r d typ = record { count = r .count + 1; last = d; head = cond (eqb (r .count) 0) typ (r .head); tail = typ }
+withRow r d typ = record { count = min (r .count + 1) 1001; last = d; head = cond (eqb (r .count) 0) typ (r .head); tail = typ }
 
 -- how a table goes on with more rows
 abbrev pub rowLine : (RowsSeen → ModelList) → ModelState → RowsSeen → ℕ → RowRead → Went

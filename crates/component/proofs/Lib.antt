@@ -1,0 +1,3 @@
+-- The laws that the proofs cite.
+pub mod General
+pub mod Laws

@@ -1,0 +1,2 @@
+-- The steps of the rules, cut as the code has them.
+pub mod Steps

@@ -1,0 +1,3 @@
+-- Laws on the steps of a model.
+pub mod General
+pub mod Laws
