@@ -1,0 +1,875 @@
+/* The second reader's work: takes the lines of a file from the top, once, and fills the tables as it goes. */
+#include "names.h"
+#include "numbers.h"
+
+#define COUNT(array) (sizeof(array) / sizeof *(array))
+
+enum { MIN_ROWS = 2, MAX_CURRENT_ROWS = 100, MAX_WAVEFORM_ROWS = 1000 };
+
+/* Where a line stands: what was opened last and is not closed yet. */
+enum place { BEFORE_VERSION, IN_HEADER, IN_COMPONENT, IN_SELECTOR, IN_MODEL, AFTER_END, ANY_PLACE };
+
+/* Which lines without a keyword may stand here. */
+enum list {
+    NO_LINES, TEXT_LINES, COMPONENT_LINES, PACKAGE_LINES, PIN_ROWS, CHOICE_ROWS, MODEL_LINES, CURRENT_ROWS,
+    RAMP_LINES, WAVEFORM_LINES
+};
+
+enum keyword {
+    IBIS_VER, FILE_NAME, FILE_REV, DATE, SOURCE, NOTES, DISCLAIMER, COPYRIGHT, COMPONENT, MANUFACTURER, PACKAGE, PIN,
+    MODEL_SELECTOR, MODEL, VOLTAGE_RANGE, TEMPERATURE_RANGE, PULLDOWN, PULLUP, GND_CLAMP, POWER_CLAMP, RAMP,
+    RISING_WAVEFORM, FALLING_WAVEFORM, END, KEYWORDS
+};
+
+/* Keywords in small letters with underscores. [Comment Char] is known before these are looked at. */
+static const struct name keyword_names[KEYWORDS] = {
+    [IBIS_VER] = NAME("ibis_ver"), [FILE_NAME] = NAME("file_name"), [FILE_REV] = NAME("file_rev"),
+    [DATE] = NAME("date"), [SOURCE] = NAME("source"), [NOTES] = NAME("notes"), [DISCLAIMER] = NAME("disclaimer"),
+    [COPYRIGHT] = NAME("copyright"), [COMPONENT] = NAME("component"), [MANUFACTURER] = NAME("manufacturer"),
+    [PACKAGE] = NAME("package"), [PIN] = NAME("pin"), [MODEL_SELECTOR] = NAME("model_selector"),
+    [MODEL] = NAME("model"), [VOLTAGE_RANGE] = NAME("voltage_range"),
+    [TEMPERATURE_RANGE] = NAME("temperature_range"), [PULLDOWN] = NAME("pulldown"), [PULLUP] = NAME("pullup"),
+    [GND_CLAMP] = NAME("gnd_clamp"), [POWER_CLAMP] = NAME("power_clamp"), [RAMP] = NAME("ramp"),
+    [RISING_WAVEFORM] = NAME("rising_waveform"), [FALLING_WAVEFORM] = NAME("falling_waveform"), [END] = NAME("end"),
+};
+enum { LONGEST_KEYWORD = sizeof "temperature_range" - 1 };
+
+/* The one place of each keyword; section keywords and [End] may stand anywhere and close what is open. */
+static const uint8_t keyword_places[KEYWORDS] = {
+    [IBIS_VER] = IN_HEADER, [FILE_NAME] = IN_HEADER, [FILE_REV] = IN_HEADER, [DATE] = IN_HEADER,
+    [SOURCE] = IN_HEADER, [NOTES] = IN_HEADER, [DISCLAIMER] = IN_HEADER, [COPYRIGHT] = IN_HEADER,
+    [COMPONENT] = ANY_PLACE, [MANUFACTURER] = IN_COMPONENT, [PACKAGE] = IN_COMPONENT, [PIN] = IN_COMPONENT,
+    [MODEL_SELECTOR] = ANY_PLACE, [MODEL] = ANY_PLACE, [VOLTAGE_RANGE] = IN_MODEL, [TEMPERATURE_RANGE] = IN_MODEL,
+    [PULLDOWN] = IN_MODEL, [PULLUP] = IN_MODEL, [GND_CLAMP] = IN_MODEL, [POWER_CLAMP] = IN_MODEL, [RAMP] = IN_MODEL,
+    [RISING_WAVEFORM] = IN_MODEL, [FALLING_WAVEFORM] = IN_MODEL, [END] = ANY_PLACE,
+};
+
+/* Keywords that may be given again: each opens something new. */
+static const uint32_t repeated_keywords = 1u << COMPONENT | 1u << MODEL_SELECTOR | 1u << MODEL
+                                          | 1u << RISING_WAVEFORM | 1u << FALLING_WAVEFORM | 1u << END;
+
+const struct name second_locations[LOCATIONS] = { NAME("Pin"), NAME("Die") };
+const struct name second_polarities[POLARITIES] = { NAME("-"), NAME("Inverting"), NAME("Non-Inverting") };
+const struct name second_enables[ENABLES] = { NAME("-"), NAME("Active-High"), NAME("Active-Low") };
+const struct name second_model_types[MODEL_TYPES] = {
+    NAME("-"), NAME("Input"), NAME("Output"), NAME("I/O"), NAME("3-state"), NAME("Open_drain"),
+    NAME("I/O_open_drain"), NAME("Open_sink"), NAME("I/O_open_sink"), NAME("Open_source"), NAME("I/O_open_source"),
+    NAME("Input_ECL"), NAME("Output_ECL"), NAME("I/O_ECL"), NAME("3-state_ECL"), NAME("Terminator"),
+};
+
+/* The names of named lines, in the order in which their values are kept. */
+static const struct name component_names[] = { NAME("Si_location"), NAME("Timing_location") };
+static const struct name package_names[] = { NAME("R_pkg"), NAME("L_pkg"), NAME("C_pkg") };
+static const struct name ramp_names[] = { NAME("dV/dt_r"), NAME("dV/dt_f"), NAME("R_load") };
+static const struct name fixture_names[FIXTURES] = {
+    NAME("R_fixture"), NAME("V_fixture"), NAME("V_fixture_min"), NAME("V_fixture_max"), NAME("C_fixture"),
+    NAME("L_fixture"), NAME("R_dut"), NAME("L_dut"), NAME("C_dut"),
+};
+enum { MODEL_TYPE_LINE, POLARITY_LINE, ENABLE_LINE, C_COMP_LINE, LEVEL_LINES };
+static const struct name model_names[LEVEL_LINES + LEVELS] = {
+    NAME("Model_type"), NAME("Polarity"), NAME("Enable"), NAME("C_comp"), NAME("Vinl"), NAME("Vinh"), NAME("Vmeas"),
+    NAME("Cref"), NAME("Rref"), NAME("Vref"),
+};
+
+struct reader {
+    struct file *file;
+    struct lengths lent;
+    uint32_t line;                              /* the number of the line at hand */
+    uint8_t comment;                            /* the comment character in force */
+    bool long_heading;                          /* of the open [Pin] */
+    enum place place;
+    enum list list;
+    uint32_t section_line, list_line;           /* of the keywords that opened them */
+    uint32_t given;                             /* keywords given in this header or section, a bit each */
+    uint32_t named;                             /* names given in this list, a bit each */
+    struct component *component;
+    struct selector *selector;
+    struct model *model;
+    struct table *table;                        /* of the open current table or waveform */
+    struct waveform *waveform;
+    struct used_names names;
+};
+
+static enum fault tell(struct reader *reader, enum fault fault, uint32_t line)
+{
+    reader->file->line = line;
+    return fault;
+}
+
+/* ---- Named lines ---- */
+
+/* "whose name (the text up to a blank or `=`) is none of theirs is fault 10"; given twice comes before wrong words. */
+static enum fault take_name(struct reader *reader, struct text *line, const struct name *names, unsigned count,
+                            unsigned *which)
+{
+    struct text name = *line;
+    while (line->start < line->end && !is_blank(*line->start) && *line->start != '=')
+        line->start++;
+    name.end = line->start;
+    *which = find_name(name, names, count);
+    if (*which == count)
+        return WRONG_WORD;
+    if (reader->named >> *which & 1)
+        return GIVEN_TWICE;
+    reader->named |= 1u << *which;
+    return NO_FAULT;
+}
+
+/* One word out of a list of them; `from` is 1 where the list begins with "not given". */
+static enum fault read_option(struct text rest, const struct name *options, unsigned from, unsigned count,
+                              uint8_t *option)
+{
+    struct text word;
+    if (!only_word(rest, &word))
+        return WRONG_WORD;
+    unsigned found = from + find_name(word, options + from, count - from);
+    if (found == count)
+        return WRONG_WORD;
+    *option = (uint8_t)found;
+    return NO_FAULT;
+}
+
+/* `R_pkg=1`: the first word is not the name. */
+static bool runs_on(struct text rest)
+{
+    return !is_empty(rest) && *rest.start == '=';
+}
+
+static enum fault read_corners(struct text rest, struct cell corners[CORNERS])
+{
+    return runs_on(rest) ? WRONG_WORD : read_cells(rest, CORNERS, false, corners);
+}
+
+/* "name, `=`, number, blanks free around it": after the first `=` exactly one word, and that a number. */
+static enum fault read_value(struct text rest, struct cell *cell)
+{
+    skip_blanks(&rest);
+    if (is_empty(rest) || *rest.start != '=')
+        return WRONG_WORD;
+    rest.start++;
+    return read_cells(rest, 1, false, cell);
+}
+
+static enum fault read_slopes(struct text rest, struct slope slopes[CORNERS])
+{
+    struct text words[CORNERS], more;
+    if (runs_on(rest))
+        return WRONG_WORD;
+    for (unsigned i = 0; i < CORNERS; i++)
+        if (!next_word(&rest, &words[i]))
+            return WRONG_WORD;
+    if (next_word(&rest, &more))
+        return WRONG_WORD;
+    for (unsigned i = 0; i < CORNERS; i++) {
+        enum fault fault = read_slope(words[i], i != TYP, &slopes[i]);
+        if (fault != NO_FAULT)
+            return fault;
+    }
+    for (unsigned i = 0; i < CORNERS; i++)      /* after 11 and 12 of all words */
+        if (slopes[i].divisor.given && slopes[i].divisor.whole <= 0)
+            return WRONG_ROWS;
+    return NO_FAULT;
+}
+
+static enum fault read_component_line(struct reader *reader, struct text line)
+{
+    unsigned which;
+    enum fault fault = take_name(reader, &line, component_names, COUNT(component_names), &which);
+    if (fault != NO_FAULT)
+        return fault;
+    struct component *component = reader->component;
+    uint8_t *location = which == 0 ? &component->si_location : &component->timing_location;
+    return read_option(line, second_locations, 0, LOCATIONS, location);
+}
+
+static enum fault read_package_line(struct reader *reader, struct text line)
+{
+    unsigned which;
+    enum fault fault = take_name(reader, &line, package_names, COUNT(package_names), &which);
+    return fault != NO_FAULT ? fault : read_corners(line, reader->component->package[which]);
+}
+
+static enum fault read_model_line(struct reader *reader, struct text line)
+{
+    unsigned which;
+    enum fault fault = take_name(reader, &line, model_names, COUNT(model_names), &which);
+    if (fault != NO_FAULT)
+        return fault;
+    struct model *model = reader->model;
+    switch (which) {
+    case MODEL_TYPE_LINE:
+        return read_option(line, second_model_types, 1, MODEL_TYPES, &model->type);
+    case POLARITY_LINE:
+        return read_option(line, second_polarities, 1, POLARITIES, &model->polarity);
+    case ENABLE_LINE:
+        return read_option(line, second_enables, 1, ENABLES, &model->enable);
+    case C_COMP_LINE:
+        return read_corners(line, model->capacitance);
+    default:
+        return read_value(line, &model->levels[which - LEVEL_LINES]);
+    }
+}
+
+static enum fault read_ramp_line(struct reader *reader, struct text line)
+{
+    unsigned which;
+    enum fault fault = take_name(reader, &line, ramp_names, COUNT(ramp_names), &which);
+    if (fault != NO_FAULT)
+        return fault;
+    struct ramp *ramp = &reader->model->ramp;
+    return which < 2 ? read_slopes(line, ramp->slopes[which]) : read_value(line, &ramp->load);
+}
+
+/* ---- Rows ---- */
+
+/* "pin, signal, model; under the long heading three cells may follow". */
+static enum fault read_pin(struct reader *reader, struct text line)
+{
+    struct file *file = reader->file;
+    struct pin spare, *pin = file->pin_count < reader->lent.pins ? &file->pins[file->pin_count] : &spare;
+    if (!next_word(&line, &pin->name) || !next_word(&line, &pin->signal) || !next_word(&line, &pin->model))
+        return WRONG_WORD;
+    enum reserved reserved = find_reserved(pin->model);
+    if (!is_row_name(pin->name, MAX_PIN_NAME) || length_of(pin->signal) > MAX_NAME
+        || !is_row_name(pin->model, MAX_NAME) || reserved == NA_WORD || reserved == CIRCUITCALL_WORD)
+        return WRONG_WORD;
+    if (reserved != NOT_RESERVED) {
+        pin->model.start = (const uint8_t *)reserved_names[reserved].spelling;
+        pin->model.end = pin->model.start + reserved_names[reserved].length;
+    }
+    memset(pin->cells, 0, sizeof pin->cells);
+    if (!is_empty(line)) {
+        enum fault fault = reader->long_heading ? read_cells(line, 3, true, pin->cells) : WRONG_WORD;
+        if (fault != NO_FAULT)
+            return fault;
+    }
+    pin->line = reader->line;
+    pin->section = reserved == NOT_RESERVED ? UNKNOWN_SECTION : NO_SECTION;
+    if (!use_name(&reader->names, SECTION_GROUPS + file->section_count, pin->name, 0))
+        return NAME_USED;
+    if (pin == &spare)
+        return BOUND_PASSED;
+    file->pin_count++;
+    reader->component->pin_count++;
+    return NO_FAULT;
+}
+
+/* "rows of a model name and a free description, maybe empty". */
+static enum fault read_choice(struct reader *reader, struct text line)
+{
+    struct file *file = reader->file;
+    struct text model;
+    next_word(&line, &model);
+    skip_blanks(&line);
+    if (!is_model_name(model))
+        return WRONG_WORD;
+    if (!use_name(&reader->names, SECTION_GROUPS + file->section_count, model, 0))
+        return NAME_USED;
+    if (file->choice_count >= reader->lent.choices)
+        return BOUND_PASSED;
+    file->choices[file->choice_count++] = (struct choice){ model, line, reader->line, UNKNOWN_SECTION };
+    reader->selector->choice_count++;
+    return NO_FAULT;
+}
+
+/* "the first column rises strictly"; a row's own faults come before the want of room. */
+static enum fault read_row(struct reader *reader, struct text line)
+{
+    struct file *file = reader->file;
+    struct table *table = reader->table;
+    struct row spare, *row = file->row_count < reader->lent.rows ? &file->rows[file->row_count] : &spare;
+    enum fault fault = read_cells(line, 1 + CORNERS, false, row->cells);
+    if (fault != NO_FAULT)
+        return fault;
+    if (table->count > 0 && compare(&file->rows[file->row_count - 1].cells[0], &row->cells[0]) >= 0)
+        return WRONG_ROWS;
+    if (row == &spare)
+        return ROWS_TOO_FEW;
+    file->row_count++;
+    table->count++;
+    return NO_FAULT;
+}
+
+/* "A line whose first word begins with a letter is such a line [named], and 7 after the first row." */
+static enum fault read_waveform_line(struct reader *reader, struct text line)
+{
+    if (!is_letter(*line.start))
+        return read_row(reader, line);
+    if (reader->table->count > 0)
+        return OUT_OF_PLACE;
+    unsigned which;
+    enum fault fault = take_name(reader, &line, fixture_names, COUNT(fixture_names), &which);
+    return fault != NO_FAULT ? fault : read_value(line, &reader->waveform->fixtures[which]);
+}
+
+/* ---- What a line closes ---- */
+
+/* "2 to 100 rows; waveforms, 2 to 1,000; the first and last typ are numbers". */
+static bool is_whole_table(const struct file *file, const struct table *table, uint32_t most)
+{
+    if (table->count < MIN_ROWS || table->count > most)
+        return false;
+    const struct row *first = &file->rows[table->first];
+    const struct row *last = first + table->count - 1;
+    return first->cells[1 + TYP].given && last->cells[1 + TYP].given;
+}
+
+/* What any keyword line does but [Comment Char]. */
+static enum fault close_list(struct reader *reader)
+{
+    enum fault fault = NO_FAULT;
+    switch (reader->list) {
+    case PACKAGE_LINES:                         /* all three names */
+        fault = reader->named == 7 ? NO_FAULT : PART_MISSING;
+        break;
+    case PIN_ROWS:
+        fault = reader->component->pin_count > 0 ? NO_FAULT : PART_MISSING;
+        break;
+    case CHOICE_ROWS:
+        fault = reader->selector->choice_count > 0 ? NO_FAULT : PART_MISSING;
+        break;
+    case RAMP_LINES:                            /* dV/dt_r and dV/dt_f */
+        fault = (reader->named & 3) == 3 ? NO_FAULT : PART_MISSING;
+        break;
+    case CURRENT_ROWS:
+        fault = is_whole_table(reader->file, reader->table, MAX_CURRENT_ROWS) ? NO_FAULT : WRONG_ROWS;
+        break;
+    case WAVEFORM_LINES:
+        if (!reader->waveform->fixtures[R_FIXTURE].given || !reader->waveform->fixtures[V_FIXTURE].given)
+            fault = PART_MISSING;
+        else if (!is_whole_table(reader->file, reader->table, MAX_WAVEFORM_ROWS))
+            fault = WRONG_ROWS;
+        break;
+    default:
+        break;
+    }
+    reader->list = NO_LINES;
+    return fault == NO_FAULT ? NO_FAULT : tell(reader, fault, reader->list_line);
+}
+
+/* "Types that begin Input or I/O" take thresholds. */
+static bool takes_thresholds(const struct model *model)
+{
+    const char *type = second_model_types[model->type].spelling;
+    return strncmp(type, "Input", 5) == 0 || strncmp(type, "I/O", 3) == 0;
+}
+
+static enum fault close_model(struct model *model)
+{
+    bool without_ramp = model->type == INPUT || model->type == INPUT_ECL || model->type == TERMINATOR;
+    if (model->type == TYPE_NOT_GIVEN || !model->capacitance[TYP].given || !model->voltage[TYP].given
+        || (!model->ramp.given && !without_ramp))
+        return PART_MISSING;
+    if (!takes_thresholds(model))
+        return NO_FAULT;
+    if (!model->levels[VINL].given)
+        model->levels[VINL] = (struct cell){ .whole = 8, .power = -1, .given = true };
+    if (!model->levels[VINH].given)
+        model->levels[VINH] = (struct cell){ .whole = 2, .power = 0, .given = true };
+    return compare(&model->levels[VINL], &model->levels[VINH]) < 0 ? NO_FAULT : THRESHOLDS_CROSSED;
+}
+
+static bool all_given(const struct reader *reader, uint32_t keywords)
+{
+    return (reader->given & keywords) == keywords;
+}
+
+/* What a well formed section keyword or [End] does: the header's or section's own lacks, told where it began. */
+static enum fault close_section(struct reader *reader)
+{
+    enum fault fault = NO_FAULT;
+    if (reader->place == IN_HEADER && !all_given(reader, 1u << FILE_NAME | 1u << FILE_REV))
+        fault = PART_MISSING;
+    if (reader->place == IN_COMPONENT && !all_given(reader, 1u << MANUFACTURER | 1u << PACKAGE | 1u << PIN))
+        fault = PART_MISSING;
+    if (reader->place == IN_MODEL)
+        fault = close_model(reader->model);
+    return fault == NO_FAULT ? NO_FAULT : tell(reader, fault, reader->section_line);
+}
+
+/* ---- Keywords ---- */
+
+static void open_list(struct reader *reader, enum list list)
+{
+    reader->list = list;
+    reader->list_line = reader->line;
+    reader->named = 0;
+}
+
+static void open_section(struct reader *reader, enum section_kind kind, uint32_t number)
+{
+    static const enum place places[] = { IN_COMPONENT, IN_SELECTOR, IN_MODEL };
+    static const enum list lists[] = { COMPONENT_LINES, CHOICE_ROWS, MODEL_LINES };
+    struct file *file = reader->file;
+    file->sections[file->section_count++] = (struct section){ kind, number, reader->line };
+    reader->place = places[kind];
+    reader->section_line = reader->line;
+    reader->given = 0;
+    open_list(reader, lists[kind]);
+}
+
+static enum fault open_component(struct reader *reader, struct text name)
+{
+    struct file *file = reader->file;
+    if (is_empty(name) || length_of(name) > MAX_NAME)
+        return WRONG_WORD;
+    if (!use_name(&reader->names, COMPONENT_GROUP, name, 0))
+        return NAME_USED;
+    if (file->component_count >= reader->lent.components)
+        return BOUND_PASSED;
+    open_section(reader, COMPONENT_SECTION, file->component_count);
+    reader->component = &file->components[file->component_count++];
+    *reader->component = (struct component){ .name = name, .first_pin = file->pin_count };
+    return NO_FAULT;
+}
+
+/* "one word, 1 to 40"; models and selectors are unique together. */
+static enum fault take_model_name(struct reader *reader, struct text argument, struct text *name)
+{
+    if (!only_word(argument, name) || !is_model_name(*name))
+        return WRONG_WORD;
+    return use_name(&reader->names, MODEL_GROUP, *name, reader->file->section_count) ? NO_FAULT : NAME_USED;
+}
+
+static enum fault open_selector(struct reader *reader, struct text argument)
+{
+    struct file *file = reader->file;
+    struct text name;
+    enum fault fault = take_model_name(reader, argument, &name);
+    if (fault != NO_FAULT)
+        return fault;
+    if (file->selector_count >= reader->lent.selectors)
+        return BOUND_PASSED;
+    open_section(reader, SELECTOR_SECTION, file->selector_count);
+    reader->selector = &file->selectors[file->selector_count++];
+    *reader->selector = (struct selector){ .name = name, .first_choice = file->choice_count };
+    return NO_FAULT;
+}
+
+static enum fault open_model(struct reader *reader, struct text argument)
+{
+    struct file *file = reader->file;
+    struct text name;
+    enum fault fault = take_model_name(reader, argument, &name);
+    if (fault != NO_FAULT)
+        return fault;
+    if (file->model_count >= reader->lent.models)
+        return BOUND_PASSED;
+    open_section(reader, MODEL_SECTION, file->model_count);
+    reader->model = &file->models[file->model_count++];
+    *reader->model = (struct model){ .name = name, .first_waveform = file->waveform_count };
+    return NO_FAULT;
+}
+
+/* "one word: 1 to 40 of [these characters] then `.ibs`". */
+static enum fault read_file_name(struct reader *reader, struct text argument)
+{
+    static const char marks[] = "_^$~!#%&-{})(@'`";
+    struct text word;
+    if (!only_word(argument, &word) || length_of(word) < 5 || length_of(word) > MAX_NAME + 4
+        || memcmp(word.end - 4, ".ibs", 4) != 0)
+        return WRONG_WORD;
+    for (const uint8_t *at = word.start; at < word.end - 4; at++)
+        if (!((unsigned)*at - 'a' < 26 || (unsigned)*at - '0' < 10 || memchr(marks, *at, sizeof marks - 1) != NULL))
+            return WRONG_WORD;
+    reader->file->file_name = word;
+    return NO_FAULT;
+}
+
+static enum fault read_text(struct text argument, size_t longest, struct text *text)
+{
+    *text = argument;
+    return is_empty(argument) || length_of(argument) > longest ? WRONG_WORD : NO_FAULT;
+}
+
+static enum fault read_pin_heading(struct reader *reader, struct text heading)
+{
+    static const struct name columns[] = {
+        NAME("signal_name"), NAME("model_name"), NAME("R_pin"), NAME("L_pin"), NAME("C_pin"),
+    };
+    struct text word;
+    unsigned count = 0;
+    for (; next_word(&heading, &word); count++)
+        if (count == COUNT(columns) || !same_bytes(word, columns[count].spelling, columns[count].length))
+            return WRONG_WORD;
+    if (count != 2 && count != COUNT(columns))
+        return WRONG_WORD;
+    reader->long_heading = count > 2;
+    reader->component->first_pin = reader->file->pin_count;
+    open_list(reader, PIN_ROWS);
+    return NO_FAULT;
+}
+
+static void open_table(struct reader *reader, struct table *table, enum list list)
+{
+    *table = (struct table){ .first = reader->file->row_count, .given = true };
+    reader->table = table;
+    open_list(reader, list);
+}
+
+/* "16 waveforms a model, 1,024 in all". */
+static enum fault open_waveform(struct reader *reader, bool rising)
+{
+    struct file *file = reader->file;
+    if (reader->model->waveform_count >= MAX_MODEL_WAVEFORMS || file->waveform_count >= reader->lent.waveforms)
+        return BOUND_PASSED;
+    reader->waveform = &file->waveforms[file->waveform_count++];
+    *reader->waveform = (struct waveform){ .rising = rising };
+    reader->model->waveform_count++;
+    open_table(reader, &reader->waveform->table, WAVEFORM_LINES);
+    return NO_FAULT;
+}
+
+/* "Keywords without an argument named here take none." */
+static enum fault read_bare_keyword(struct reader *reader, enum keyword keyword, struct text argument)
+{
+    if (!is_empty(argument))
+        return WRONG_WORD;
+    switch (keyword) {
+    case PACKAGE:
+        open_list(reader, PACKAGE_LINES);
+        return NO_FAULT;
+    case RAMP:
+        reader->model->ramp.given = true;
+        open_list(reader, RAMP_LINES);
+        return NO_FAULT;
+    case RISING_WAVEFORM:
+    case FALLING_WAVEFORM:
+        return open_waveform(reader, keyword == RISING_WAVEFORM);
+    case END:
+        reader->place = AFTER_END;
+        return NO_FAULT;
+    default:
+        open_table(reader, &reader->model->tables[PULLDOWN_TABLE + (keyword - PULLDOWN)], CURRENT_ROWS);
+        return NO_FAULT;
+    }
+}
+
+static enum fault read_argument(struct reader *reader, enum keyword keyword, struct text argument)
+{
+    switch (keyword) {
+    case IBIS_VER:
+        return same_bytes(argument, "5.0", 3) ? NO_FAULT : WRONG_WORD;
+    case FILE_NAME:
+        return read_file_name(reader, argument);
+    case FILE_REV:
+        return read_text(argument, MAX_LINE, &reader->file->file_rev);
+    case DATE:
+    case SOURCE:
+    case NOTES:
+    case DISCLAIMER:
+    case COPYRIGHT:
+        open_list(reader, TEXT_LINES);
+        return NO_FAULT;
+    case COMPONENT:
+        return open_component(reader, argument);
+    case MANUFACTURER:
+        return read_text(argument, MAX_NAME, &reader->component->manufacturer);
+    case PIN:
+        return read_pin_heading(reader, argument);
+    case MODEL_SELECTOR:
+        return open_selector(reader, argument);
+    case MODEL:
+        return open_model(reader, argument);
+    case VOLTAGE_RANGE:
+        return read_cells(argument, CORNERS, false, reader->model->voltage);
+    case TEMPERATURE_RANGE:
+        return read_cells(argument, CORNERS, false, reader->model->temperature);
+    default:
+        return read_bare_keyword(reader, keyword, argument);
+    }
+}
+
+/*
+ * Takes the keyword off the line: "one or more parts, of characters other than blanks and underscores, joined by one
+ * space or one underscore", then `]`, then nothing or a blank. The spelling is cut at what any keyword can have.
+ */
+static bool take_keyword(struct text *line, uint8_t spelling[LONGEST_KEYWORD + 1], size_t *length)
+{
+    const uint8_t *at = line->start + 1;
+    bool in_part = false;
+    *length = 0;
+    for (; at < line->end && *at != ']'; at++) {
+        bool joint = *at == ' ' || *at == '_';
+        if (*at == '\t' || (joint && !in_part))
+            return false;
+        in_part = !joint;
+        if (*length <= LONGEST_KEYWORD)
+            spelling[(*length)++] = joint ? '_' : small_letter(*at);
+    }
+    if (at == line->end || !in_part)
+        return false;
+    line->start = at + 1;
+    return is_empty(*line) || is_blank(*line->start);
+}
+
+/* At a keyword line: what it closes, then 5, 6, 7, 8, then its argument. */
+static enum fault read_keyword_line(struct reader *reader, struct text line)
+{
+    uint8_t spelling[LONGEST_KEYWORD + 1];
+    size_t length;
+    enum fault fault = close_list(reader);
+    if (fault != NO_FAULT)
+        return fault;
+    if (!take_keyword(&line, spelling, &length))
+        return BADLY_FORMED;
+    enum keyword keyword = find_name((struct text){ spelling, spelling + length }, keyword_names, KEYWORDS);
+    if (keyword == KEYWORDS)
+        return NOT_CARRIED;
+    if (reader->place == BEFORE_VERSION) {
+        if (keyword != IBIS_VER)
+            return OUT_OF_PLACE;
+        reader->place = IN_HEADER;
+        reader->section_line = reader->line;
+    }
+    if (keyword_places[keyword] == ANY_PLACE) {
+        fault = close_section(reader);
+        if (fault != NO_FAULT)
+            return fault;
+        if (keyword == END && reader->file->component_count == 0)
+            return PART_MISSING;
+    } else if (keyword_places[keyword] != reader->place) {
+        return OUT_OF_PLACE;
+    }
+    uint32_t bit = 1u << keyword;
+    if (reader->given & bit & ~repeated_keywords)
+        return GIVEN_TWICE;
+    reader->given |= bit;
+    skip_blanks(&line);
+    return read_argument(reader, keyword, line);
+}
+
+/* ---- Lines ---- */
+
+enum { COMMENT_CHAR_LENGTH = sizeof "[Comment Char]" - 1 };
+
+/* "known by its text up to `]`": letter case is ignored, and space equals underscore. */
+static bool is_comment_char(struct text line)
+{
+    static const char spelling[] = "[comment_char]";
+    if (length_of(line) < COMMENT_CHAR_LENGTH || *line.start != '[')
+        return false;
+    for (unsigned i = 1; i < COMMENT_CHAR_LENGTH; i++) {
+        uint8_t byte = line.start[i] == ' ' ? '_' : small_letter(line.start[i]);
+        if (byte != (uint8_t)spelling[i])
+            return false;
+    }
+    return true;
+}
+
+/* Nothing is cut here, and nothing closed. */
+static enum fault read_comment_char(struct reader *reader, struct text line)
+{
+    static const char characters[] = "!\"#$%&'()*,:;<>?@\\^`{|}~";
+    line.start += COMMENT_CHAR_LENGTH;
+    if (reader->place == AFTER_END)
+        return OUT_OF_PLACE;
+    if (!is_empty(line) && !is_blank(*line.start))
+        return BADLY_FORMED;
+    if (reader->place == BEFORE_VERSION)
+        return OUT_OF_PLACE;
+    skip_blanks(&line);
+    if (length_of(line) < 6 || memchr(characters, *line.start, sizeof characters - 1) == NULL
+        || memcmp(line.start + 1, "_char", 5) != 0)
+        return WRONG_WORD;
+    uint8_t character = *line.start;
+    const uint8_t *after = line.start += 6;
+    skip_blanks(&line);
+    if (!is_empty(line) && (line.start == after || *line.start != character))
+        return WRONG_WORD;
+    reader->comment = character;
+    return NO_FAULT;
+}
+
+static enum fault read_plain_line(struct reader *reader, struct text line)
+{
+    skip_blanks(&line);
+    switch (reader->list) {
+    case TEXT_LINES:
+        return NO_FAULT;
+    case COMPONENT_LINES:
+        return read_component_line(reader, line);
+    case PACKAGE_LINES:
+        return read_package_line(reader, line);
+    case PIN_ROWS:
+        return read_pin(reader, line);
+    case CHOICE_ROWS:
+        return read_choice(reader, line);
+    case MODEL_LINES:
+        return read_model_line(reader, line);
+    case CURRENT_ROWS:
+        return read_row(reader, line);
+    case RAMP_LINES:
+        return read_ramp_line(reader, line);
+    case WAVEFORM_LINES:
+        return read_waveform_line(reader, line);
+    default:
+        return OUT_OF_PLACE;
+    }
+}
+
+/* "A line is cut at its first [comment character], then trailing blanks are cut. A line left empty is skipped." */
+static enum fault read_line(struct reader *reader, struct text line)
+{
+    reader->file->line = reader->line;
+    if (is_comment_char(line))
+        return read_comment_char(reader, line);
+    const uint8_t *comment = memchr(line.start, reader->comment, length_of(line));
+    if (comment != NULL)
+        line.end = comment;
+    while (line.end > line.start && is_blank(line.end[-1]))
+        line.end--;
+    if (is_empty(line))
+        return NO_FAULT;
+    if (reader->place == AFTER_END)
+        return OUT_OF_PLACE;
+    return *line.start == '[' ? read_keyword_line(reader, line) : read_plain_line(reader, line);
+}
+
+#define EACH(byte) (UINT64_C(0x0101010101010101) * (byte))
+
+/* Whether any of eight bytes is neither hex 20 to 7E nor tab; the sums stay within their bytes. */
+static bool any_forbidden(const uint8_t *bytes)
+{
+    uint64_t eight;
+    memcpy(&eight, bytes, sizeof eight);
+    uint64_t low = eight & EACH(0x7F);
+    uint64_t above = eight | (low + EACH(0x01));                /* top bit set from hex 7F on */
+    uint64_t printing = low + EACH(0x60);                       /* top bit set from hex 20 on */
+    uint64_t not_tab = (low ^ EACH('\t')) + EACH(0x7F);         /* top bit clear at a tab */
+    return ((above | (~printing & not_tab)) & EACH(0x80)) != 0;
+}
+
+static bool all_allowed(struct text line)
+{
+    const uint8_t *at = line.start;
+    if (length_of(line) < 8) {
+        while (at < line.end && (is_blank(*at) || (*at > ' ' && *at <= '~')))
+            at++;
+        return at == line.end;
+    }
+    for (; line.end - at > 8; at += 8)
+        if (any_forbidden(at))
+            return false;
+    return !any_forbidden(line.end - 8);
+}
+
+static enum fault check_line(struct text line, bool ended)
+{
+    if (!all_allowed(line))
+        return FORBIDDEN_BYTE;
+    if (length_of(line) > MAX_LINE)
+        return LINE_TOO_LONG;
+    return ended ? NO_FAULT : LINE_NOT_ENDED;
+}
+
+/* "2, 3, 4 over all lines; then lines from the top": after the first fault of a line, the rest is only checked. */
+static enum fault read_lines(struct reader *reader, const uint8_t *at, const uint8_t *end)
+{
+    enum fault first = NO_FAULT;
+    while (at < end) {
+        const uint8_t *feed = memchr(at, '\n', (size_t)(end - at));
+        struct text line = { at, feed != NULL ? feed : end };
+        reader->line++;
+        if (feed != NULL && feed > at && feed[-1] == '\r')
+            line.end--;
+        enum fault fault = check_line(line, feed != NULL);
+        if (fault != NO_FAULT)
+            return tell(reader, fault, reader->line);
+        if (first == NO_FAULT)
+            first = read_line(reader, line);
+        at = feed + 1;
+    }
+    if (first == NO_FAULT && reader->place != AFTER_END)
+        return tell(reader, NO_END, reader->line + 1);
+    return first;
+}
+
+/* ---- Which models are named where ---- */
+
+static enum fault resolve_pins(struct reader *reader, const struct component *component, bool *listed)
+{
+    struct pin *pins = reader->file->pins + component->first_pin;
+    for (uint32_t i = 0; i < component->pin_count; i++) {
+        if (pins[i].section == NO_SECTION)      /* "POWER, GND and NC need no model" */
+            continue;
+        pins[i].section = find_section(&reader->names, pins[i].model);
+        if (pins[i].section == NO_SECTION)
+            return tell(reader, MODEL_NOT_FOUND, pins[i].line);
+        listed[pins[i].section] = true;
+    }
+    return NO_FAULT;
+}
+
+/* "a selector row [names] a model": the name of a selector is not found. */
+static enum fault resolve_choices(struct reader *reader, const struct selector *selector, bool *listed)
+{
+    struct choice *choices = reader->file->choices + selector->first_choice;
+    for (uint32_t i = 0; i < selector->choice_count; i++) {
+        choices[i].section = find_section(&reader->names, choices[i].model);
+        if (choices[i].section == NO_SECTION || reader->file->sections[choices[i].section].kind != MODEL_SECTION)
+            return tell(reader, MODEL_NOT_FOUND, choices[i].line);
+        listed[choices[i].section] = true;
+    }
+    return NO_FAULT;
+}
+
+/* "Last, 15 over all pin and selector rows, then 16 over sections, each from the top of the file." */
+static enum fault resolve(struct reader *reader)
+{
+    struct file *file = reader->file;
+    bool listed[MAX_SECTIONS] = { false };
+    for (uint32_t i = 0; i < file->section_count; i++) {
+        const struct section *section = &file->sections[i];
+        enum fault fault = NO_FAULT;
+        if (section->kind == COMPONENT_SECTION)
+            fault = resolve_pins(reader, &file->components[section->number], listed);
+        if (section->kind == SELECTOR_SECTION)
+            fault = resolve_choices(reader, &file->selectors[section->number], listed);
+        if (fault != NO_FAULT)
+            return fault;
+    }
+    for (uint32_t i = 0; i < file->section_count; i++)
+        if (file->sections[i].kind != COMPONENT_SECTION && !listed[i])
+            return tell(reader, NOT_LISTED, file->sections[i].line);
+    return NO_FAULT;
+}
+
+static size_t least(size_t lent, size_t bound)
+{
+    return lent < bound ? lent : bound;
+}
+
+static void begin(struct reader *reader, const struct lengths *lent, struct file *file)
+{
+    file->line = 0;
+    file->section_count = file->component_count = file->pin_count = file->selector_count = 0;
+    file->choice_count = file->model_count = file->waveform_count = file->row_count = 0;
+    reader->file = file;
+    reader->lent.components = least(lent->components, MAX_COMPONENTS);
+    reader->lent.pins = least(lent->pins, MAX_PINS);
+    reader->lent.selectors = least(lent->selectors, MAX_SELECTORS);
+    reader->lent.choices = least(lent->choices, MAX_CHOICES);
+    reader->lent.models = least(lent->models, MAX_MODELS);
+    reader->lent.waveforms = least(lent->waveforms, MAX_WAVEFORMS);
+    reader->lent.rows = lent->rows;
+    reader->line = 0;
+    reader->comment = '|';
+    reader->place = BEFORE_VERSION;
+    reader->list = NO_LINES;
+    reader->given = reader->named = 0;
+    reader->names.count = 0;
+    memset(reader->names.slots, 0, sizeof reader->names.slots);
+}
+
+int second_read(const uint8_t *bytes, size_t length, const struct lengths *lent, struct file *file)
+{
+    struct reader reader;
+    begin(&reader, lent, file);
+    if (length > MAX_BYTES)
+        return FILE_TOO_LONG;
+    enum fault fault = length == 0 ? tell(&reader, NO_END, 1) : read_lines(&reader, bytes, bytes + length);
+    if (fault == NO_FAULT)
+        fault = resolve(&reader);
+    return (int)fault;
+}
