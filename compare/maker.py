@@ -3,9 +3,9 @@
 import argparse
 import sys
 
-import making.damages_of_bytes
 import making.damages_of_places
 import making.damages_of_words
+from making.damages_of_bytes import LONGEST_RECORD
 from making.damages_of_tables import BOUNDS, crowd
 from making.dice import Dice
 from making.draft import DAMAGES, KINDS, STAGES, Draft, NoPlace
@@ -53,6 +53,7 @@ def prepare(draft, stage):
         draft.needs = {part: sum(line.kind == kind for line in draft.lines) for part, kind in KINDS.items()}
         draft.data = ''.join(line.text + line.ending for line in draft.lines).encode('latin-1')
     elif stage == 'lent':
+        draft.data = draft.data[:LONGEST_RECORD]
         draft.lengths = lend(draft.dice, draft.needs)
 
 

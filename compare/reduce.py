@@ -9,6 +9,29 @@ from records import PARTS, answers, unpacked
 
 BATCH_BYTES = 1 << 20
 BATCH_RECORDS = 100
+SHORT_RUN = 8
+
+
+def batches(records):
+    """The records in lists that a reader can be run on at once."""
+    batch, size = [], 0
+    for record in records:
+        batch.append(record)
+        size += len(record.data)
+        if len(batch) == BATCH_RECORDS or size > BATCH_BYTES:
+            yield batch
+            batch, size = [], 0
+    if batch:
+        yield batch
+
+
+def run_lengths(count):
+    """Halves down to the short runs, then each length: a keyword and its rows go only together."""
+    size = count // 2
+    while size > SHORT_RUN:
+        yield size
+        size //= 2
+    yield from range(min(count, SHORT_RUN), 0, -1)
 
 
 class Reducer:
@@ -21,42 +44,38 @@ class Reducer:
     def late(self):
         return time.monotonic() > self.deadline
 
-    def first_differing(self, records):
-        """The place of the first of these records on which the readers differ, or nothing."""
+    def first_differing(self, tries):
+        """The first of these records on which the readers differ, with its place, or nothing."""
         at = 0
-        while at < len(records) and not self.late():
-            end, size = at, 0
-            while end < len(records) and end - at < BATCH_RECORDS and (end == at or size + len(records[end].data) <= BATCH_BYTES):
-                size += len(records[end].data)
-                end += 1
-            batch = records[at:end]
+        for batch in batches(tries):
             for place, dumps in enumerate(zip(answers(self.first, batch), answers(self.second, batch))):
                 if dumps[0] != dumps[1]:
-                    return at + place
-            at = end
+                    return at + place, batch[place]
+            at += len(batch)
+            if self.late():
+                break
         return None
 
     def without_runs(self, record, parts):
         """Drops runs of the file's parts, long ones first, one after another while the readers differ."""
-        size = max(1, len(parts) // 2)
-        while size:
-            at = 0
-            while at < len(parts):
-                tries = [parts[:start] + parts[start + size:] for start in range(at, len(parts), size)]
-                found = self.first_differing([record._replace(data=b''.join(left)) for left in tries])
+        for size in run_lengths(len(parts)):
+            step, at = (1 if size <= SHORT_RUN else size), 0
+            while at < len(parts) and not self.late():
+                starts = range(at, len(parts), step)
+                found = self.first_differing(record._replace(data=b''.join(parts[:start] + parts[start + size:])) for start in starts)
                 if found is None:
                     break
-                parts, at = tries[found], at + found * size
-            size //= 2
-        return record._replace(data=b''.join(parts))
+                at = starts[found[0]]
+                record, parts = found[1], parts[:at] + parts[at + size:]
+        return record
 
     def with_shorter_lengths(self, record):
         for place, length in enumerate(record.lengths):
-            tries = [record._replace(lengths=record.lengths[:place] + (less,) + record.lengths[place + 1:])
-                     for less in sorted({0, 1, length // 2, length - 1}) if 0 <= less < length]
-            found = self.first_differing(tries)
+            less = sorted({0, 1, length // 2, length - 1} & set(range(length)))
+            found = self.first_differing(record._replace(lengths=record.lengths[:place] + (shorter,) + record.lengths[place + 1:])
+                                         for shorter in less)
             if found is not None:
-                record = tries[found]
+                record = found[1]
         return record
 
     def reduce(self, record):
@@ -104,12 +123,13 @@ def main():
     parser.add_argument('--seconds', type=int, default=60, help='time limit')
     options = parser.parse_args()
     records = unpacked(sys.stdin.buffer.read())
-    place = Reducer(options.first, options.second, options.seconds).first_differing(records)
-    if place is None:
+    found = Reducer(options.first, options.second, options.seconds).first_differing(records)
+    if found is None:
         print('no record differs')
         return 1
-    print(f'record {place} differs')
-    reduce_and_show(options.first, options.second, records[place], options.seconds)
+    place, record = found
+    print(f'record {place} differs; as small as it gets:')
+    reduce_and_show(options.first, options.second, record, options.seconds)
     return 0
 
 

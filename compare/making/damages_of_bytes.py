@@ -39,7 +39,7 @@ def forbidden_byte(draft):
     line.text = line.text[:at] + dice.pick(FORBIDDEN + BORDER) + line.text[at:]
 
 
-@damage('written', 15)
+@damage('written', 22)
 def line_end(draft):
     """Other line ends: a CR alone, two of them, or none at the end of the file."""
     dice = draft.dice
@@ -56,7 +56,7 @@ def comment_char(draft):
     dice = draft.dice
     keyword = dice.pick(CHANGE_KEYWORDS[:3] if dice.chance(80) else CHANGE_KEYWORDS)
     mark = dice.pick(MARKS if dice.chance(75) else NO_MARKS)
-    text = dice.pick(CHANGES).format(k=keyword, m=mark)
+    text = dice.pick(CHANGES if mark in MARKS else CHANGES + ['{k} {m}_char'] * 30).format(k=keyword, m=mark)
     changes = [place for place, line in enumerate(draft.lines) if line.kind == 'comment char']
     if changes and dice.chance(40):
         draft.lines[draft.choose(changes)].text = text
@@ -122,7 +122,7 @@ def size(draft):
     draft.data = draft.data[:at] + padding + draft.data[at:]
 
 
-@damage('bytes', 5)
+@damage('bytes', 8)
 def cut_short(draft):
     """The file ends anywhere, also before it begins, or is hardly one."""
     dice = draft.dice

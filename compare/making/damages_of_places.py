@@ -85,6 +85,16 @@ def stray_line(draft):
     draft.insert(draft.any_place(), draft.dice.pick(LOOSE))
 
 
+@damage('lines', 5)
+def line_after_row(draft):
+    """A named line after the first or a later row of its table, or in its list, where named lines may stand or not."""
+    rows = [place for place, line in enumerate(draft.lines) if line.kind == 'row']
+    first = [place for place in rows if draft.lines[place - 1].kind != 'row']
+    at = draft.choose(first if draft.dice.chance(60) else rows)
+    named = [line.text for line in draft.lines if line.kind in ('fixture', 'first')] + LOOSE
+    draft.insert(at + draft.dice.below(2), draft.dice.pick(named))
+
+
 @damage('lines', 4)
 def line_replaced(draft):
     draft.lines[draft.place()].text = draft.dice.pick(LOOSE + CARRIED)

@@ -9,10 +9,8 @@ BOUNDS = {'components': 8, 'pins': 512, 'selectors': 32, 'choices': 256, 'models
 THRESHOLDS = ['0.8', '8e-1', '0.800000000000001', '0.799999999999999', '2.0', '2', '+2000m', '1.99999999999999', '2.00000000000001',
               '-1e24', '1e24', '0', '1e-40', '-1e-40', '0e99', '-0']
 SLOPES = ['1', '1/', '/1', '/', '1//1', '1/2/3', 'NA/1', '1/NA', 'NA/NA', 'x/1', '1/x', '1e99/x', 'x/1e99', '1e99/1', '1/1e99',
-          '1e99/0', '1/1e-41', '0/1', '-1/1', '-1/-1', '1e/1e',
-          '1V/1ns', '1 /1', '1/ 1', 'NA', 'na', '1=1', '1-1', '1,1', '1:1', '1\\1', '1.1.1', '1/=1', '+1/+1', '1e24/1e24', '1234567890123456/1', '1/1234567890123456']
-
-
+          '1e99/0', '1/1e-41', '0/1', '-1/1', '-1/-1', '1e/1e', '1V/1ns', '1 /1', '1/ 1', 'NA', 'na', '1=1', '1-1', '1,1', '1:1',
+          '1\\1', '1.1.1', '1/=1', '+1/+1', '1e24/1e24', '1234567890123456/1', '1/1234567890123456']
 SLOPES_OVER_NOTHING = ['1/0', '1/0.0', '1/-0', '1/0e99', '0/0', '1/0k', '1/-1', '1/-1e-40', '1/1e-40', '1/.0', '-1/0']
 
 
@@ -84,7 +82,7 @@ def slope_wrong(draft):
         line.text = with_word(line.text, number, draft.dice.pick(draft.dice.pick([SLOPES, SLOPES, SLOPES_OVER_NOTHING])))
 
 
-@damage('lines', 42)
+@damage('lines', 36)
 def thresholds_near(draft):
     """Vinl and Vinh of a model, or one of them, at the border of being in order."""
     dice = draft.dice

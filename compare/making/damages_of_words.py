@@ -42,7 +42,7 @@ def number_past_limit(draft):
     replace_number(draft, past_limit(draft.dice))
 
 
-@damage('lines', 8)
+@damage('lines', 12)
 def number_missing(draft):
     replace_number(draft, draft.pen.missing(), 70)
 
@@ -142,11 +142,14 @@ def name_length(draft):
 def name_not_allowed(draft):
     """A reserved word in any case, or a bracket, where a name stands."""
     dice = draft.dice
-    line = draft.lines[draft.place('pin', 'pin', 'choice', 'model', 'selector', 'component', 'manufacturer')]
+    kinds = ('pin',) if dice.chance(40) else ('choice', 'model', 'selector', 'component', 'manufacturer')
+    line = draft.lines[draft.place(*kinds)]
     reserved = dice.pick(RESERVED)
     name = dice.pick([reserved, reserved.lower(), dice.flipped(reserved), '[x', '[', '[End]', reserved + 'S', 'x['])
-    if line.kind == 'pin' and dice.chance(70):
-        line.text = with_word(line.text, dice.pick([1, 2, 2]), name)
+    if line.kind == 'pin' and dice.chance(30):
+        line.text = with_word(line.text, 2, dice.flipped(dice.pick(['NA', 'CIRCUITCALL'])))
+    elif line.kind == 'pin' and dice.chance(60):
+        line.text = with_word(line.text, dice.pick([1, 2]), name)
     elif line.kind in ('pin', 'choice') and name.startswith('['):
         line.text = ' ' + with_word(line.text.strip(), 0, name)
     else:

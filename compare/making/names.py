@@ -6,7 +6,7 @@ RESERVED = ['POWER', 'GND', 'NC', 'NA', 'CIRCUITCALL']
 NEEDLESS = ['POWER', 'GND', 'NC']
 GRAPHIC = [chr(code) for code in range(0x21, 0x7F)]
 FILE_NAME_CHARACTERS = string.ascii_lowercase + string.digits + "_^$~!#%&-{})(@'`"
-NEARLY = ['GNDX', 'XGND', 'NAN', 'N', 'NCC', 'POWER1', 'POWE', 'nax', 'CIRCUITCALLS', 'G.ND', '5.0', 'signal_name', 'Vinl',
+NEARLY = ['GND', 'gnd', 'NA', 'nc', 'Power', 'CIRCUITCALL', 'GNDX', 'XGND', 'NAN', 'N', 'NCC', 'POWER1', 'POWE', 'nax', 'CIRCUITCALLS', 'G.ND', '5.0', 'signal_name', 'Vinl',
           'Vinl=1', '=', '1', 'x]', 'Model_type', 'R_pkg', '-', '!x', 'a|b', '"', "it's", '(in)', '#1', '[', '[x', '[End]']
 
 

@@ -8,7 +8,7 @@ use native.Mathlib.Omega.{arith}
 use lib.ListN.{length}
 use Rattle.laws.specs.Bytes.{bytes}
 use Rattle.laws.specs.Lists.{eqs}
-use Rattle.laws.proofs.Tests.{cond-yes, cond-no, cond-map, and-both, and-left, and-right}
+use Rattle.laws.proofs.Tests.{cond-yes, cond-no, cond-same, cond-map, and-both, and-left, and-right}
 use Rattle.rules.specs.Component.{heading}
 use Rattle.cells.specs.Headings.{headingRead, restRead}
 use Rattle.cells.specs.declared.HeadingRead.the-variants.{Short, Long, NoHeading}
@@ -20,20 +20,16 @@ two-steps true true false = refl
 two-steps true false u = refl
 two-steps false t u = refl
 
-no-matter : (t : Bool) → NoHeading ≡ cond t NoHeading NoHeading
-no-matter true = refl
-no-matter false = refl
-
 abbrev areNamed : List ℕ → List ℕ → Bool
 areNamed a b = eqs a (bytes "signal_name") && eqs b (bytes "model_name")
 
 heading-from : (a b : List ℕ) (ws : List (List ℕ)) → headingRead (heading (a ∷ b ∷ ws)) ≡ cond (areNamed a b) (restRead ws) NoHeading
 unfolding heading restRead
 heading-from a b [] = cond-map headingRead (areNamed a b) (some false) none
-heading-from a b (c ∷ []) = no-matter (areNamed a b)
-heading-from a b (c ∷ d ∷ []) = no-matter (areNamed a b)
+heading-from a b (c ∷ []) = cond-same (areNamed a b) NoHeading
+heading-from a b (c ∷ d ∷ []) = cond-same (areNamed a b) NoHeading
 heading-from a b (c ∷ d ∷ e ∷ []) = two-steps (eqs a (bytes "signal_name")) (eqs b (bytes "model_name")) _
-heading-from a b (c ∷ d ∷ e ∷ f ∷ ws) = no-matter (areNamed a b)
+heading-from a b (c ∷ d ∷ e ∷ f ∷ ws) = cond-same (areNamed a b) NoHeading
 
 pub heading-few : (ws : List (List ℕ)) → length ws ≤ 1 → NoHeading ≡ headingRead (heading ws)
 unfolding heading

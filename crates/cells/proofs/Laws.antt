@@ -9,7 +9,7 @@ use lib.ListN.{length, take, drop, getD, drop-of-length-le, length-drop}
 use borrow.Author.Tests.{eq-eqb, ne-eqb, lt-ltb, le-ltb}
 use Rattle.laws.specs.Lists.{front, after, other, part}
 use Rattle.laws.proofs.Tests.{cond-yes, cond-no, and-both, and-left, and-right}
-use Rattle.laws.proofs.Lists.{from-cons}
+use Rattle.laws.proofs.Lists.{from-cons, part-rest}
 use Rattle.laws.proofs.Fronts.{front-take, after-drop, among-found}
 use Rattle.decimal.specs.Decimal.{numberOf, cellOf}
 use Rattle.decimal.specs.declared.NumberRead.the-variants.{Wrong}
@@ -21,7 +21,6 @@ use Rattle.rules.specs.declared.RowRead.the-variants.{Amiss}
 use Rattle.rules.specs.declared.RampCellRead.the-variants.{Faulted}
 use Rattle.rules.specs.declared.RampTriple.{RampTriple}
 use Rattle.rules.specs.declared.RampRead.the-variants.{Slopes, Refused}
-use Rattle.cells.proofs.General.{part-rest}
 use Rattle.cells.specs.Threes.{bytesOf, ThreeAre}
 
 -- ---- words that are too few or too many

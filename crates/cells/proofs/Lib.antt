@@ -1,6 +1,4 @@
--- The laws that the proofs cite; `Chains` and `Headings` are for the crates above too.
+-- The laws that the proofs cite; `Headings` is for the crates above too.
 
-pub mod General
-pub mod Chains
 pub mod Laws
 pub mod Headings

@@ -2,10 +2,10 @@
 use Prim.Native.Nat.{ℕ, _≤_, _<_}
 use mathlib.Core.Path.{_≡_, refl, sym, ap, _∙_}
 use mathlib.Core.List.{List, [], _∷_}
-use mathlib.Core.Bool.{Bool, true, false, cond, _&&_}
+use mathlib.Core.Bool.{Bool, true, false, _&&_}
 use native.Mathlib.Omega.{arith}
 use lib.ListN.{length}
-use Rattle.laws.proofs.Tests.{cond-yes, cond-no}
+use Rattle.laws.proofs.Tests.{cond-yes, cond-no, cond-same}
 use Rattle.rules.specs.Fields.{isPinName, isSized, isPinModel}
 use Rattle.rules.specs.Going.{firstOf}
 use Rattle.rules.specs.Component.{pinNames, cellsFault, pinRow}
@@ -39,10 +39,6 @@ row-few long (a ∷ []) h = refl
 row-few long (a ∷ b ∷ []) h = refl
 row-few long (a ∷ b ∷ c ∷ ws) h = absurd (omega arith)
 
-no-matter : (t : Bool) (n : ℕ) → n ≡ cond t n n
-no-matter true n = refl
-no-matter false n = refl
-
 module _ (a b c : List ℕ) where
   abbrev passes : Bool
   passes = isPinName a && (isSized 40 b && isPinModel c)
@@ -60,7 +56,7 @@ module _ (a b c : List ℕ) where
   fails long [] h = sym (names-fail h)
   fails long (d ∷ []) h = refl
   fails long (d ∷ e ∷ []) h = refl
-  fails long (d ∷ e ∷ f ∷ []) h = rw (names-fail h) (no-matter long 10)
+  fails long (d ∷ e ∷ f ∷ []) h = rw (names-fail h) (cond-same long 10)
   fails long (d ∷ e ∷ f ∷ g ∷ ws) h = refl
 
   short : (d : List ℕ) (ws : List (List ℕ)) → 10 ≡ pinRow false (a ∷ b ∷ c ∷ d ∷ ws)

@@ -9,6 +9,7 @@ mod word; // word.rt: the parts of a word
 
 use word::Exponent;
 use word::exponent_at;
+pub use word::letter;
 use word::letters_from;
 use word::mantissa_at;
 use word::scale_down;

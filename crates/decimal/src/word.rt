@@ -190,7 +190,7 @@ pub(crate) fn exponent_at(w: &[u8], at: usize) -> Exponent
     }
 }
 
-fn letter(byte: u8) -> bool
+pub fn letter(byte: u8) -> bool
     ensures { λ r. ⌜ r ≡ isLetter byte ⌝ }
 {
     match byte {

@@ -1,24 +1,17 @@
 -- Laws on model types by their letters, on a line's fault by its place, and on what must not be there.
-use Prim.Native.Nat.{ℕ, _+_, _≤_, _<_}
-use mathlib.Core.Path.{_≡_, refl, sym, ap, _∙_}
-use mathlib.Core.List.{List, [], _∷_}
-use mathlib.Core.Bool.{Bool, true, false, cond, not, _||_}
+use Prim.Native.Nat.{ℕ, _≤_, _<_}
+use mathlib.Core.Path.{_≡_, ap}
+use mathlib.Core.List.{List}
+use mathlib.Core.Bool.{true, false, not, or-true}
 use native.Mathlib.Omega.{arith}
 use lib.ListN.{length, take, length-take}
-use lib.Dec.{eqb}
 use borrow.Author.Tests.{ne-eqb, le-leb, lt-leb}
 use Rattle.laws.specs.Bytes.{bytes}
 use Rattle.laws.specs.Lists.{eqs}
-use Rattle.laws.proofs.Tests.{by-test, cond-yes, cond-no, or-none}
-use Rattle.laws.proofs.Numbers.{Apart, apart-le}
-use Rattle.laws.proofs.Same.{eqs-eq}
-use Rattle.rules.specs.Fields.{oneOf, namedWord, wordFault, tripleFault, numberFault, rampFault, namedCells, namedSlopes, assignedNumber}
+use Rattle.laws.proofs.Tests.{cond-yes, cond-no, or-none}
+use Rattle.laws.proofs.Same.{eqs-apart}
+use Rattle.rules.specs.Fields.{oneOf, numberFault, rampFault, namedSlopes, assignedNumber}
 use Rattle.rules.specs.Model.{isInput, isDriven, firstFault, rampLineFault}
-use Rattle.rules.specs.Tables.{modelTypes, polarities, enables}
-
--- lists of other lengths are not the same
-apart : (l m : List ℕ) → (length l ≡ length m → ⊥) → eqs l m ≡ false
-apart l m h = by-test (eqs l m) (λ e. absurd (h (ap length (eqs-eq l m e)))) (λ e. e)
 
 -- ---- "Types that begin Input or I/O"
 
@@ -26,21 +19,17 @@ pub input-short : (t : List ℕ) → length t < 3 → isInput t ≡ false
 unfolding isInput
 input-short t h =
     rw (
-      apart (take 5 t) (bytes "Input") (λ e. absurd (omega (arith, h, e, length-take 5 t))),
-      apart (take 3 t) (bytes "I/O") (λ e. absurd (omega (arith, h, e, length-take 3 t))),
+      eqs-apart (take 5 t) (bytes "Input") (λ e. absurd (omega (arith, h, e, length-take 5 t))),
+      eqs-apart (take 3 t) (bytes "I/O") (λ e. absurd (omega (arith, h, e, length-take 3 t))),
     )
 
 pub input-io : (t : List ℕ) → eqs (take 3 t) (bytes "I/O") ≡ true → isInput t ≡ true
 unfolding isInput
-input-io t e = rw e (or-true (eqs (take 5 t) (bytes "Input")))
-  where
-    or-true : (b : Bool) → (b || true) ≡ true
-    or-true true = refl
-    or-true false = refl
+input-io t e = rw (e, or-true)
 
 pub input-not : (t : List ℕ) → eqs (take 3 t) (bytes "I/O") ≡ false → length t < 5 → isInput t ≡ false
 unfolding isInput
-input-not t e h = rw (e, apart (take 5 t) (bytes "Input") (λ q. absurd (omega (arith, h, q, length-take 5 t))))
+input-not t e h = rw (e, eqs-apart (take 5 t) (bytes "Input") (λ q. absurd (omega (arith, h, q, length-take 5 t))))
 
 pub input-word : (t : List ℕ) → eqs (take 3 t) (bytes "I/O") ≡ false → isInput t ≡ eqs (take 5 t) (bytes "Input")
 unfolding isInput

@@ -15,7 +15,8 @@ use Rattle.laws.specs.Bytes.{isBlank}
 use Rattle.laws.specs.Lists.{front, after, other, part, eqs}
 use Rattle.laws.proofs.Tests.{by-order, cond-yes, cond-no}
 use Rattle.laws.proofs.Lists.{from-cons, part-none, part-length}
-use Rattle.laws.proofs.Fronts.{after-at, front-at}
+use Rattle.laws.proofs.Fronts.{after-at, front-at, front-front}
+use Rattle.laws.proofs.Same.{front-same}
 use Rattle.decimal.specs.Decimal.{numberOf}
 use Rattle.decimal.specs.declared.NumberRead.{NumberRead}
 use Rattle.decimal.specs.declared.NumberRead.the-variants.{Wrong}
@@ -27,7 +28,6 @@ use Rattle.rules.specs.Fields.{oneWord, firstWord, otherWords, nameOf, isNameAl
 use Rattle.fields.specs.Places.{isNameByte, onlyWord, FirstWordIs, OneIs, WordIs}
 use Rattle.fields.specs.declared.WordRead.{WordRead}
 use Rattle.fields.specs.declared.WordRead.the-variants.{One, NoWord}
-use Rattle.fields.proofs.General.{front-front, front-same}
 
 -- ---- the first word
 

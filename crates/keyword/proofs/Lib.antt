@@ -1,3 +1,4 @@
 -- Laws on keyword lines.
 
 pub mod Laws
+pub mod Arguments

@@ -114,6 +114,17 @@ module _ {A : Type 0} (p : A → Bool) where
   unfolding all
   all-at l i d h = rw (from-cons l i d h)
 
+-- a front of a front is the front by both tests
+pub front-front : {A : Type 0} (p q r : A → Bool) → ((b : A) → r b ≡ (q b && p b)) → (l : List A) → front p (front q l) ≡ front r l
+unfolding front
+front-front p q r h [] = refl
+front-front p q r h (b ∷ bs) =
+    by-test (q b)
+    (λ e. by-test (p b)
+    (λ k. let z : r b ≡ true = h b ∙ rw (e, k) in rw (e, k, z) (ap (λ (m : List _). b ∷ m) (front-front p q r h bs)))
+    (λ k. let z : r b ≡ false = h b ∙ rw (e, k) in rw (e, k, z)))
+    (λ e. let z : r b ≡ false = h b ∙ rw e in rw (e, z))
+
 -- ---- the test against one byte
 
 pub other-no : (c b : ℕ) → b ≡ c → other c b ≡ false

@@ -6,7 +6,7 @@ use native.Mathlib.Numerals.{add-one, sub-one}
 use native.Mathlib.Nat.{not-suc-le-zero}
 use native.Mathlib.Omega.{arith}
 use lib.ListN.{length, take, drop, getD, drop-of-length-le, length-take, length-drop}
-use lib.Seq.{drop-cons, take-suc, getD-take, getD-drop}
+use lib.Seq.{drop-cons, take-all, take-suc, take-nil, take-take, drop-drop, getD-take, getD-drop}
 use Rattle.laws.specs.Lists.{part}
 
 module _ {A : Type 0} where
@@ -38,6 +38,10 @@ module _ {A : Type 0} where
       let k : a + 0 ≡ a = omega arith in
       getD-take (e - a) (drop a s) 0 d (omega arith) ∙ getD-drop a s 0 d ∙ ap (λ (n : ℕ). getD s n d) k
 
+-- the part up to the end
+pub part-rest : {A : Type 0} (s : List A) (a : ℕ) → part a (length s) s ≡ drop a s
+part-rest s a = take-all (length s - a) (drop a s) (omega (arith, length-drop a s))
+
 -- a list with no element
 pub none-of : {A : Type 0} (l : List A) → length l ≡ 0 → l ≡ []
 none-of [] h = refl
@@ -57,3 +61,24 @@ part-more s a e d h k =
     ap (λ (j : ℕ). take j (drop a s)) (n ∙ add-one (e - a))
     ∙ take-suc (drop a s) (e - a) d l
     ∙ ap (λ (b : _). take (e - a) (drop a s) ++ (b ∷ [])) (getD-drop a s (e - a) d ∙ ap (λ (j : ℕ). getD s j d) m)
+
+-- ---- parts of parts
+
+pub drop-take : {A : Type 0} (l : List A) (i m : ℕ) → drop i (take m l) ≡ take (m - i) (drop i l)
+drop-take l zero m = let e : m - 0 ≡ m = omega arith in rw e refl
+drop-take [] (suc i) m = rw (take-nil {A = _} m) rw (take-nil {A = _} (m - suc i)) refl
+drop-take (x ∷ xs) (suc i) zero = let e : 0 - suc i ≡ 0 = omega arith in rw e refl
+drop-take (x ∷ xs) (suc i) (suc m) = let e : suc m - suc i ≡ m - i = omega arith in rw e (drop-take xs i m)
+
+module _ {A : Type 0} (s : List A) (a e : ℕ) where
+  pub part-from : (i : ℕ) → drop i (part a e s) ≡ part (a + i) e s
+  part-from i =
+      let n : e - a - i ≡ e - (a + i) = omega arith in
+      drop-take (drop a s) i (e - a) ∙ (rw (drop-drop i a s) rw n refl)
+
+  pub part-part : (i j : ℕ) → j ≤ e - a → part i j (part a e s) ≡ part (a + i) (a + j) s
+  part-part i j h =
+      let n : e - a - i ≡ e - (a + i) = omega arith in
+      let m : a + j - (a + i) ≡ j - i = omega arith in
+      let k : j - i ≤ e - (a + i) = omega (arith, h) in
+      ap (take (j - i)) (part-from i) ∙ take-take (j - i) (e - (a + i)) (drop (a + i) s) k ∙ (rw m refl)

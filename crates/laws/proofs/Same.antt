@@ -1,14 +1,16 @@
--- `eqs`: from a place on, with any function on the first list's bytes, and that it is equality.
+-- `eqs`: from a place on, with any function on the first list's bytes; that it is equality, and not of other lengths.
 use Prim.Native.Nat.{ℕ, _+_, _≤_, _<_}
 use mathlib.Core.Path.{_≡_, refl, sym, ap, ap₂, _∙_}
 use mathlib.Core.List.{List, [], _∷_, map}
-use mathlib.Core.Bool.{true, false, _&&_}
-use lib.ListN.{length, drop, getD, drop-of-length-le}
+use mathlib.Core.Bool.{Bool, true, false, _&&_}
+use lib.ListN.{length, take, drop, getD, drop-of-length-le}
+use lib.Seq.{take-length}
 use lib.Dec.{eqb, leb}
-use borrow.Author.Tests.{eq-eqb, ne-eqb, eqb-true, lt-leb, le-leb}
-use Rattle.laws.specs.Lists.{eqs}
+use borrow.Author.Tests.{eq-eqb, ne-eqb, eqb-true, eqb-false, lt-leb, le-leb}
+use Rattle.laws.specs.Lists.{front, eqs}
 use Rattle.laws.proofs.Tests.{by-test, by-order}
 use Rattle.laws.proofs.Lists.{from-cons}
+use Rattle.laws.proofs.Fronts.{front-take}
 
 module _ (f : ℕ → ℕ) (w n : List ℕ) (i : ℕ) where
   -- the second is shorter
@@ -56,3 +58,17 @@ eqs-eq (a ∷ l) (b ∷ m) h =
     by-test (eqb a b)
     (λ e. ap₂ (λ (x : ℕ) (xs : List ℕ). x ∷ xs) (eqb-true a b e) (eqs-eq l m (simp e at h)))
     (λ e. let z : false ≡ true = simp e at h in cc)
+
+-- lists of other lengths are not the same
+pub eqs-apart : (l m : List ℕ) → (length l ≡ length m → ⊥) → eqs l m ≡ false
+eqs-apart l m h = by-test (eqs l m) (λ e. absurd (h (ap length (eqs-eq l m e)))) (λ e. e)
+
+-- a front is the list exactly if it is as long
+pub front-same : (p : ℕ → Bool) (l : List ℕ) → eqs (front p l) l ≡ eqb (length (front p l)) (length l)
+front-same p l =
+    by-test (eqb (length (front p l)) (length l))
+    (λ h.
+    let n = eqb-true (length (front p l)) (length l) h in
+    let e : front p l ≡ l = sym (front-take p l) ∙ ap (λ (k : ℕ). take k l) n ∙ take-length l in
+    ap (λ (m : List ℕ). eqs m l) e ∙ eqs-refl l ∙ sym h)
+    (λ h. eqs-apart (front p l) l (eqb-false (length (front p l)) (length l) h) ∙ sym h)

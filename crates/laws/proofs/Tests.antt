@@ -31,6 +31,11 @@ pub cond-map : {X Y : Type 0} (f : X → Y) (t : Bool) (a b : X) → f (cond t a
 cond-map f true a b = refl
 cond-map f false a b = refl
 
+-- a test that does not matter
+pub cond-same : {X : Type 0} (t : Bool) (a : X) → a ≡ cond t a a
+cond-same true a = refl
+cond-same false a = refl
+
 pub and-both : (s t : Bool) → s ≡ true → t ≡ true → (s && t) ≡ true
 and-both true t h k = k
 and-both false t h k = h
@@ -67,3 +72,7 @@ or-left false t h = refl
 pub or-right : (s t : Bool) → (s || t) ≡ false → t ≡ false
 or-right true t h = cc
 or-right false t h = h
+
+-- from an impossible equation anything follows: `cc` proves it where two constructors that differ are said to be equal
+pub impossible : {X : Type 0} → _≡_ {A = ℕ} 0 1 → X
+impossible e = absurd (omega arith)

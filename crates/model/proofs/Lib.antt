@@ -1,3 +1,2 @@
 -- Laws on the steps of a model.
-pub mod General
 pub mod Laws

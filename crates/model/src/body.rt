@@ -2,7 +2,6 @@
 ghost use mathlib.Core.Bool.{cond};
 ghost use mathlib.Core.Path.{_≡_};
 ghost use lib.Dec.{eqb};
-ghost use Rattle.laws.specs.Bytes.{isLetter};
 ghost use Rattle.words.specs.Words.{words};
 ghost use Rattle.rules.specs.Fields.{firstWord, namedWord, assignedNumber, lineAt, rowOf};
 ghost use Rattle.rules.specs.Tables.{modelLines, rampLines, fixtures};
@@ -178,15 +177,6 @@ fn fixture_line(m: ModelState, line: u64, given: Given, r: RowsSeen, k: u64, w: 
     quiet(with_list(m, list))
 }
 
-fn letter(b: u8) -> bool
-    ensures { λ t. ⌜ t ≡ isLetter b ⌝ }
-{
-    match b {
-        b'A'..=b'Z' | b'a'..=b'z' => true,
-        _ => false,
-    }
-}
-
 // The first word begins with a letter.
 fn begins_letter(w: &[u8]) -> bool
     ensures { λ t. ⌜ t ≡ beginsLetter (firstWord (words (now (w .entry)))) ⌝ }
@@ -197,7 +187,7 @@ fn begins_letter(w: &[u8]) -> bool
     if end <= start {
         return false;
     }
-    letter(w[start])
+    decimal::letter(w[start])
 }
 
 // Such a line is no row, and may not follow one.

@@ -4,7 +4,7 @@ use mathlib.Core.List.{List, [], _∷_, _++_, map}
 use mathlib.Core.Bool.{Bool, true, false, cond}
 use mathlib.Core.Option.{Option, none, some}
 use mathlib.Core.Path.{_≡_}
-use lib.ListN.{length, drop, getD, replicate}
+use lib.ListN.{length, take, drop, getD, replicate}
 use lib.Dec.{eqb}
 use Rattle.decimal.specs.Decimal.{wordOf}
 use Rattle.decimal.specs.declared.Cell.{Cell}
@@ -85,11 +85,12 @@ pub record SaysTheSame (f g : FileIs) : Type 0 where
 unfoldable pub padded : ℕ → List ℕ → List ℕ
 padded n w = w ++ replicate (n - length w) 0
 
+-- names that pass their checks have at most 40 bytes, and no line has more than 120: nothing is cut here
 abbrev pub nameLaid : List ℕ → Name
-nameLaid w = record { bytes = padded 40 w; len = length w }
+nameLaid w = record { bytes = padded 40 (take 40 w); len = length (take 40 w) }
 
 abbrev pub wordsLaid : List ℕ → Words
-wordsLaid w = record { bytes = padded 120 w; len = length w }
+wordsLaid w = record { bytes = padded 120 (take 120 w); len = length (take 120 w) }
 
 -- ---- the tables: what lies in them from their start on; of the rows, four words each
 

@@ -170,7 +170,7 @@ onComponentPart c w ls Manufacturer = record { name = c .name; locations = c .lo
 onComponentPart c w ls Package =
     record { name = c .name; locations = c .locations; manufacturer = c .manufacturer; boxed = packageIn (c .boxed) ls; pins = c .pins }
 onComponentPart c w ls Pin =
-    record { name = c .name; locations = c .locations; manufacturer = c .manufacturer; boxed = c .boxed; pins = map pinIn ls }
+    record { name = c .name; locations = c .locations; manufacturer = c .manufacturer; boxed = c .boxed; pins = c .pins ++ map pinIn ls }
 
 abbrev pub onComponentKey : ComponentIs → List ℕ → List (List ℕ) → Option Keyword → ComponentIs
 onComponentKey c w ls none = c

@@ -228,13 +228,13 @@ pub struct Header {
 
 // The records of a section that lie in another table: the first one's place, and how many.
 pub struct Span {
-    pub start: u32,
-    pub count: u32,
+    pub start: usize,
+    pub count: usize,
 }
 
 // section is the place among all sections of the file, from 0.
 pub struct Component {
-    pub section: u32,
+    pub section: usize,
     pub name: Name,
     pub si: Location,
     pub timing: Location,
@@ -256,7 +256,7 @@ pub struct Pin {
 }
 
 pub struct Selector {
-    pub section: u32,
+    pub section: usize,
     pub name: Name,
     pub choices: Span,
 }
@@ -294,7 +294,7 @@ pub struct RampTable {
 
 // polarity: First is Inverting, Second Non-Inverting; enable: First is Active-High, Second Active-Low.
 pub struct Model {
-    pub section: u32,
+    pub section: usize,
     pub name: Name,
     pub kind: ModelType,
     pub polarity: Marked,

@@ -11,10 +11,10 @@ use lib.Dec.{eqb}
 use borrow.Author.Tests.{eq-eqb, ne-eqb}
 use Rattle.laws.specs.Bytes.{bytes, isBlank}
 use Rattle.laws.specs.Lists.{front, after, among, eqs, other, part}
-use Rattle.laws.proofs.Tests.{by-test, cond-yes, cond-no, and-both, and-left, and-right}
+use Rattle.laws.proofs.Tests.{cond-yes, cond-no, and-both, and-left, and-right}
 use Rattle.laws.proofs.Lists.{from-cons}
 use Rattle.laws.proofs.Fronts.{after-at, after-stops, other-is}
-use Rattle.laws.proofs.Same.{eqs-eq}
+use Rattle.laws.proofs.Same.{eqs-apart}
 use Rattle.keyword.specs.Form.{closing, isClosed, spelled, argument}
 use Rattle.keyword.proofs.Laws.{inside-at, closing-at}
 use Rattle.texts.specs.Change.{begins, isChange, marks, noneOr, isRemark, changeTo, changeOf}
@@ -107,16 +107,12 @@ module _ (x : ℕ) (w : List ℕ) (at : ℕ) where
 
 -- ---- `changeTo`
 
-shorter : (l m : List ℕ) → length l < length m → eqs l m ≡ false
-shorter l m h =
-    by-test (eqs l m) (λ e. let z = ap length (eqs-eq l m e) in absurd (omega (arith, z, h))) (λ e. e)
-
 pub to-short : (w : List ℕ) → length w < 6 → changeTo w ≡ Wrong 10
 unfolding changeTo
 to-short [] h = refl
 to-short (x ∷ bs) h =
     cond-no _ _
-    (and-right (among x marks) _ (and-left (eqs (take 5 bs) (bytes "_char")) _ (shorter (take 5 bs) (bytes "_char") (omega (arith, length-take 5 bs)))))
+    (and-right (among x marks) _ (and-left (eqs (take 5 bs) (bytes "_char")) _ (eqs-apart (take 5 bs) (bytes "_char") (λ e. absurd (omega (arith, h, e, length-take 5 bs))))))
 
 module _ (w : List ℕ) (h : 6 ≤ length w) where
   to-long : changeTo w

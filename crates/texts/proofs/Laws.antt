@@ -79,3 +79,8 @@ rest-change s c f n h =
     ap (textsFrom (c .comment) (c .line)) (h .steps .more)
     ∙ cond-yes _ _ (h .kind)
     ∙ rw (h .fault, h .char, h .steps .line)
+
+-- a cursor is its three fields
+pub rest-here : (s : List ℕ) (c : Cursor) (x : ℕ) → x ≡ c .comment → rest s (record { at = c .at; line = c .line; comment = x }) ≡ rest s c
+unfolding rest
+rest-here s c x e = rw e refl

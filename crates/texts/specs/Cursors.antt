@@ -54,7 +54,12 @@ pub record Goes (s : List ℕ) (c n : Cursor) : Type 0 where
 
 pub record TextIs (s : List ℕ) (c : Cursor) (k a e : ℕ) (n : Cursor) : Type 0 where
   pub more : rest s c ≡ plain k (part a e s) ∷ rest s n
+  -- the same texts from the line's own place on
+  pub here : rest s (record { at = a; line = k; comment = n .comment }) ≡ plain k (part a e s) ∷ rest s n
   pub goes : Goes s c n
+  pub line : n .line ≡ k + 1
+  pub from : c .at ≤ a
+  pub lines : k ≤ a + 1
   pub starts : a < e
   pub fits : e ≤ length s
 

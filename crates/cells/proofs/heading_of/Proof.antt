@@ -2,7 +2,7 @@
 use mathlib.Core.Path.{sym, _∙_}
 use borrow.Author.Needs.{needs}
 use borrow.Author.Tests.{not-true, not-false}
-use Rattle.cells.proofs.Chains.{link, done, words-under, words-from}
+use Rattle.words.proofs.Chains.{link, done, words-under, words-from}
 use Rattle.cells.proofs.Headings.{heading-few, heading-first, heading-second, heading-rest}
 use Rattle.cells.proofs.heading_of.Statement.{statement}
 use Rattle.cells.proofs.heading_of.Tie as tie

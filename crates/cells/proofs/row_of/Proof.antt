@@ -3,7 +3,7 @@ use mathlib.Core.Path.{sym, ap, _∙_}
 use native.Mathlib.Omega.{arith}
 use borrow.Author.Needs.{needs}
 use Rattle.rules.specs.Fields.{rowOf}
-use Rattle.cells.proofs.Chains.{link, done, words-under, words-past, words-just}
+use Rattle.words.proofs.Chains.{link, done, words-under, words-past, words-just}
 use Rattle.cells.proofs.Laws.{row-other}
 use Rattle.cells.proofs.row_of.Statement.{statement}
 use Rattle.cells.proofs.row_of.Tie as tie

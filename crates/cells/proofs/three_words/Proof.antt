@@ -1,7 +1,7 @@
 -- Too few words by `words-under`, too many by `words-past`, else just three by `words-just`.
 use native.Mathlib.Omega.{arith}
 use borrow.Author.Needs.{needs}
-use Rattle.cells.proofs.Chains.{link, done, words-under, words-past, words-just}
+use Rattle.words.proofs.Chains.{link, done, words-under, words-past, words-just}
 use Rattle.cells.proofs.three_words.Statement.{statement}
 use Rattle.cells.proofs.three_words.Tie as tie
 

@@ -2,7 +2,7 @@
 use mathlib.Core.Path.{_∙_}
 use borrow.Author.Needs.{needs}
 use Rattle.rules.specs.Component.{cellsFault}
-use Rattle.component.proofs.General.{first-fault, second-fault}
+use Rattle.given.proofs.Going.{first-fault, second-fault}
 use Rattle.component.proofs.cells_fault.Statement.{statement}
 use Rattle.component.proofs.cells_fault.Tie as tie
 

@@ -1,7 +1,7 @@
 -- Fewer than two words behind the first by `words-under`, more by `words-past`, else just two by `words-just`.
 use mathlib.Core.Path.{_∙_}
 use borrow.Author.Needs.{needs}
-use Rattle.cells.proofs.Chains.{link, done, words-under, words-past, words-just}
+use Rattle.words.proofs.Chains.{link, done, words-under, words-past, words-just}
 use Rattle.component.proofs.Laws.{cells-few, cells-many, cells-just}
 use Rattle.component.proofs.cells_from.Statement.{statement}
 use Rattle.component.proofs.cells_from.Tie as tie

@@ -2,7 +2,7 @@
 use mathlib.Core.Path.{refl, sym, ap, _∙_}
 use borrow.Author.Needs.{needs}
 use Rattle.rules.specs.Component.{componentShut}
-use Rattle.component.proofs.General.{passed}
+use Rattle.given.proofs.Going.{passed}
 use Rattle.component.proofs.component_shut.Statement.{statement}
 use Rattle.component.proofs.component_shut.Tie as tie
 

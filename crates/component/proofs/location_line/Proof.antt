@@ -1,7 +1,7 @@
 -- Not such a line, given before, a fault of its word, or on: `refused`, `faulted`, `clean`.
 use mathlib.Core.Path.{sym, _∙_}
 use borrow.Author.Needs.{needs}
-use Rattle.component.proofs.General.{refused, passed, faulted, clean}
+use Rattle.given.proofs.Going.{refused, passed, faulted, clean}
 use Rattle.component.proofs.location_line.Statement.{statement}
 use Rattle.component.proofs.location_line.Tie as tie
 

@@ -2,7 +2,7 @@
 use mathlib.Core.Path.{sym, ap, _∙_}
 use borrow.Author.Needs.{needs}
 use Rattle.rules.specs.Fields.{tripleFault}
-use Rattle.component.proofs.General.{refused, passed, faulted, clean}
+use Rattle.given.proofs.Going.{refused, passed, faulted, clean}
 use Rattle.component.proofs.package_line.Statement.{statement}
 use Rattle.component.proofs.package_line.Tie as tie
 

@@ -2,7 +2,7 @@
 use mathlib.Core.Path.{sym, _∙_}
 use borrow.Author.Needs.{needs}
 use borrow.Author.Tests.{not-true, not-false}
-use Rattle.cells.proofs.Chains.{link, done, words-under, words-from, words-just}
+use Rattle.words.proofs.Chains.{link, done, words-under, words-from, words-just}
 use Rattle.component.proofs.Laws.{row-few, row-fails, row-names, row-short, row-cells}
 use Rattle.component.proofs.pin_row.Statement.{statement}
 use Rattle.component.proofs.pin_row.Tie as tie

@@ -1,7 +1,7 @@
 -- A fault of the row, or on: `faulted`, `clean`.
 use mathlib.Core.Path.{_∙_}
 use borrow.Author.Needs.{needs}
-use Rattle.component.proofs.General.{faulted, clean}
+use Rattle.given.proofs.Going.{faulted, clean}
 use Rattle.component.proofs.rows_line.Statement.{statement}
 use Rattle.component.proofs.rows_line.Tie as tie
 

@@ -4,7 +4,7 @@ use mathlib.Core.Bool.{not}
 use borrow.Author.Needs.{needs}
 use Rattle.rules.specs.Fields.{isModelName}
 use Rattle.rules.specs.Selector.{selectorLine}
-use Rattle.component.proofs.General.{refused, passed}
+use Rattle.given.proofs.Going.{refused, passed}
 use Rattle.component.proofs.selector_line.Statement.{statement}
 use Rattle.component.proofs.selector_line.Tie as tie
 

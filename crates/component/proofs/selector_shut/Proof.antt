@@ -2,7 +2,7 @@
 use mathlib.Core.Path.{_∙_}
 use borrow.Author.Needs.{needs}
 use Rattle.rules.specs.Selector.{selectorShut}
-use Rattle.component.proofs.General.{refused, passed}
+use Rattle.given.proofs.Going.{refused, passed}
 use Rattle.component.proofs.selector_shut.Statement.{statement}
 use Rattle.component.proofs.selector_shut.Tie as tie
 

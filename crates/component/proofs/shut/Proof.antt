@@ -1,7 +1,7 @@
 -- The list is whole, or not.
 use mathlib.Core.Path.{_∙_}
 use borrow.Author.Needs.{needs}
-use Rattle.component.proofs.General.{refused, passed}
+use Rattle.given.proofs.Going.{refused, passed}
 use Rattle.component.proofs.shut.Statement.{statement}
 use Rattle.component.proofs.shut.Tie as tie
 

@@ -3,7 +3,7 @@ use mathlib.Core.Path.{sym, ap, _∙_}
 use borrow.Author.Needs.{needs}
 use Rattle.rules.specs.Given.{has}
 use Rattle.rules.specs.Header.{headerPart}
-use Rattle.header.proofs.General.{refused, passed, faulted, clean}
+use Rattle.given.proofs.Going.{refused, passed, faulted, clean}
 use Rattle.header.proofs.header_part.Statement.{statement}
 use Rattle.header.proofs.header_part.Tie as tie
 

@@ -3,7 +3,7 @@ use mathlib.Core.Path.{sym, ap, _∙_}
 use mathlib.Core.Bool.{not}
 use borrow.Author.Needs.{needs}
 use Rattle.rules.specs.Header.{version}
-use Rattle.header.proofs.General.{refused, passed}
+use Rattle.given.proofs.Going.{refused, passed}
 use Rattle.header.proofs.open_header.Statement.{statement}
 use Rattle.header.proofs.open_header.Tie as tie
 

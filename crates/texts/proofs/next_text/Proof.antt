@@ -7,7 +7,7 @@ use borrow.Author.Needs.{needs}
 use denote.Ref.{now}
 use Rattle.texts.specs.Texts.{rest, past}
 use Rattle.texts.specs.Cursors.{Placed, OneIs}
-use Rattle.texts.proofs.Laws.{rest-end, past-end, past-step, placed-step, rest-empty, rest-text, rest-change}
+use Rattle.texts.proofs.Laws.{rest-end, past-end, past-step, placed-step, rest-empty, rest-text, rest-change, rest-here}
 use Rattle.texts.proofs.next_text.Statement.{statement}
 use Rattle.texts.proofs.next_text.Tie as tie
 
@@ -33,6 +33,10 @@ returns c =
     let o = subst (OneIs s (l .d)) (c .before .before .end .given .1) (c .before .before .before .before .one-line .ensures) in
     record {
       more = l .inv .3 ∙ rest-text s (l .d) _ _ o (c .if2 .taken);
+      here = rest-here s (l .d) _ (o .char) ∙ rest-text s (l .d) _ _ o (c .if2 .taken);
+      line = o .steps .line;
+      from = l .inv .1;
+      lines = l .inv .0 .lines;
       goes = record { placed = placed-step s (l .d) _ _ (o .steps) (l .inv .0); rises = omega (arith, l .inv .1, o .steps .rises); ends = l .inv .2 ∙ past-step s (l .d) _ _ (o .steps) };
       starts = c .if2 .taken;
       fits = o .ends;

@@ -5,7 +5,7 @@ use denote.Ref.{now}
 use Rattle.rules.specs.Model.{firstLine}
 use Rattle.rules.specs.Going.{quietly}
 use Rattle.rules.specs.declared.Stage.the-variants.{InModel}
-use Rattle.model.proofs.General.{refuse-yes, refuse-no, unless-stop, unless-on}
+use Rattle.given.proofs.Going.{refused, passed, faulted, clean}
 use Rattle.model.proofs.body.first_line.Statement.{statement}
 use Rattle.model.proofs.body.first_line.Tie as tie
 
@@ -31,7 +31,7 @@ stopped-requires-2 : tie.Need-stopped-requires-2
 stopped-requires-2 c κs = search needs
 
 returns-2 : tie.Need-returns-2
-returns-2 c = c .stopped2 .ensures ∙ refuse-yes _ 8 _ _ (sym (c .before .before .is-given .ensures) ∙ c .before .if1 .taken) ∙ sym (ap (firstLine (c .before .before .before .before .before .before .before .before .before .args .m) (c .before .before .before .before .before .before .before .before .before .args .k) (now (c .before .before .before .before .before .before .before .before .before .args .w))) (sym (c .before .before .before .before .before .before .before .model-line .ensures) ∙ c .before .before .before .before .before .n .given .1))
+returns-2 c = c .stopped2 .ensures ∙ refused 8 _ _ (sym (c .before .before .is-given .ensures) ∙ c .before .if1 .taken) ∙ sym (ap (firstLine (c .before .before .before .before .before .before .before .before .before .args .m) (c .before .before .before .before .before .before .before .before .before .args .k) (now (c .before .before .before .before .before .before .before .before .before .args .w))) (sym (c .before .before .before .before .before .before .before .model-line .ensures) ∙ c .before .before .before .before .before .n .given .1))
 
 first-fault-requires : tie.Need-first-fault-requires
 first-fault-requires c κs = search needs
@@ -40,7 +40,7 @@ stopped-requires-3 : tie.Need-stopped-requires-3
 stopped-requires-3 c κs = search needs
 
 returns-3 : tie.Need-returns-3
-returns-3 c = c .stopped3 .ensures ∙ unless-stop _ _ _ _ (c .before .before .first-fault .ensures) (c .before .if2 .taken) ∙ refuse-no _ 8 _ _ (sym (c .before .before .before .before .is-given .ensures) ∙ c .before .before .before .if1 .left) ∙ sym (ap (firstLine (c .before .before .before .before .before .before .before .before .before .before .before .args .m) (c .before .before .before .before .before .before .before .before .before .before .before .args .k) (now (c .before .before .before .before .before .before .before .before .before .before .before .args .w))) (sym (c .before .before .before .before .before .before .before .before .before .model-line .ensures) ∙ c .before .before .before .before .before .before .before .n .given .1))
+returns-3 c = c .stopped3 .ensures ∙ faulted _ _ (c .before .before .first-fault .ensures) (c .before .if2 .taken) ∙ passed 8 _ _ (sym (c .before .before .before .before .is-given .ensures) ∙ c .before .before .before .if1 .left) ∙ sym (ap (firstLine (c .before .before .before .before .before .before .before .before .before .before .before .args .m) (c .before .before .before .before .before .before .before .before .before .before .before .args .k) (now (c .before .before .before .before .before .before .before .before .before .before .before .args .w))) (sym (c .before .before .before .before .before .before .before .before .before .model-line .ensures) ∙ c .before .before .before .before .before .before .before .n .given .1))
 
 with-first-requires : tie.Need-with-first-requires
 with-first-requires c κs = search needs
@@ -52,8 +52,8 @@ returns-4 : tie.Need-returns-4
 returns-4 c =
     c .quiet .ensures
     ∙ ap (λ (m : _). quietly (InModel m)) (c .before .with-first .ensures)
-    ∙ unless-on _ _ _ _ (c .before .before .before .first-fault .ensures) (c .before .before .if2 .left)
-    ∙ refuse-no _ 8 _ _ (sym (c .before .before .before .before .before .is-given .ensures) ∙ c .before .before .before .before .if1 .left)
+    ∙ clean _ _ (c .before .before .before .first-fault .ensures) (c .before .before .if2 .left)
+    ∙ passed 8 _ _ (sym (c .before .before .before .before .before .is-given .ensures) ∙ c .before .before .before .before .if1 .left)
     ∙ sym (ap (firstLine (c .before .before .before .before .before .before .before .before .before .before .before .before .args .m) (c .before .before .before .before .before .before .before .before .before .before .before .before .args .k) (now (c .before .before .before .before .before .before .before .before .before .before .before .before .args .w))) (sym (c .before .before .before .before .before .before .before .before .before .before .model-line .ensures) ∙ c .before .before .before .before .before .before .before .before .n .given .1))
 
 pub first-line-spec : {M : Type 1} → statement M

@@ -7,7 +7,7 @@ use Rattle.rules.specs.Model.{fixtureLine, withModelList}
 use Rattle.rules.specs.Going.{quietly}
 use Rattle.rules.specs.declared.ModelList.the-variants.{WaveformRows}
 use Rattle.rules.specs.declared.Stage.the-variants.{InModel}
-use Rattle.model.proofs.General.{refuse-yes, refuse-no, unless-stop, unless-on}
+use Rattle.given.proofs.Going.{refused, passed, faulted, clean}
 use Rattle.model.proofs.body.fixture_line.Statement.{statement}
 use Rattle.model.proofs.body.fixture_line.Tie as tie
 
@@ -38,7 +38,7 @@ returns-2 : tie.Need-returns-2
 returns-2 c =
     let a = c .before .before .before .before .before .before .before .before .args in
     c .stopped2 .ensures
-    ∙ refuse-yes _ 8 _ _ (sym (c .before .before .is-given .ensures) ∙ c .before .if1 .taken)
+    ∙ refused 8 _ _ (sym (c .before .before .is-given .ensures) ∙ c .before .if1 .taken)
     ∙ sym (ap (fixtureLine (a .m) (a .line) (a .given) (a .r) (a .k) (now (a .w))) (sym (c .before .before .before .before .before .before .fixture-line .ensures) ∙ c .before .before .before .before .n .given .1))
 
 assigned-number-requires : tie.Need-assigned-number-requires
@@ -54,8 +54,8 @@ returns-3 : tie.Need-returns-3
 returns-3 c =
     let a = c .before .before .before .before .before .before .before .before .before .before .before .args in
     c .stopped3 .ensures
-    ∙ unless-stop _ _ _ _ (c .before .before .number-fault .ensures ∙ ap numberFault (c .before .before .before .assigned-number .ensures)) (c .before .if2 .taken)
-    ∙ refuse-no _ 8 _ _ (sym (c .before .before .before .before .before .is-given .ensures) ∙ c .before .before .before .before .if1 .left)
+    ∙ faulted _ _ (c .before .before .number-fault .ensures ∙ ap numberFault (c .before .before .before .assigned-number .ensures)) (c .before .if2 .taken)
+    ∙ passed 8 _ _ (sym (c .before .before .before .before .before .is-given .ensures) ∙ c .before .before .before .before .if1 .left)
     ∙ sym (ap (fixtureLine (a .m) (a .line) (a .given) (a .r) (a .k) (now (a .w))) (sym (c .before .before .before .before .before .before .before .before .before .fixture-line .ensures) ∙ c .before .before .before .before .before .before .before .n .given .1))
 
 also-requires : tie.Need-also-requires
@@ -72,8 +72,8 @@ returns-4 c =
     let a = c .before .before .before .before .before .before .before .before .before .before .before .before .before .args in
     c .quiet .ensures
     ∙ ap (λ (m : _). quietly (InModel m)) (c .before .with-list .ensures ∙ ap (λ (g : _). withModelList (a .m) (WaveformRows (a .line) g (a .r))) (c .before .before .also .ensures))
-    ∙ unless-on _ _ _ _ (c .before .before .before .before .number-fault .ensures ∙ ap numberFault (c .before .before .before .before .before .assigned-number .ensures)) (c .before .before .before .if2 .left)
-    ∙ refuse-no _ 8 _ _ (sym (c .before .before .before .before .before .before .before .is-given .ensures) ∙ c .before .before .before .before .before .before .if1 .left)
+    ∙ clean _ _ (c .before .before .before .before .number-fault .ensures ∙ ap numberFault (c .before .before .before .before .before .assigned-number .ensures)) (c .before .before .before .if2 .left)
+    ∙ passed 8 _ _ (sym (c .before .before .before .before .before .before .before .is-given .ensures) ∙ c .before .before .before .before .before .before .if1 .left)
     ∙ sym (ap (fixtureLine (a .m) (a .line) (a .given) (a .r) (a .k) (now (a .w))) (sym (c .before .before .before .before .before .before .before .before .before .before .before .fixture-line .ensures) ∙ c .before .before .before .before .before .before .before .before .before .n .given .1))
 
 pub fixture-line-spec : {M : Type 1} → statement M

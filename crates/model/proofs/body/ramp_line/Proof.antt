@@ -6,7 +6,7 @@ use Rattle.rules.specs.Model.{rampLine, withModelList}
 use Rattle.rules.specs.Going.{quietly}
 use Rattle.rules.specs.declared.ModelList.the-variants.{RampLines}
 use Rattle.rules.specs.declared.Stage.the-variants.{InModel}
-use Rattle.model.proofs.General.{refuse-yes, refuse-no, unless-stop, unless-on}
+use Rattle.given.proofs.Going.{refused, passed, faulted, clean}
 use Rattle.model.proofs.body.ramp_line.Statement.{statement}
 use Rattle.model.proofs.body.ramp_line.Tie as tie
 
@@ -37,7 +37,7 @@ returns-2 : tie.Need-returns-2
 returns-2 c =
     let a = c .before .before .before .before .before .before .before .before .args in
     c .stopped2 .ensures
-    ∙ refuse-yes _ 8 _ _ (sym (c .before .before .is-given .ensures) ∙ c .before .if1 .taken)
+    ∙ refused 8 _ _ (sym (c .before .before .is-given .ensures) ∙ c .before .if1 .taken)
     ∙ sym (ap (rampLine (a .m) (a .line) (a .given) (a .k) (now (a .w))) (sym (c .before .before .before .before .before .before .ramp-line .ensures) ∙ c .before .before .before .before .n .given .1))
 
 ramp-line-fault-requires : tie.Need-ramp-line-fault-requires
@@ -50,8 +50,8 @@ returns-3 : tie.Need-returns-3
 returns-3 c =
     let a = c .before .before .before .before .before .before .before .before .before .before .args in
     c .stopped3 .ensures
-    ∙ unless-stop _ _ _ _ (c .before .before .ramp-line-fault .ensures) (c .before .if2 .taken)
-    ∙ refuse-no _ 8 _ _ (sym (c .before .before .before .before .is-given .ensures) ∙ c .before .before .before .if1 .left)
+    ∙ faulted _ _ (c .before .before .ramp-line-fault .ensures) (c .before .if2 .taken)
+    ∙ passed 8 _ _ (sym (c .before .before .before .before .is-given .ensures) ∙ c .before .before .before .if1 .left)
     ∙ sym (ap (rampLine (a .m) (a .line) (a .given) (a .k) (now (a .w))) (sym (c .before .before .before .before .before .before .before .before .ramp-line .ensures) ∙ c .before .before .before .before .before .before .n .given .1))
 
 also-requires : tie.Need-also-requires
@@ -68,8 +68,8 @@ returns-4 c =
     let a = c .before .before .before .before .before .before .before .before .before .before .before .before .args in
     c .quiet .ensures
     ∙ ap (λ (m : _). quietly (InModel m)) (c .before .with-list .ensures ∙ ap (λ (g : _). withModelList (a .m) (RampLines (a .line) g)) (c .before .before .also .ensures))
-    ∙ unless-on _ _ _ _ (c .before .before .before .before .ramp-line-fault .ensures) (c .before .before .before .if2 .left)
-    ∙ refuse-no _ 8 _ _ (sym (c .before .before .before .before .before .before .is-given .ensures) ∙ c .before .before .before .before .before .if1 .left)
+    ∙ clean _ _ (c .before .before .before .before .ramp-line-fault .ensures) (c .before .before .before .if2 .left)
+    ∙ passed 8 _ _ (sym (c .before .before .before .before .before .before .is-given .ensures) ∙ c .before .before .before .before .before .if1 .left)
     ∙ sym (ap (rampLine (a .m) (a .line) (a .given) (a .k) (now (a .w))) (sym (c .before .before .before .before .before .before .before .before .before .before .ramp-line .ensures) ∙ c .before .before .before .before .before .before .before .before .n .given .1))
 
 pub ramp-line-spec : {M : Type 1} → statement M

@@ -5,7 +5,7 @@ use borrow.Author.Needs.{needs}
 use borrow.Author.Tests.{eq-eqb, ne-eqb, not-true, not-false}
 use Rattle.laws.proofs.Tests.{cond-yes, cond-no}
 use Rattle.rules.specs.Model.{waveformLine}
-use Rattle.model.proofs.General.{refuse-yes, refuse-no}
+use Rattle.given.proofs.Going.{refused, passed}
 use Rattle.model.proofs.body.waveform_line.Statement.{statement}
 use Rattle.model.proofs.body.waveform_line.Tie as tie
 
@@ -26,7 +26,7 @@ returns-2 : tie.Need-returns-2
 unfolding waveformLine
 returns-2 c =
     c .stopped .ensures
-    ∙ refuse-yes _ 7 _ _ (ap not (ne-eqb (c .before .before .before .before .before .before .args .r .count) 0 (c .before .if2 .taken)))
+    ∙ refused 7 _ _ (ap not (ne-eqb (c .before .before .before .before .before .before .args .r .count) 0 (c .before .if2 .taken)))
     ∙ sym (cond-yes _ _ (sym (c .before .before .before .before .begins-letter .ensures) ∙ not-false (c .before .before .before .before .begins-letter .result) (c .before .before .before .if1 .left)))
 
 fixture-line-requires : tie.Need-fixture-line-requires
@@ -36,7 +36,7 @@ returns-3 : tie.Need-returns-3
 unfolding waveformLine
 returns-3 c =
     c .fixture-line .ensures
-    ∙ refuse-no _ 7 _ _ (ap not (eq-eqb (c .before .before .before .before .before .before .args .r .count) 0 (c .before .if2 .left)))
+    ∙ passed 7 _ _ (ap not (eq-eqb (c .before .before .before .before .before .before .args .r .count) 0 (c .before .if2 .left)))
     ∙ sym (cond-yes _ _ (sym (c .before .before .before .before .begins-letter .ensures) ∙ not-false (c .before .before .before .before .begins-letter .result) (c .before .before .before .if1 .left)))
 
 pub waveform-line-spec : {M : Type 1} → statement M

@@ -1,7 +1,7 @@
 -- By whether the table has a fault.
 use mathlib.Core.Path.{_∙_}
 use borrow.Author.Needs.{needs}
-use Rattle.model.proofs.General.{unless-stop, unless-on}
+use Rattle.given.proofs.Going.{faulted, clean}
 use Rattle.model.proofs.parts.close_table.Statement.{statement}
 use Rattle.model.proofs.parts.close_table.Tie as tie
 
@@ -12,13 +12,13 @@ stopped-requires : tie.Need-stopped-requires
 stopped-requires c κs = search needs
 
 returns : tie.Need-returns
-returns c = c .stopped .ensures ∙ unless-stop _ _ _ _ (c .before .before .table-fault .ensures) (c .before .if1 .taken)
+returns c = c .stopped .ensures ∙ faulted _ _ (c .before .before .table-fault .ensures) (c .before .if1 .taken)
 
 closed-requires : tie.Need-closed-requires
 closed-requires c κs = search needs
 
 returns-2 : tie.Need-returns-2
-returns-2 c = c .closed .ensures ∙ unless-on _ _ _ _ (c .before .before .table-fault .ensures) (c .before .if1 .left)
+returns-2 c = c .closed .ensures ∙ clean _ _ (c .before .before .table-fault .ensures) (c .before .if1 .left)
 
 pub close-table-spec : {M : Type 1} → statement M
 close-table-spec =

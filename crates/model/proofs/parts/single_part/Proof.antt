@@ -3,7 +3,7 @@ use mathlib.Core.Path.{sym, ap, _∙_}
 use borrow.Author.Needs.{needs}
 use Rattle.rules.specs.Given.{has}
 use Rattle.rules.specs.Model.{singlePart}
-use Rattle.model.proofs.General.{refuse-yes, refuse-no, unless-stop, unless-on}
+use Rattle.given.proofs.Going.{refused, passed, faulted, clean}
 use Rattle.model.proofs.parts.single_part.Statement.{statement}
 use Rattle.model.proofs.parts.single_part.Tie as tie
 
@@ -20,7 +20,7 @@ returns : tie.Need-returns
 unfolding singlePart
 returns c =
     c .stopped .ensures
-    ∙ refuse-yes _ 8 _ _ (sym (c .before .before .is-given .ensures ∙ ap (has (c .before .before .before .before .before .before .args .m .parts)) (c .before .before .before .before .model-place .ensures)) ∙ c .before .if1 .taken)
+    ∙ refused 8 _ _ (sym (c .before .before .is-given .ensures ∙ ap (has (c .before .before .before .before .before .before .args .m .parts)) (c .before .before .before .before .model-place .ensures)) ∙ c .before .if1 .taken)
 
 model-fault-requires : tie.Need-model-fault-requires
 model-fault-requires c κs = search needs
@@ -32,8 +32,8 @@ returns-2 : tie.Need-returns-2
 unfolding singlePart
 returns-2 c =
     c .stopped2 .ensures
-    ∙ unless-stop _ _ _ _ (c .before .before .model-fault .ensures) (c .before .if2 .taken)
-    ∙ refuse-no _ 8 _ _ (sym (c .before .before .before .before .is-given .ensures ∙ ap (has (c .before .before .before .before .before .before .before .before .args .m .parts)) (c .before .before .before .before .before .before .model-place .ensures)) ∙ c .before .before .before .if1 .left)
+    ∙ faulted _ _ (c .before .before .model-fault .ensures) (c .before .if2 .taken)
+    ∙ passed 8 _ _ (sym (c .before .before .before .before .is-given .ensures ∙ ap (has (c .before .before .before .before .before .before .before .before .args .m .parts)) (c .before .before .before .before .before .before .model-place .ensures)) ∙ c .before .before .before .if1 .left)
 
 model-opens-requires : tie.Need-model-opens-requires
 model-opens-requires c κs = search needs
@@ -52,8 +52,8 @@ unfolding singlePart
 returns-3 c =
     c .quiet .ensures
     ∙ rw (c .before .before .with-list .ensures, c .before .also .ensures, c .before .before .before .model-opens .ensures, c .before .before .before .before .before .before .before .before .before .model-place .ensures)
-    (unless-on _ _ _ _ (c .before .before .before .before .before .model-fault .ensures) (c .before .before .before .before .if2 .left)
-    ∙ refuse-no _ 8 _ _ (sym (c .before .before .before .before .before .before .before .is-given .ensures ∙ ap (has (c .before .before .before .before .before .before .before .before .before .before .before .args .m .parts)) (c .before .before .before .before .before .before .before .before .before .model-place .ensures)) ∙ c .before .before .before .before .before .before .if1 .left))
+    (clean _ _ (c .before .before .before .before .before .model-fault .ensures) (c .before .before .before .before .if2 .left)
+    ∙ passed 8 _ _ (sym (c .before .before .before .before .before .before .before .is-given .ensures ∙ ap (has (c .before .before .before .before .before .before .before .before .before .before .before .args .m .parts)) (c .before .before .before .before .before .before .before .before .before .model-place .ensures)) ∙ c .before .before .before .before .before .before .if1 .left))
 
 pub single-part-spec : {M : Type 1} → statement M
 single-part-spec =

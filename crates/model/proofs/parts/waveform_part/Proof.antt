@@ -3,7 +3,7 @@ use mathlib.Core.Path.{_∙_}
 use borrow.Author.Needs.{needs}
 use borrow.Author.Tests.{le-leb, lt-leb}
 use Rattle.rules.specs.Model.{waveformPart}
-use Rattle.model.proofs.General.{refuse-yes, refuse-no, unless-stop, unless-on}
+use Rattle.given.proofs.Going.{refused, passed, faulted, clean}
 use Rattle.model.proofs.parts.waveform_part.Statement.{statement}
 use Rattle.model.proofs.parts.waveform_part.Tie as tie
 
@@ -15,7 +15,7 @@ stopped-requires c κs = search needs
 
 returns : tie.Need-returns
 unfolding waveformPart
-returns c = c .stopped .ensures ∙ unless-stop _ _ _ _ (c .before .before .model-fault .ensures) (c .before .if1 .taken)
+returns c = c .stopped .ensures ∙ faulted _ _ (c .before .before .model-fault .ensures) (c .before .if1 .taken)
 
 stopped-requires-2 : tie.Need-stopped-requires-2
 stopped-requires-2 c κs = search needs
@@ -24,8 +24,8 @@ returns-2 : tie.Need-returns-2
 unfolding waveformPart
 returns-2 c =
     c .stopped2 .ensures
-    ∙ refuse-yes _ 17 _ _ (le-leb 16 (c .before .before .before .before .before .before .args .m .waveforms) (c .before .if2 .taken))
-    ∙ unless-on _ _ _ _ (c .before .before .before .before .model-fault .ensures) (c .before .before .before .if1 .left)
+    ∙ refused 17 _ _ (le-leb 16 (c .before .before .before .before .before .before .args .m .waveforms) (c .before .if2 .taken))
+    ∙ clean _ _ (c .before .before .before .before .model-fault .ensures) (c .before .before .before .if1 .left)
 
 model-opens-requires : tie.Need-model-opens-requires
 model-opens-requires c κs = search needs
@@ -40,8 +40,8 @@ returns-3 : tie.Need-returns-3
 unfolding waveformPart
 returns-3 c =
     rw (c .before .with-list .ensures, c .before .before .model-opens .ensures)
-    (refuse-no _ 17 _ _ (lt-leb 16 (c .before .before .before .before .before .before .before .before .args .m .waveforms) (c .before .before .before .if2 .left))
-    ∙ unless-on _ _ _ _ (c .before .before .before .before .before .before .model-fault .ensures) (c .before .before .before .before .before .if1 .left))
+    (passed 17 _ _ (lt-leb 16 (c .before .before .before .before .before .before .before .before .args .m .waveforms) (c .before .before .before .if2 .left))
+    ∙ clean _ _ (c .before .before .before .before .before .before .model-fault .ensures) (c .before .before .before .before .before .if1 .left))
 
 pub waveform-part-spec : {M : Type 1} → statement M
 waveform-part-spec =

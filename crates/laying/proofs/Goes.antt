@@ -1,0 +1,37 @@
+-- What holds of a step that goes on: past each check, the rest need hold only where the check passes.
+use Prim.Native.Nat.{ℕ}
+use mathlib.Core.Bool.{Bool}
+use lib.Dec.{eqb}
+use Rattle.laws.proofs.Tests.{cond-all}
+use Rattle.rules.specs.Going.{stop, unless, refuse, andThen}
+use Rattle.rules.specs.declared.Stage.{Stage}
+use Rattle.rules.specs.declared.Event.{Event}
+use Rattle.rules.specs.declared.Went.{Went}
+use Rattle.rules.specs.declared.Went.the-variants.{On, Stop}
+
+abbrev pub Goes : (Stage → Event → Type 0) → Went → Type 0
+Goes P (On s e) = P s e
+Goes P (Stop f) = Unit {0}
+
+module _ (P : Stage → Event → Type 0) where
+  pub past-refuse : (t : Bool) (n k : ℕ) (went : Went) → Goes P went → Goes P (refuse t n k went)
+  unfolding refuse
+  past-refuse t n k went g = cond-all (Goes P) t (stop n k) went (λ h. tt) (λ h. g)
+
+  pub past-unless : (n k : ℕ) (went : Went) → Goes P went → Goes P (unless n k went)
+  unfolding unless
+  past-unless n k went g = cond-all (Goes P) (eqb n 0) went (stop n k) (λ h. g) (λ h. tt)
+
+  -- what a line closes, then the line itself
+  pub past-closing : (Q : Stage → Type 0) (f : Stage → Went) (x : Went)
+      → Goes (λ (s : Stage) (e : Event). Q s) x → ((s : Stage) → Q s → Goes P (f s)) → Goes P (andThen x f)
+  past-closing Q f (On s e) q g = g s q
+  past-closing Q f (Stop y) q g = tt
+
+  pub past-all : (Q : Stage → Event → Type 0) (x : Went) → Goes Q x → ((s : Stage) (e : Event) → Q s e → P s e) → Goes P x
+  past-all Q (On s e) q g = g s e q
+  past-all Q (Stop y) q g = tt
+
+pub anywhere : (x : Went) → Goes (λ (s : Stage) (e : Event). Unit {0}) x
+anywhere (On s e) = tt
+anywhere (Stop y) = tt

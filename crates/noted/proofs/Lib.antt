@@ -1,0 +1,2 @@
+-- Laws of what is noted.
+pub mod Settles

@@ -1,0 +1,4 @@
+-- Laws of the lines read.
+pub mod PartLaws
+pub mod EventLaws
+pub mod ScanLaws

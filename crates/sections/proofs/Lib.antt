@@ -1,0 +1,19 @@
+-- The proof of demand 3.
+pub mod Renumbered
+pub mod Header
+pub mod Component
+pub mod Model
+pub mod Steps
+pub mod Within
+pub mod Closing
+pub mod Texts
+pub mod Walks
+pub mod Bytes
+pub mod Split
+pub mod Sound
+pub mod Spared
+pub mod Refusal
+pub mod Tables
+pub mod Same
+pub mod Demand
+pub mod Example

@@ -1,0 +1,68 @@
+-- What `key_of` answers; the argument by `key-within` and `key-argument`.
+use mathlib.Core.Path.{sym, _∙_}
+use borrow.Author.Needs.{needs}
+use denote.Ref.{now}
+use Rattle.keyword.proofs.Arguments.{key-within, key-argument}
+use Rattle.steps.proofs.first_keyword_line.Statement.{statement}
+use Rattle.steps.proofs.first_keyword_line.Tie as tie
+
+key-of-requires : tie.Need-key-of-requires
+key-of-requires c κs = search needs
+
+enum-known-keyword : tie.Need-enum-known-keyword
+enum-known-keyword c = search needs
+
+sub-first-key : tie.Need-sub-first-key
+sub-first-key c = key-within (now (c .before .before .before .before .before .args .w)) (sym (c .before .before .before .key-of .ensures) ∙ c .before .keyword .given .1)
+
+part-first-key-start : tie.Need-part-first-key-start
+part-first-key-start c =
+    let h = key-within (now (c .before .before .before .before .before .args .w)) (sym (c .before .before .before .key-of .ensures) ∙ c .before .keyword .given .1) in
+    search needs
+
+part-first-key-end : tie.Need-part-first-key-end
+part-first-key-end c = search needs
+
+first-key-requires : tie.Need-first-key-requires
+first-key-requires c κs = search needs
+
+enum-told : tie.Need-enum-told
+enum-told c = search needs
+
+stopped-requires : tie.Need-stopped-requires
+stopped-requires c κs = search needs
+
+enum-told-2 : tie.Need-enum-told-2
+enum-told-2 c = search needs
+
+stopped-requires-2 : tie.Need-stopped-requires-2
+stopped-requires-2 c κs = search needs
+
+returns : tie.Need-returns
+returns c =
+    let e = sym (c .before .before .before .before .before .key-of .ensures) ∙ c .before .before .before .keyword .given .1 in
+    rw (e, sym (key-argument (now (c .before .before .before .before .before .before .before .args .w)) e)) (c .first-key .ensures)
+
+returns-2 : tie.Need-returns-2
+returns-2 c = rw (sym (c .before .before .before .key-of .ensures), c .before .enum-told .given .1) (c .stopped .ensures)
+
+returns-3 : tie.Need-returns-3
+returns-3 c = rw (sym (c .before .before .before .key-of .ensures), c .before .enum-told2 .given .1) (c .stopped2 .ensures)
+
+pub first-keyword-line-spec : {M : Type 1} → statement M
+first-keyword-line-spec =
+    tie.close
+    (tie.spec
+    key-of-requires
+    enum-known-keyword
+    sub-first-key
+    part-first-key-start
+    part-first-key-end
+    first-key-requires
+    enum-told
+    stopped-requires
+    enum-told-2
+    stopped-requires-2
+    returns
+    returns-2
+    returns-3)

@@ -1,0 +1,301 @@
+// The step of a text in any stage: first what it closes, inner table before section, then the line itself.
+ghost use mathlib.Core.Path.{_≡_};
+ghost use lib.Dec.{eqb};
+ghost use lib.ListN.{length};
+ghost use Rattle.rules.specs.Going.{unless, andThen, quietly};
+ghost use Rattle.rules.specs.Steps.{shut, done, opened, secondVersion, inHeader, inComponent, inModel, onKeyword, keyed, firstKeyword, firstKeyed, onLine, onBegun, onPlain, onChange};
+ghost use Rattle.rules.specs.declared.Stage.{Stage};
+ghost use Rattle.rules.specs.declared.Stage.the-variants.{AfterEnd};
+ghost use Rattle.rules.specs.declared.Event.the-variants.{Ended};
+ghost use Rattle.rules.specs.declared.Went.the-variants.{On};
+ghost use Rattle.keyword.specs.Carried.{keyOf};
+use keyword::ComponentPart;
+use keyword::HeaderPart;
+use keyword::KeyRead;
+use keyword::Keyword;
+use keyword::ModelPart;
+use keyword::Section;
+use rules::Event;
+use rules::Stage;
+use rules::Went;
+
+// The next stage, with nothing added to the file.
+fn quiet(s: Stage) -> Went
+    ensures { λ r. ⌜ r ≡ quietly s ⌝ }
+{
+    Went::On(s, Event::Quiet)
+}
+
+// The next stage, unless n is a fault, which is told at line k.
+fn quiet_unless(n: u8, k: u64, s: Stage) -> Went
+    ensures { λ r. ⌜ r ≡ unless n k (quietly s) ⌝ }
+{
+    if n == 0 {
+        return quiet(s);
+    }
+    given::stopped(n, k)
+}
+
+// Closes the table or list above a keyword line.
+fn shut_list(s: Stage) -> Went
+    ensures { λ r. ⌜ r ≡ shut s ⌝ }
+{
+    match s {
+        Stage::BeforeVersion => quiet(Stage::BeforeVersion),
+        Stage::InHeader(h) => header::header_shut(h),
+        Stage::InComponent(c) => component::component_shut(c),
+        Stage::InSelector(c) => component::selector_shut(c),
+        Stage::InModel(m) => model::model_shut(m),
+        Stage::AfterEnd => quiet(Stage::AfterEnd),
+    }
+}
+
+// Closes the section or the header.
+fn close_section(s: Stage) -> Went
+    ensures { λ r. ⌜ r ≡ done s ⌝ }
+{
+    match s {
+        Stage::BeforeVersion => quiet(Stage::BeforeVersion),
+        Stage::InHeader(h) => {
+            let line = h.line;
+            quiet_unless(header::header_done(h), line, Stage::InHeader(h))
+        }
+        Stage::InComponent(c) => {
+            let line = c.line;
+            quiet_unless(component::component_done(c), line, Stage::InComponent(c))
+        }
+        Stage::InSelector(c) => quiet(Stage::InSelector(c)),
+        Stage::InModel(m) => {
+            let line = m.line;
+            quiet_unless(model::model_done(m), line, Stage::InModel(m))
+        }
+        Stage::AfterEnd => quiet(Stage::AfterEnd),
+    }
+}
+
+// A section's keyword at line k.
+fn open_section(k: u64, argument: &[u8], o: Section) -> Went
+    ensures { λ r. ⌜ r ≡ opened k (now (argument .entry)) o ⌝ }
+{
+    match o {
+        Section::Component => {
+            if fields::sized(argument, 40) {
+                Went::On(
+                    Stage::InComponent(component::new_component(k)),
+                    Event::Opened(Section::Component),
+                )
+            } else {
+                given::stopped(10, k)
+            }
+        }
+        Section::Selector => {
+            if fields::one_model_name(argument) {
+                Went::On(
+                    Stage::InSelector(component::new_selector(k)),
+                    Event::Opened(Section::Selector),
+                )
+            } else {
+                given::stopped(10, k)
+            }
+        }
+        Section::Model => {
+            if fields::one_model_name(argument) {
+                Went::On(
+                    Stage::InModel(model::new_model(k)),
+                    Event::Opened(Section::Model),
+                )
+            } else {
+                given::stopped(10, k)
+            }
+        }
+    }
+}
+
+// A second [IBIS Ver].
+fn version_again(s: Stage, k: u64) -> Went
+    ensures { λ r. ⌜ r ≡ secondVersion s k ⌝ }
+{
+    match s {
+        Stage::BeforeVersion => given::stopped(7, k),
+        Stage::InHeader(_) => given::stopped(8, k),
+        Stage::InComponent(_) => given::stopped(7, k),
+        Stage::InSelector(_) => given::stopped(7, k),
+        Stage::InModel(_) => given::stopped(7, k),
+        Stage::AfterEnd => given::stopped(7, k),
+    }
+}
+
+// A keyword of the header, of a component and of a model: each has its place in its own section alone.
+fn header_key(s: Stage, k: u64, argument: &[u8], p: HeaderPart) -> Went
+    ensures { λ r. ⌜ r ≡ inHeader s k (now (argument .entry)) p ⌝ }
+{
+    match s {
+        Stage::BeforeVersion => given::stopped(7, k),
+        Stage::InHeader(h) => header::header_part(h, k, argument, p),
+        Stage::InComponent(_) => given::stopped(7, k),
+        Stage::InSelector(_) => given::stopped(7, k),
+        Stage::InModel(_) => given::stopped(7, k),
+        Stage::AfterEnd => given::stopped(7, k),
+    }
+}
+
+fn component_key(s: Stage, k: u64, argument: &[u8], p: ComponentPart) -> Went
+    ensures { λ r. ⌜ r ≡ inComponent s k (now (argument .entry)) p ⌝ }
+{
+    match s {
+        Stage::BeforeVersion => given::stopped(7, k),
+        Stage::InHeader(_) => given::stopped(7, k),
+        Stage::InComponent(c) => component::component_part(c, k, argument, p),
+        Stage::InSelector(_) => given::stopped(7, k),
+        Stage::InModel(_) => given::stopped(7, k),
+        Stage::AfterEnd => given::stopped(7, k),
+    }
+}
+
+fn model_key(s: Stage, k: u64, argument: &[u8], p: ModelPart) -> Went
+    ensures { λ r. ⌜ r ≡ inModel s k (now (argument .entry)) p ⌝ }
+{
+    match s {
+        Stage::BeforeVersion => given::stopped(7, k),
+        Stage::InHeader(_) => given::stopped(7, k),
+        Stage::InComponent(_) => given::stopped(7, k),
+        Stage::InSelector(_) => given::stopped(7, k),
+        Stage::InModel(m) => model::model_part(m, k, argument, p),
+        Stage::AfterEnd => given::stopped(7, k),
+    }
+}
+
+// A section closes, and another opens.
+fn section_key(s: Stage, k: u64, argument: &[u8], o: Section) -> Went
+    ensures { λ r. ⌜ r ≡ andThen (done s) (λ (t : Stage). opened k (now (argument .entry)) o) ⌝ }
+{
+    match close_section(s) {
+        Went::On(_, _) => open_section(k, argument, o),
+        Went::Stop(f) => Went::Stop(f),
+    }
+}
+
+// The last section closes, and the file ends.
+fn end_key(s: Stage, argument: &[u8]) -> Went
+    ensures { λ r. ⌜ r ≡ andThen (done s) (λ (t : Stage). On AfterEnd (Ended (eqb (length (now (argument .entry))) 0))) ⌝ }
+{
+    match close_section(s) {
+        Went::On(_, _) => Went::On(Stage::AfterEnd, Event::Ended(argument.len() == 0)),
+        Went::Stop(f) => Went::Stop(f),
+    }
+}
+
+fn on_keyword(s: Stage, k: u64, argument: &[u8], key: Keyword) -> Went
+    ensures { λ r. ⌜ r ≡ onKeyword s k (now (argument .entry)) key ⌝ }
+{
+    match key {
+        Keyword::IbisVer => version_again(s, k),
+        Keyword::InHeader(p) => header_key(s, k, argument, p),
+        Keyword::Opens(o) => section_key(s, k, argument, o),
+        Keyword::InComponent(p) => component_key(s, k, argument, p),
+        Keyword::InModel(p) => model_key(s, k, argument, p),
+        Keyword::End => end_key(s, argument),
+    }
+}
+
+// A keyword line, once what it closes is closed.
+fn keyword_line(s: Stage, k: u64, w: &[u8]) -> Went
+    ensures { λ r. ⌜ r ≡ keyed s k (now (w .entry)) (keyOf (now (w .entry))) ⌝ }
+{
+    match keyword::key_of(w) {
+        KeyRead::Known { keyword, argument } => on_keyword(s, k, &w[argument..], keyword),
+        KeyRead::Unknown => given::stopped(6, k),
+        KeyRead::Malformed => given::stopped(5, k),
+    }
+}
+
+fn first_key(k: u64, argument: &[u8], key: Keyword) -> Went
+    ensures { λ r. ⌜ r ≡ firstKeyword k (now (argument .entry)) key ⌝ }
+{
+    match key {
+        Keyword::IbisVer => header::open_header(k, argument),
+        Keyword::InHeader(_) => given::stopped(7, k),
+        Keyword::Opens(_) => given::stopped(7, k),
+        Keyword::InComponent(_) => given::stopped(7, k),
+        Keyword::InModel(_) => given::stopped(7, k),
+        Keyword::End => given::stopped(7, k),
+    }
+}
+
+// A keyword line before [IBIS Ver].
+fn first_keyword_line(k: u64, w: &[u8]) -> Went
+    ensures { λ r. ⌜ r ≡ firstKeyed k (now (w .entry)) (keyOf (now (w .entry))) ⌝ }
+{
+    match keyword::key_of(w) {
+        KeyRead::Known { keyword, argument } => first_key(k, &w[argument..], keyword),
+        KeyRead::Unknown => given::stopped(6, k),
+        KeyRead::Malformed => given::stopped(5, k),
+    }
+}
+
+// A line that is no keyword line.
+fn on_line(s: Stage, k: u64, w: &[u8]) -> Went
+    ensures { λ r. ⌜ r ≡ onLine s k (now (w .entry)) ⌝ }
+{
+    match s {
+        Stage::BeforeVersion => given::stopped(7, k),
+        Stage::InHeader(h) => header::header_line(h, k),
+        Stage::InComponent(c) => component::component_line(c, k, w),
+        Stage::InSelector(c) => component::selector_line(c, k, w),
+        Stage::InModel(m) => model::model_line(m, k, w),
+        Stage::AfterEnd => given::stopped(7, k),
+    }
+}
+
+// A line between [IBIS Ver] and [End].
+fn on_begun(s: Stage, k: u64, w: &[u8]) -> Went
+    ensures { λ r. ⌜ r ≡ onBegun s k (now (w .entry)) ⌝ }
+{
+    if !fields::bracketed(w) {
+        return on_line(s, k, w);
+    }
+    match shut_list(s) {
+        Went::On(t, _) => keyword_line(t, k, w),
+        Went::Stop(f) => Went::Stop(f),
+    }
+}
+
+// A line that cutting leaves.
+pub fn on_plain(s: Stage, k: u64, w: &[u8]) -> Went
+    ensures { λ r. ⌜ r ≡ onPlain s k (now (w .entry)) ⌝ }
+{
+    match s {
+        Stage::BeforeVersion => {
+            if fields::bracketed(w) {
+                first_keyword_line(k, w)
+            } else {
+                given::stopped(7, k)
+            }
+        }
+        Stage::InHeader(_) => on_begun(s, k, w),
+        Stage::InComponent(_) => on_begun(s, k, w),
+        Stage::InSelector(_) => on_begun(s, k, w),
+        Stage::InModel(_) => on_begun(s, k, w),
+        Stage::AfterEnd => given::stopped(7, k),
+    }
+}
+
+// A [Comment Char] line with fault n, 0 for none.
+pub fn on_change(s: Stage, k: u64, n: u8) -> Went
+    ensures { λ r. ⌜ r ≡ onChange s k n ⌝ }
+{
+    match s {
+        Stage::BeforeVersion => {
+            if n == 5 {
+                given::stopped(5, k)
+            } else {
+                given::stopped(7, k)
+            }
+        }
+        Stage::InHeader(_) => quiet_unless(n, k, s),
+        Stage::InComponent(_) => quiet_unless(n, k, s),
+        Stage::InSelector(_) => quiet_unless(n, k, s),
+        Stage::InModel(_) => quiet_unless(n, k, s),
+        Stage::AfterEnd => given::stopped(7, k),
+    }
+}

@@ -1,0 +1,2 @@
+-- Laws of the store.
+pub mod Laws

@@ -1,0 +1,2 @@
+-- Laws on what stands under a keyword, cited by the crates above.
+pub mod Laws
