@@ -17,7 +17,7 @@ latest-length f l = length-map (reverse l) f ∙ length-reverse l
 pub latest-length-only : {A B : Type 0} (f : A → B) (l : List A) → length (map f (reverse l) ++ []) ≡ length l
 latest-length-only f l = ap length (append-nil (map f (reverse l))) ∙ latest-length f l
 
-flat-append : {A B : Type 0} (f : A → List B) (l m : List A) → flatMap f (l ++ m) ≡ flatMap f l ++ flatMap f m
+pub flat-append : {A B : Type 0} (f : A → List B) (l m : List A) → flatMap f (l ++ m) ≡ flatMap f l ++ flatMap f m
 unfolding flatMap
 flat-append f [] m = refl
 flat-append f (a ∷ l) m = ap (λ (x : List _). f a ++ x) (flat-append f l m) ∙ sym (append-assoc (f a) (flatMap f l) (flatMap f m))

@@ -96,7 +96,7 @@ module _ (l : Lengths) (s xs : List ℕ) (x : Standing) where
         rows = omega (arith, h .kept .rows, b, g .rises, ap (λ (c : Cursor). c .at) (h .cursor));
         rises = omega (arith, g .rises, ap (λ (c : Cursor). c .at) (h .cursor));
       }
-  turn-is ys f n e g b (turned.End z) h = record { says = e ∙ h .says; names = h .names }
+  turn-is ys f n e g b (turned.End z) h = record { says = e ∙ h .says; names = h .names; within = h .within }
 
   pub ready : (p : Spot) → Sound s xs x → TextIs s (x .cursor) (p .line) (p .start) (p .end) (p .next) → Ready s xs (x .tally) p
   ready p h t =

@@ -49,9 +49,15 @@ pub record GoesOn (l : Lengths) (n : ℕ) (s xs : List ℕ) (f : Finish) (t : Ta
   pub cursor : y .cursor ≡ c
   pub kept : Kept t (y .tally)
 
+-- lines read to the end leave a tally within the bounds
+abbrev pub WithinAt : Tally → Ending → Type 0
+WithinAt t Whole = Within t
+WithinAt t (Broken f) = Unit {0}
+
 pub record Ends (s xs : List ℕ) (f : Finish) (z : Scanned) : Type 0 where
   pub says : f ≡ finishIs s xs z
   pub names : z .tally .names ≤ 873
+  pub within : WithinAt (z .tally) (z .ending)
 
 abbrev pub StepIs : Lengths → ℕ → List ℕ → List ℕ → Finish → Tally → Cursor → Turn → Type 0
 StepIs l n s xs f t c (On y) = GoesOn l n s xs f t c y

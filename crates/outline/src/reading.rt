@@ -11,7 +11,7 @@ ghost use Rattle.noted.specs.Noted.{runLog, emptyLog, outOfLines};
 ghost use Rattle.outline.specs.declared.Ending.the-variants.{Broken};
 ghost use Rattle.store.specs.Store.{storeLength};
 ghost use Rattle.outline.specs.Events.{logOf, Ready, Within};
-ghost use Rattle.outline.specs.Scans.{textStep, changeStep, finishIs, StepIs, TurnIs, Sound};
+ghost use Rattle.outline.specs.Scans.{textStep, changeStep, finishIs, StepIs, TurnIs, WithinAt, Sound};
 use crate::Ending;
 use crate::Scanned;
 use crate::Spot;
@@ -82,6 +82,7 @@ fn change_turn(s: Stage, t: Tally, line: u64, fault: u8, next: Cursor) -> Turn
 fn out_of_lines(s: Stage, t: Tally, line: u64) -> Scanned
     ensures { λ r. ⌜ ((src xs : List ℕ) → outOfLines line (logOf src xs t) s ≡ finishIs src xs r) ⌝ }
     ensures { λ r. ⌜ r .tally ≡ t ⌝ }
+    ensures { λ r. ⌜ (Within t → WithinAt (r .tally) (r .ending)) ⌝ }
 {
     let f = Fault {
         number: 19,
@@ -131,7 +132,7 @@ fn turn(notes: &mut [u32], src: &[u8], l: Lengths, x: Standing) -> Turn
 pub fn scan(notes: &mut [u32], src: &[u8], l: Lengths) -> Scanned
     requires { ⌜ (length (now src) ≤ 65536) × (storeLength ≤ length (now notes)) ⌝ }
     ensures { λ r. ⌜ runLog l (past (now (src .entry)) firstCursor) BeforeVersion emptyLog (rest (now (src .entry)) firstCursor) ≡ finishIs (now (src .entry)) (now (notes .exit)) r ⌝ }
-    ensures { λ r. ⌜ r .tally .names ≤ 873 ⌝ }
+    ensures { λ r. ⌜ (r .tally .names ≤ 873) × WithinAt (r .tally) (r .ending) ⌝ }
 {
     let mut x = Standing {
         stage: Stage::BeforeVersion,

@@ -1,16 +1,15 @@
 -- Laws on lines and keywords: a text more, by its kind; and what holds within a section.
-use Prim.Native.Nat.{ℕ, zero, suc, _+_, _-_, _≤_}
+use Prim.Native.Nat.{ℕ, _+_, _≤_}
 use mathlib.Core.Path.{_≡_, refl, sym, ap, _∙_}
 use mathlib.Core.List.{List, [], _∷_}
 use mathlib.Core.Bool.{Bool, true, false, cond, not, _&&_}
 use mathlib.Core.Option.{Option, none, some}
 use native.Mathlib.Omega.{arith}
-use lib.ListN.{length, take, drop, length-drop}
-use lib.Seq.{take-nil, take-all, drop-drop}
+use lib.ListN.{length}
 use borrow.Author.Tests.{not-true}
 use Rattle.laws.specs.Lists.{front, after, part}
 use Rattle.laws.proofs.Tests.{by-test, cond-yes, cond-no, cond-map, and-right}
-use Rattle.laws.proofs.Lists.{part-length}
+use Rattle.laws.proofs.Lists.{part-length, part-rest, part-from}
 use Rattle.keyword.specs.Carried.{keyOf}
 use Rattle.keyword.specs.declared.Keyword.{Keyword}
 use Rattle.keyword.specs.declared.KeyRead.{KeyRead}
@@ -150,21 +149,6 @@ pub record Sought (s : List ℕ) (c d : Cursor) : Type 0 where
   pub placed : Placed s d
   pub rises : c .at ≤ d .at
 
-drop-take : {A : Type 0} (i n : ℕ) (l : List A) → drop i (take n l) ≡ take (n - i) (drop i l)
-drop-take zero n l = let e : n ≡ n - 0 = omega arith in ap (λ (m : ℕ). take m l) e
-drop-take (suc i) zero l = let e : 0 ≡ 0 - suc i = omega arith in ap (λ (m : ℕ). take m (drop (suc i) l)) e
-drop-take (suc i) (suc n) [] = sym (take-nil (suc n - suc i))
-drop-take (suc i) (suc n) (x ∷ l) = let e : n - i ≡ suc n - suc i = omega arith in drop-take i n l ∙ ap (λ (m : ℕ). take m (drop i l)) e
-
--- what stands behind a place of a part
-pub part-behind : (s : List ℕ) (a e at : ℕ) → e ≤ length s → part at (length (part a e s)) (part a e s) ≡ part (a + at) e s
-part-behind s a e at h =
-    let m : e - a - at ≡ e - (a + at) = omega arith in
-    take-all (length (part a e s) - at) (drop at (part a e s)) (omega (arith, length-drop at (part a e s)))
-    ∙ drop-take at (e - a) (drop a s)
-    ∙ ap (λ (l : List ℕ). take (e - a - at) l) (drop-drop at a s)
-    ∙ ap (λ (n : ℕ). take n (drop (a + at) s)) m
-
 module _ {s : List ℕ} {c d : Cursor} (p : Sought s c d) where
   pub sought-change : {k f : ℕ} {n : Cursor} → ChangeIs s d k f n → Sought s c n
   sought-change {k} {f} t =
@@ -186,7 +170,7 @@ module _ {s : List ℕ} {c d : Cursor} (p : Sought s c d) where
           text = plain k (part a e s);
           more = p .keys ∙ key-stop (plain k (part a e s)) (t .more) key (key-at k (part a e s) (Known key at) h);
           key = key-at k (part a e s) (Known key at) h;
-          said = sym (key-argument (part a e s) (key-known (part a e s) key at h)) ∙ part-behind s a e at (t .fits);
+          said = sym (key-argument (part a e s) (key-known (part a e s) key at h)) ∙ part-rest (part a e s) at ∙ part-from s a e at;
           placed = t .goes .placed;
           rises = omega (arith, p .rises, t .goes .rises);
           starts = sought-within;

@@ -59,12 +59,8 @@ pub fn next_line(src: &[u8], c: Cursor) -> LineNext
                     next: next,
                 };
             }
-            Next::Change { line, fault, next } => {
-                d = next;
-            }
-            Next::Out { line } => {
-                return LineNext::NoLine { next: d };
-            }
+            Next::Change { line, fault, next } => d = next,
+            Next::Out { line } => return LineNext::NoLine { next: d },
         }
     }
 }
@@ -126,20 +122,12 @@ pub fn next_key(src: &[u8], c: Cursor) -> KeyNext
                             next: next,
                         };
                     }
-                    KeyRead::Unknown => {
-                        d = next;
-                    }
-                    KeyRead::Malformed => {
-                        d = next;
-                    }
+                    KeyRead::Unknown => d = next,
+                    KeyRead::Malformed => d = next,
                 }
             }
-            Next::Change { line, fault, next } => {
-                d = next;
-            }
-            Next::Out { line } => {
-                return KeyNext::NoKey;
-            }
+            Next::Change { line, fault, next } => d = next,
+            Next::Out { line } => return KeyNext::NoKey,
         }
     }
 }

@@ -27,7 +27,7 @@ returns c =
 returns-2 : tie.Need-returns-2
 returns-2 c =
     let a = c .before .before .before .before .before .args in
-    λ l n src xs. record { says = (rw (c .broken .ensures) (change-stop l n src xs (a .s) (a .t) (a .line) (a .fault) (a .next) _ (sym (c .before .before .before .before .on-change .ensures) ∙ c .before .before .f .given .1))); names = rw (c .broken .ensures) (omega (arith, names-small (a .t) (c .before .before .before .before .before .pre))) }
+    λ l n src xs. record { says = (rw (c .broken .ensures) (change-stop l n src xs (a .s) (a .t) (a .line) (a .fault) (a .next) _ (sym (c .before .before .before .before .on-change .ensures) ∙ c .before .before .f .given .1))); names = rw (c .broken .ensures) (omega (arith, names-small (a .t) (c .before .before .before .before .before .pre))); within = rw (c .broken .ensures) tt }
 
 pub change-turn-spec : {M : Type 1} → statement M
 change-turn-spec =

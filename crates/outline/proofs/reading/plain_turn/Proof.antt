@@ -61,13 +61,13 @@ returns-2 c =
     let a = c .before .before .before .before .before .before .before .before .before .before .before .before .before .before .before .before .args in
     let s = now (a .src) in
     let ys = c .before .before .before .before .before .before .note-event .last .0 in
-    λ n. record { says = rw (c .broken .ensures) (plain-full (a .l) n s (now (a .notes)) ys (a .s) (a .t) (a .p) _ _ _ _ (sym (c .before .before .before .before .before .before .before .before .before .before .before .on-plain .ensures) ∙ c .before .before .before .before .before .before .before .before .before .u .given .1) (c .before .before .before .before .before .before .note-event .ensures .0 ∙ ap (toldIs s ys (a .p .line)) (c .before .before .n .given .1))); names = rw (c .broken .ensures) (subst (KeptBy (a .t)) (c .before .before .n .given .1) (c .before .before .before .before .before .before .note-event .ensures .1)) }
+    λ n. record { says = rw (c .broken .ensures) (plain-full (a .l) n s (now (a .notes)) ys (a .s) (a .t) (a .p) _ _ _ _ (sym (c .before .before .before .before .before .before .before .before .before .before .before .on-plain .ensures) ∙ c .before .before .before .before .before .before .before .before .before .u .given .1) (c .before .before .before .before .before .before .note-event .ensures .0 ∙ ap (toldIs s ys (a .p .line)) (c .before .before .n .given .1))); names = rw (c .broken .ensures) (subst (KeptBy (a .t)) (c .before .before .n .given .1) (c .before .before .before .before .before .before .note-event .ensures .1)); within = rw (c .broken .ensures) tt }
 
 returns-3 : tie.Need-returns-3
 returns-3 c =
     let a = c .before .before .before .before .before .before .before .before .before .args in
     let s = now (a .src) in
-    λ n. record { says = rw (c .broken2 .ensures) (plain-stop (a .l) n s (now (a .notes)) (now (a .notes)) (a .s) (a .t) (a .p) _ (sym (c .before .before .before .before .on-plain .ensures) ∙ c .before .before .f .given .1)); names = rw (c .broken2 .ensures) (omega (arith, names-small (a .t) (c .before .before .before .before .before .before .before .before .before .pre .within))) }
+    λ n. record { says = rw (c .broken2 .ensures) (plain-stop (a .l) n s (now (a .notes)) (now (a .notes)) (a .s) (a .t) (a .p) _ (sym (c .before .before .before .before .on-plain .ensures) ∙ c .before .before .f .given .1)); names = rw (c .broken2 .ensures) (omega (arith, names-small (a .t) (c .before .before .before .before .before .before .before .before .before .pre .within))); within = rw (c .broken2 .ensures) tt }
 
 pub plain-turn-spec : {M : Type 1} → statement M
 plain-turn-spec =

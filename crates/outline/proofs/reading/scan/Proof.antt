@@ -57,7 +57,7 @@ returns c =
     let a = c .before .before .before .before .before .before .before .before .before .before .before .before .args in
     let i = c .before .before .before .before .before .before .before .loop .inv in
     let h = subst (TurnIs (a .l) (now (a .src)) (c .before .before .before .before .before .before .before .loop .notes) (c .before .before .before .before .before .before .before .loop .x) (c .before .before .before .before .before .turn .last .0)) (c .before .z .given .1) (c .before .before .before .before .before .turn .ensures) in
-    (first-run (a .l) (now (a .src)) (now (a .notes)) _ _ (c .before .before .before .before .before .before .before .before .before .first .ensures) (c .before .before .before .before .before .before .before .before .nothing .ensures) ∙ i .2 ∙ h .says, h .names)
+    (first-run (a .l) (now (a .src)) (now (a .notes)) _ _ (c .before .before .before .before .before .before .before .before .before .first .ensures) (c .before .before .before .before .before .before .before .before .nothing .ensures) ∙ i .2 ∙ h .says, (h .names, h .within))
 
 pub scan-spec : {M : Type 1} → statement M
 scan-spec =

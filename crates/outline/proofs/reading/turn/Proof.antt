@@ -56,7 +56,7 @@ returns-3 c =
     let a = c .before .before .before .before .before .before .before .before .args in
     let s = now (a .src) in
     let h = subst (NextIs s (a .x .cursor)) (c .before .before .line3 .given .1) (c .before .before .before .before .next-text .ensures) in
-    record { says = run-out (a .l) s (now (a .notes)) (a .x) _ h ∙ c .out-of-lines .ensures .0 s (now (a .notes)); names = rw (c .out-of-lines .ensures .1) (omega (arith, names-small (a .x .tally) (c .before .before .before .before .before .before .before .before .pre .within))) }
+    record { says = run-out (a .l) s (now (a .notes)) (a .x) _ h ∙ c .out-of-lines .ensures .0 s (now (a .notes)); names = rw (c .out-of-lines .ensures .1 .0) (omega (arith, names-small (a .x .tally) (c .before .before .before .before .before .before .before .before .pre .within))); within = c .out-of-lines .ensures .1 .1 (c .before .before .before .before .before .before .before .before .pre .within) }
 
 pub turn-spec : {M : Type 1} → statement M
 turn-spec =

@@ -1,0 +1,5 @@
+-- Laws of what is answered.
+pub mod Laws
+pub mod UpTo
+pub mod SortedLaws
+pub mod Accepts

@@ -1,0 +1,3 @@
+-- What is answered to a file, and what is noted of it.
+pub mod Answered
+pub mod Sorted

@@ -1,0 +1,7 @@
+-- Laws of what is looked up.
+pub mod NoteLaws
+pub mod ClashLaws
+pub mod OutsideLaws
+pub mod SortLaws
+pub mod TargetLaws
+pub mod MarkLaws

@@ -1,0 +1,327 @@
+-- What a pin or a selector row names: by its words and as the rules say it; and that it names one entry at most.
+use Prim.Native.Nat.{ℕ, zero, suc, _+_, _-_, _*_, _≤_, _<_}
+use mathlib.Core.Path.{_≡_, refl, sym, ap, _∙_, subst}
+use mathlib.Core.List.{List}
+use mathlib.Core.Bool.{Bool, true, false, cond, _&&_, _||_}
+use mathlib.Core.Option.{Option, none, some}
+use native.Mathlib.Omega.{arith}
+use lib.ListN.{getD}
+use lib.Dec.{eqb}
+use borrow.Author.Tests.{ne-eqb}
+use Rattle.laws.specs.Lists.{part, eqs}
+use Rattle.laws.proofs.Tests.{by-test, by-order, cond-yes, cond-no, and-left, and-first, and-second, and-both, never, or-none, or-left, or-right, impossible}
+use Rattle.laws.proofs.Same.{eqs-refl, eqs-eq}
+use Rattle.names.specs.declared.Found.{Found}
+use Rattle.names.specs.declared.Found.the-variants.{At, Nothing}
+use Rattle.rules.specs.Fields.{needsNoModel}
+use Rattle.rules.specs.Outline.{Entry, place, is, isModelOrSelector, named, isUsed, isFound}
+use Rattle.rules.specs.Whole.{found}
+use Rattle.rules.specs.declared.Kind.{Kind}
+use Rattle.rules.specs.declared.Kind.the-variants.{OfComponent, OfPin, OfSelector, OfChoice, OfModel}
+use Rattle.noted.specs.Noted.{orUsed, clash}
+use Rattle.store.specs.Store.{noteAt, noteFrom, notingAt, notesTo, kindOf}
+use Rattle.store.specs.declared.Noting.{Noting}
+use Rattle.lookup.specs.Lookup.{placeAt, lineAt, nameAt, modelAt, entryAt, entriesTo, entriesFrom, Outside, modelOrSelector, enclosed, reaches, reachesAt, targetFrom, excused, missingLine, withMark, marked}
+use Rattle.lookup.proofs.NoteLaws.{note-kind, note-name, note-line}
+use Rattle.lookup.proofs.ClashLaws.{either-is, usedAt}
+use Rattle.lookup.proofs.OutsideLaws.{outside-place, line-outside, name-outside, model-outside}
+
+-- ---- a pin or a selector row names another entry
+
+row-names : (s : List ℕ) (x : Noting) (k : Kind) → enclosed (place k) ≡ true → noteFrom s x k .names ≡ part (x .names) (x .«names_end») s
+unfolding enclosed
+row-names s x OfComponent h = impossible (cc)
+row-names s x OfPin h = refl
+row-names s x OfSelector h = impossible (cc)
+row-names s x OfChoice h = refl
+row-names s x OfModel h = impossible (cc)
+
+pub note-names : (s xs : List ℕ) (i : ℕ) → enclosed (placeAt xs i) ≡ true → noteAt s xs i .names ≡ modelAt s xs i
+unfolding noteAt placeAt
+note-names s xs i h = row-names s (notingAt xs i) (kindOf (getD xs (9 * i) 0)) h
+
+pub reaches-never : (k l : ℕ) → enclosed k ≡ false → reaches k l ≡ false
+unfolding reaches enclosed
+reaches-never k l h =
+    let e : eqb k 1 ≡ false = or-left (eqb k 1) (eqb k 3) h in
+    by-test (eqb l 4) (λ t. rw t h) (λ t. rw t (by-test (eqb l 2) (λ u. rw u e) (λ u. rw u refl)))
+
+reaches-some : (k l : ℕ) → reaches k l ≡ true → modelOrSelector l ≡ true
+unfolding reaches modelOrSelector
+reaches-some k l h =
+    by-test (eqb l 4) (λ t. rw t refl)
+    (λ t. by-test (eqb l 2) (λ u. rw t rw u refl) (λ u. let z : false ≡ true = simp (t, u) at h in impossible (cc)))
+
+-- the entry e names f
+abbrev pub hits : Entry → Entry → Bool
+hits e f = reaches (place (e .kind)) (place (f .kind)) && eqs (e .names) (f .name)
+
+pub hits-at : (s xs : List ℕ) (i j : ℕ) → hits (entryAt s xs i) (entryAt s xs j) ≡ reachesAt s xs i j
+unfolding reachesAt
+hits-at s xs i j =
+    rw (note-kind s xs i) rw (note-kind s xs j) rw (note-name s xs j)
+    (by-test (enclosed (placeAt xs i))
+    (λ h. rw (note-names s xs i h) refl)
+    (λ h. let z = reaches-never (placeAt xs i) (placeAt xs j) h in rw z refl))
+
+-- ---- the search for what is named
+
+abbrev isAt : Found → Bool
+isAt (At j) = true
+isAt Nothing = false
+
+module _ (s xs : List ℕ) (i : ℕ) where
+  pub target-here : (j n : ℕ) → j < n → reachesAt s xs i j ≡ true → At j ≡ targetFrom s xs i j (n - j)
+  unfolding targetFrom
+  target-here j n h t =
+      let e : n - j ≡ suc (n - (j + 1)) = omega (arith, h) in
+      rw e (sym (cond-yes (At j) (targetFrom s xs i (j + 1) (n - (j + 1))) t))
+
+  pub target-later : (j n : ℕ) → j < n → reachesAt s xs i j ≡ false → targetFrom s xs i (j + 1) (n - (j + 1)) ≡ targetFrom s xs i j (n - j)
+  unfolding targetFrom
+  target-later j n h t =
+      let e : n - j ≡ suc (n - (j + 1)) = omega (arith, h) in
+      rw e (sym (cond-no (At j) (targetFrom s xs i (j + 1) (n - (j + 1))) t))
+
+  pub target-end : (j n : ℕ) → n ≤ j → Nothing ≡ targetFrom s xs i j (n - j)
+  unfolding targetFrom
+  target-end j n h =
+      let e : n - j ≡ 0 = omega (arith, h) in
+      rw e refl
+
+  pub target-start : (n : ℕ) → targetFrom s xs i 0 (n - 0) ≡ targetFrom s xs i 0 n
+  target-start n =
+      let e : n - 0 ≡ n = omega arith in
+      rw e refl
+
+  pub target-found : (a m j : ℕ) → targetFrom s xs i a m ≡ At j → (j < a + m) × (reachesAt s xs i j ≡ true)
+  unfolding targetFrom
+  target-found a zero j h = impossible (cc)
+  target-found a (suc m) j h =
+      by-test (reachesAt s xs i a)
+      (λ t.
+      let e : At a ≡ At j = sym (cond-yes (At a) (targetFrom s xs i (a + 1) m) t) ∙ h in
+      let z : a ≡ j = cc in
+      (omega (arith, z), subst (λ (k : ℕ). reachesAt s xs i k ≡ true) z t))
+      (λ t.
+      let e : targetFrom s xs i (a + 1) m ≡ At j = sym (cond-no (At a) (targetFrom s xs i (a + 1) m) t) ∙ h in
+      let r = target-found (a + 1) m j e in
+      (omega (arith, r .0), r .1))
+
+  pub target-missed : (a m j : ℕ) → targetFrom s xs i a m ≡ Nothing → a ≤ j → j < a + m → reachesAt s xs i j ≡ false
+  unfolding targetFrom
+  target-missed a zero j h g f = absurd (omega (arith, g, f))
+  target-missed a (suc m) j h g f =
+      by-test (reachesAt s xs i a)
+      (λ t. let e : At a ≡ Nothing = sym (cond-yes (At a) (targetFrom s xs i (a + 1) m) t) ∙ h in impossible (cc))
+      (λ t.
+      let e : targetFrom s xs i (a + 1) m ≡ Nothing = sym (cond-no (At a) (targetFrom s xs i (a + 1) m) t) ∙ h in
+      by-order (a + 1) j
+      (λ b. target-missed (a + 1) m j e b (omega (arith, f)))
+      (λ b.
+      let z : a ≡ j = omega (arith, b, g) in
+      subst (λ (k : ℕ). reachesAt s xs i k ≡ false) z t))
+
+  -- a section names nothing
+  pub target-never : enclosed (placeAt xs i) ≡ false → (a m : ℕ) → targetFrom s xs i a m ≡ Nothing
+  unfolding targetFrom reachesAt
+  target-never h a zero = refl
+  target-never h a (suc m) =
+      cond-no (At a) (targetFrom s xs i (a + 1) m) (and-left (reaches (placeAt xs i) (placeAt xs a)) (eqs (modelAt s xs i) (nameAt s xs a)) (reaches-never (placeAt xs i) (placeAt xs a) h))
+      ∙ target-never h (a + 1) m
+
+  pub target-within : (n j : ℕ) (t : Found) → t ≡ targetFrom s xs i 0 n → t ≡ At j → j < n
+  target-within n j t e f = omega (arith, target-found 0 n j (sym e ∙ f) .0)
+
+  named-target : (q : Entry → Bool) → ((j : ℕ) → (q (entryAt s xs j) && eqs (noteAt s xs i .names) (noteAt s xs j .name)) ≡ reachesAt s xs i j)
+      → (a m : ℕ) → named q (noteAt s xs i .names) (entriesFrom s xs a m) ≡ isAt (targetFrom s xs i a m)
+  unfolding named entriesFrom targetFrom
+  named-target q h a zero = refl
+  named-target q h a (suc m) =
+      rw (h a)
+      (by-test (reachesAt s xs i a)
+      (λ t. rw t refl)
+      (λ t. rw t (named-target q h (a + 1) m)))
+
+-- ---- as the rules say it: found, or the line
+
+pin-reaches : (y : Kind) → (eqb 4 (place y) || eqb 2 (place y)) ≡ reaches 1 (place y)
+unfolding reaches enclosed
+pin-reaches OfComponent = refl
+pin-reaches OfPin = refl
+pin-reaches OfSelector = refl
+pin-reaches OfChoice = refl
+pin-reaches OfModel = refl
+
+row-reaches : (y : Kind) → eqb 4 (place y) ≡ reaches 3 (place y)
+unfolding reaches enclosed
+row-reaches OfComponent = refl
+row-reaches OfPin = refl
+row-reaches OfSelector = refl
+row-reaches OfChoice = refl
+row-reaches OfModel = refl
+
+module _ (s xs : List ℕ) (i n later : ℕ) where
+  line-unless : (t : Found) → excused (placeAt xs i) (modelAt s xs i) ≡ true → later ≡ missingLine s xs i later t
+  line-unless (At j) h = refl
+  line-unless Nothing h = sym (cond-yes later (lineAt xs i) h)
+
+  pin-line : (t : Found) → placeAt xs i ≡ 1 → cond (needsNoModel (modelAt s xs i) || isAt t) later (lineAt xs i) ≡ missingLine s xs i later t
+  unfolding excused
+  pin-line (At j) h = by-test (needsNoModel (modelAt s xs i)) (λ t. rw t refl) (λ t. rw t refl)
+  pin-line Nothing h = rw h rw (or-none (needsNoModel (modelAt s xs i))) refl
+
+  row-line : (t : Found) → placeAt xs i ≡ 3 → cond (isAt t) later (lineAt xs i) ≡ missingLine s xs i later t
+  unfolding excused
+  row-line (At j) h = refl
+  row-line Nothing h = rw h refl
+
+  -- the number of its kind
+  number : (k : Kind) → noteAt s xs i .kind ≡ k → placeAt xs i ≡ place k
+  number k e = sym (note-kind s xs i) ∙ ap place e
+
+  hits-as : (k : Kind) → noteAt s xs i .kind ≡ k → (j : ℕ) → (reaches (place k) (place (noteAt s xs j .kind)) && eqs (noteAt s xs i .names) (noteAt s xs j .name)) ≡ reachesAt s xs i j
+  hits-as k e j = subst (λ (x : Kind). (reaches (place x) (place (noteAt s xs j .kind)) && eqs (noteAt s xs i .names) (noteAt s xs j .name)) ≡ reachesAt s xs i j) e (hits-at s xs i j)
+
+  found-kind : (k : Kind) → noteAt s xs i .kind ≡ k → cond (isFound (entriesFrom s xs 0 n) (entryAt s xs i) k) later (lineAt xs i) ≡ missingLine s xs i later (targetFrom s xs i 0 n)
+  unfolding excused enclosed
+  found-kind OfComponent e = line-unless (targetFrom s xs i 0 n) (rw (number OfComponent e) refl)
+  found-kind OfPin e =
+      let p = number OfPin e in
+      let h : enclosed (placeAt xs i) ≡ true = rw p refl in
+      let q : (j : ℕ) → (isModelOrSelector (entryAt s xs j) && eqs (noteAt s xs i .names) (noteAt s xs j .name)) ≡ reachesAt s xs i j =
+      λ j. ap (λ (b : Bool). b && eqs (noteAt s xs i .names) (noteAt s xs j .name)) (pin-reaches (noteAt s xs j .kind)) ∙ hits-as OfPin e j in
+      rw (named-target s xs i isModelOrSelector q 0 n) rw (note-names s xs i h) (pin-line (targetFrom s xs i 0 n) p)
+  found-kind OfSelector e = line-unless (targetFrom s xs i 0 n) (rw (number OfSelector e) refl)
+  found-kind OfChoice e =
+      let q : (j : ℕ) → (is OfModel (entryAt s xs j) && eqs (noteAt s xs i .names) (noteAt s xs j .name)) ≡ reachesAt s xs i j =
+      λ j. ap (λ (b : Bool). b && eqs (noteAt s xs i .names) (noteAt s xs j .name)) (row-reaches (noteAt s xs j .kind)) ∙ hits-as OfChoice e j in
+      rw (named-target s xs i (is OfModel) q 0 n) (row-line (targetFrom s xs i 0 n) (number OfChoice e))
+  found-kind OfModel e = line-unless (targetFrom s xs i 0 n) (rw (number OfModel e) refl)
+
+  pub found-line : cond (found (entriesFrom s xs 0 n) (entryAt s xs i)) later (noteAt s xs i .line) ≡ missingLine s xs i later (targetFrom s xs i 0 n)
+  found-line = ap (cond (found (entriesFrom s xs 0 n) (entryAt s xs i)) later) (note-line s xs i) ∙ found-kind (noteAt s xs i .kind) refl
+
+-- ---- by the tests that the code makes
+
+module _ (s xs : List ℕ) (i j k l : ℕ) (kindI : k ≡ placeAt xs i) (kindJ : l ≡ placeAt xs j) where
+  pub reach-may : (t : Bool) → reaches k l ≡ true → t ≡ eqs (modelAt s xs i) (nameAt s xs j) → t ≡ reachesAt s xs i j
+  unfolding reachesAt
+  reach-may t h e = rw (← kindI) rw (← kindJ) rw h e
+
+  pub reach-not : reaches k l ≡ false → false ≡ reachesAt s xs i j
+  unfolding reachesAt
+  reach-not h = rw (← kindI) rw (← kindJ) rw h refl
+
+module _ (s xs : List ℕ) (i k later : ℕ) (kind : k ≡ placeAt xs i) where
+  -- a section marks nothing
+  pub section-marks : (n : ℕ) → enclosed k ≡ false → (later ≡ missingLine s xs i later (targetFrom s xs i 0 n)) × (xs ≡ withMark xs (targetFrom s xs i 0 n))
+  unfolding excused enclosed
+  section-marks n h =
+      let g : enclosed (placeAt xs i) ≡ false = rw (← kind) h in
+      rw (target-never s xs i g 0 n)
+      (rw (← kind) rw (or-left (eqb k 1) (eqb k 3) h) rw (or-right (eqb k 1) (eqb k 3) h) refl, refl)
+
+  pub missing-pin : (t : Bool) → k ≡ 1 → t ≡ needsNoModel (modelAt s xs i) → cond t later (lineAt xs i) ≡ missingLine s xs i later Nothing
+  unfolding excused
+  missing-pin t h e = rw (← kind) rw h rw e refl
+
+  pub missing-row : k ≡ 3 → lineAt xs i ≡ missingLine s xs i later Nothing
+  unfolding excused
+  missing-row h = rw (← kind) rw h refl
+
+  pub missing-section : (k ≡ 1 → ⊥) → (k ≡ 3 → ⊥) → later ≡ missingLine s xs i later Nothing
+  unfolding excused
+  missing-section h g = rw (← kind) rw (ne-eqb k 1 h) rw (ne-eqb k 3 g) refl
+
+-- what the search says, said of what is marked and told
+pub target-marks : (s xs : List ℕ) (i later n v : ℕ) (t x : Found) → t ≡ targetFrom s xs i 0 n → t ≡ x → v ≡ missingLine s xs i later x
+    → (v ≡ missingLine s xs i later (targetFrom s xs i 0 n)) × (withMark xs x ≡ withMark xs (targetFrom s xs i 0 n))
+target-marks s xs i later n v t x e f g =
+    let z : targetFrom s xs i 0 n ≡ x = sym e ∙ f in
+    rw z (g, refl)
+
+-- ---- in a store that differs only by marks
+
+module _ (s xs ys : List ℕ) (o : Outside xs ys) where
+  reach-outside : (i j : ℕ) → i ≤ 872 → j ≤ 872 → reachesAt s ys i j ≡ reachesAt s xs i j
+  unfolding reachesAt
+  reach-outside i j h g =
+      rw (outside-place xs ys i o h) rw (outside-place xs ys j o g) rw (model-outside s xs ys o i h) rw (name-outside s xs ys o j g) refl
+
+  pub target-outside : (i a m : ℕ) → i ≤ 872 → a + m ≤ 872 → targetFrom s ys i a m ≡ targetFrom s xs i a m
+  unfolding targetFrom
+  target-outside i a zero h g = refl
+  target-outside i a (suc m) h g =
+      rw (reach-outside i a h (omega (arith, g))) rw (target-outside i (a + 1) m h (omega (arith, g))) refl
+
+  pub missing-outside : (i later : ℕ) (t : Found) → i ≤ 872 → missingLine s ys i later t ≡ missingLine s xs i later t
+  missing-outside i later (At j) h = refl
+  missing-outside i later Nothing h =
+      rw (outside-place xs ys i o h) rw (model-outside s xs ys o i h) rw (line-outside s xs ys o i h) refl
+
+-- ---- models and selectors have names of their own
+
+or-used : (e : Entry) (u : Bool) (c : Option ℕ) → orUsed e u c ≡ none → (u ≡ false) × (c ≡ none)
+or-used e u (some k) h = impossible (cc)
+or-used e true none h = impossible (cc)
+or-used e false none h = (refl, refl)
+
+used-either : (x : Kind) (w : List ℕ) (es : List Entry) → modelOrSelector (place x) ≡ true → isUsed x w es ≡ named isModelOrSelector w es
+unfolding modelOrSelector
+used-either OfComponent w es h = impossible (cc)
+used-either OfPin w es h = impossible (cc)
+used-either OfSelector w es h = refl
+used-either OfChoice w es h = impossible (cc)
+used-either OfModel w es h = refl
+
+module _ (s xs : List ℕ) where
+  never-used : (n t : ℕ) → clash (entriesTo s xs n) ≡ none → t < n → usedAt s xs t t ≡ false
+  unfolding notesTo clash
+  never-used zero t h g = absurd (omega (arith, g))
+  never-used (suc n) t h g =
+      let q = or-used (entryAt s xs n) (usedAt s xs n n) (clash (entriesTo s xs n)) h in
+      by-order (suc t) n
+      (λ a. never-used n t (q .1) a)
+      (λ a.
+      let z : t ≡ n = omega (arith, a, g) in
+      subst (λ (m : ℕ). usedAt s xs m m ≡ false) (sym z) (q .0))
+
+  named-each : (q : Entry → Bool) (w : List ℕ) (t j : ℕ) → named q w (entriesTo s xs t) ≡ false → j < t → (q (entryAt s xs j) && eqs w (noteAt s xs j .name)) ≡ false
+  unfolding named notesTo
+  named-each q w zero j h g = absurd (omega (arith, g))
+  named-each q w (suc t) j h g =
+      let p = q (entryAt s xs t) && eqs w (noteAt s xs t .name) in
+      by-order (suc j) t
+      (λ a. named-each q w t j (or-right p (named q w (entriesTo s xs t)) h) a)
+      (λ a.
+      let z : j ≡ t = omega (arith, a, g) in
+      subst (λ (m : ℕ). (q (entryAt s xs m) && eqs w (noteAt s xs m .name)) ≡ false) (sym z) (or-left p (named q w (entriesTo s xs t)) h))
+
+  module _ (n : ℕ) (unique : clash (entriesTo s xs n) ≡ none) where
+    names-apart : (j t : ℕ) → j < t → t < n → modelOrSelector (placeAt xs j) ≡ true → modelOrSelector (placeAt xs t) ≡ true → nameAt s xs t ≡ nameAt s xs j → ⊥
+    names-apart j t h g a b e =
+        let k : modelOrSelector (place (noteAt s xs t .kind)) ≡ true = rw (note-kind s xs t) b in
+        let u : named isModelOrSelector (noteAt s xs t .name) (entriesTo s xs t) ≡ false =
+        sym (used-either (noteAt s xs t .kind) (noteAt s xs t .name) (entriesTo s xs t) k) ∙ never-used n t unique g in
+        let v = named-each isModelOrSelector (noteAt s xs t .name) t j u h in
+        let m : isModelOrSelector (entryAt s xs j) ≡ true = either-is (noteAt s xs j .kind) ∙ rw (note-kind s xs j) a in
+        let w : eqs (noteAt s xs t .name) (noteAt s xs j .name) ≡ true = rw (note-name s xs t) rw (note-name s xs j) rw e (eqs-refl (nameAt s xs j)) in
+        never (isModelOrSelector (entryAt s xs j) && eqs (noteAt s xs t .name) (noteAt s xs j .name)) (and-both (isModelOrSelector (entryAt s xs j)) (eqs (noteAt s xs t .name) (noteAt s xs j .name)) m w) v
+
+    -- a row names one entry at most
+    pub one-target : (i j k : ℕ) → j < n → k < n → (j ≡ k → ⊥) → reachesAt s xs i k ≡ true → reachesAt s xs i j ≡ false
+    unfolding reachesAt
+    one-target i j k h g d r =
+        let R = reaches (placeAt xs i) (placeAt xs k) in
+        let S = reaches (placeAt xs i) (placeAt xs j) in
+        let p = reaches-some (placeAt xs i) (placeAt xs k) (and-first R (eqs (modelAt s xs i) (nameAt s xs k)) r) in
+        let e : modelAt s xs i ≡ nameAt s xs k = eqs-eq (modelAt s xs i) (nameAt s xs k) (and-second R (eqs (modelAt s xs i) (nameAt s xs k)) r) in
+        by-test (S && eqs (modelAt s xs i) (nameAt s xs j))
+        (λ t.
+        let q = reaches-some (placeAt xs i) (placeAt xs j) (and-first S (eqs (modelAt s xs i) (nameAt s xs j)) t) in
+        let f : modelAt s xs i ≡ nameAt s xs j = eqs-eq (modelAt s xs i) (nameAt s xs j) (and-second S (eqs (modelAt s xs i) (nameAt s xs j)) t) in
+        by-order j k
+        (λ a. absurd (names-apart j k (omega (arith, a, d)) g q p (sym e ∙ f)))
+        (λ a. absurd (names-apart k j a h p q (sym f ∙ e))))
+        (λ t. t)

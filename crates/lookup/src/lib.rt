@@ -1,0 +1,29 @@
+// The last questions about the noted names: names used twice (14), names not found (15), what nobody lists (16); and the names by kind.
+pub mod places; // places.rt: a note's words
+pub mod clashes; // clashes.rt: names used twice
+pub mod sorting; // sorting.rt: the names by kind
+pub mod marking; // marking.rt: names not found, and what nobody lists
+
+pub use clashes::first_clash;
+pub use marking::last_fault;
+pub use sorting::sort_by_kind;
+
+// The line of the first name that is used twice.
+pub enum Clash {
+    At(u64),
+    NoClash,
+}
+
+// A name and an earlier one: equal, differing, or no longer to be compared.
+pub enum Meeting {
+    Equal,
+    Differing,
+    Beyond,
+}
+
+// The first name that is not found, else the first section that nobody lists, by their lines.
+pub enum Last {
+    Fine,
+    Missing(u64),
+    Unlisted(u64),
+}

@@ -1,0 +1,2 @@
+-- What the notes in a store say of the lent tables.
+pub mod Made

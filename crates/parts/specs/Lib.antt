@@ -1,0 +1,2 @@
+-- What the code's structs say of what is read.
+pub mod Views

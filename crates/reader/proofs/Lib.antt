@@ -1,0 +1,4 @@
+-- Laws of the promise.
+pub mod Tables
+pub mod Laws
+pub mod Strength

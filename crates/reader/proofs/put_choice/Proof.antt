@@ -1,0 +1,19 @@
+-- `Put.antt`'s walk of slices, at a Choice.
+use contract.Running.{givenOf, tables, tablesOf}
+use denote.Triple.Spec.{tripleOf}
+use denote.Triple.Table.{entered}
+use Rattle.slices.proofs.Elem.{of-struct, struct-elem}
+use Rattle.slices.proofs.Put.{put-meets}
+use Rattle.rules.proofs.Choice as T
+use Rattle.rules.proofs.Choice.Laws as T′
+use Rattle.reader.proofs.put_choice.Key.{name as #reader·put-choice}
+use Rattle.reader.proofs.put_choice as put-choice
+use Rattle.reader.proofs.put_choice.Statement as stated
+use Rattle.reader.proofs.put_choice.Code as code
+
+pub put-choice-spec : {M : Type 1} → stated.statement M
+unfolding code.routine tablesOf
+put-choice-spec 𝓤 H 𝓜 𝓖 𝓡 =
+    entered 𝓤 H (tripleOf 𝓤 H (𝓖 .A) put-choice.signature (put-choice.spec 𝓤 H (𝓖 .A) (𝓜 .mem) (𝓡 .run)))
+    (tables 𝓤 H 𝓜 𝓡 code.env .C) (tables 𝓤 H 𝓜 𝓡 code.env .Λ) #reader·put-choice code.function (code.unfolded 𝓤 H 𝓜 𝓡)
+    (put-meets (of-struct T.the-type T′.the-laws) (struct-elem T.the-type T′.the-laws T′.the-copy T′.the-plain) 𝓤 H (𝓖 .A) (givenOf 𝓤 H 𝓜 𝓖) (tablesOf 𝓤 H 𝓜 (tables 𝓤 H 𝓜 𝓡 code.env)))

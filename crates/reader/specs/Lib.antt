@@ -1,0 +1,3 @@
+-- What a reading promises.
+pub mod Promise
+pub mod Filling

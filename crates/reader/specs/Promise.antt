@@ -1,0 +1,62 @@
+-- Demands 1 and 2 as one promise: what `read` answers, and what it leaves in every lent table, for any bytes and tables of any length.
+use Prim.Native.Nat.{ℕ, _/_}
+use mathlib.Core.Path.{_≡_}
+use mathlib.Core.List.{List}
+use lib.ListN.{length}
+use Rattle.rules.specs.Reading.{fileIn}
+use Rattle.rules.specs.Laid.{Laid, laid, stored, over}
+use Rattle.rules.specs.Whole.{Outcome, passed, refused, outcome, textsOf}
+use Rattle.rules.specs.declared.Lengths.{Lengths}
+use Rattle.rules.specs.declared.Component.{Component}
+use Rattle.rules.specs.declared.Pin.{Pin}
+use Rattle.rules.specs.declared.Selector.{Selector}
+use Rattle.rules.specs.declared.Choice.{Choice}
+use Rattle.rules.specs.declared.Model.{Model}
+use Rattle.rules.specs.declared.Waveform.{Waveform}
+use Rattle.answers.specs.Answered.{answerOf}
+use Rattle.answers.specs.declared.Answer.{Answer}
+
+-- the lent tables, with all that lies in them
+pub record Lent : Type 0 where
+  pub components : List Component
+  pub pins : List Pin
+  pub selectors : List Selector
+  pub choices : List Choice
+  pub models : List Model
+  pub waveforms : List Waveform
+  pub rows : List ℕ
+
+-- of the row store, as many rows are lent as whole groups of four words
+abbrev pub lengthsOf : ℕ → ℕ → ℕ → ℕ → ℕ → ℕ → ℕ → Lengths
+lengthsOf c p s h m w r = record { components = c; pins = p; selectors = s; choices = h; models = m; waveforms = w; rows = r / 4 }
+
+abbrev pub lengthsIn : Lent → Lengths
+lengthsIn t =
+    lengthsOf (length (t .components)) (length (t .pins)) (length (t .selectors)) (length (t .choices)) (length (t .models)) (length (t .waveforms)) (length (t .rows))
+
+-- an accepted file is laid over what the tables held; "after a fault, the lent tables hold what they held before"
+abbrev pub left : Outcome → Laid → Lent → Lent
+left (passed h) a t =
+    record {
+      components = over (t .components) (a .components);
+      pins = over (t .pins) (a .pins);
+      selectors = over (t .selectors) (a .selectors);
+      choices = over (t .choices) (a .choices);
+      models = over (t .models) (a .models);
+      waveforms = over (t .waveforms) (a .waveforms);
+      rows = over (t .rows) (stored (a .rows));
+    }
+left (refused n k) a t = t
+
+-- file s is read into tables t: r is answered, and the tables then are u
+pub record Reads (s : List ℕ) (t : Lent) (r : Answer) (u : Lent) : Type 0 where
+  pub answer : r ≡ answerOf (lengthsIn t) s
+  pub tables : u ≡ left (outcome (lengthsIn t) s) (laid (fileIn (textsOf s))) t
+
+abbrev pub lent : List Component → List Pin → List Selector → List Choice → List Model → List Waveform → List ℕ → Lent
+lent cs ps ss hs ms ws rs = record { components = cs; pins = ps; selectors = ss; choices = hs; models = ms; waveforms = ws; rows = rs }
+
+-- the same, the tables one by one: as they were lent, and as they are left
+abbrev pub Read : List ℕ → List Component → List Pin → List Selector → List Choice → List Model → List Waveform → List ℕ
+    → Answer → List Component → List Pin → List Selector → List Choice → List Model → List Waveform → List ℕ → Type 0
+Read s cs ps ss hs ms ws rs r cs′ ps′ ss′ hs′ ms′ ws′ rs′ = Reads s (lent cs ps ss hs ms ws rs) r (lent cs′ ps′ ss′ hs′ ms′ ws′ rs′)

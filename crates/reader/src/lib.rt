@@ -1,0 +1,249 @@
+// Reading a file into the lent tables: checked first, and filled only when it is accepted.
+ghost use mathlib.Core.Path.{_≡_};
+ghost use Prim.Native.Nat.{_<_, _≤_};
+ghost use lib.ListN.{length, set};
+ghost use Rattle.slices.specs.Filled.{filledTo};
+ghost use Rattle.made.specs.Made.{componentAt, pinAt, selectorAt, choiceAt, modelAt, waveformAt};
+ghost use Rattle.reader.specs.Filling.{rowsFit, rowsFilled};
+ghost use Rattle.reader.specs.Promise.{lengthsOf, Read};
+use answers::Answer;
+pub use answers::check;
+use noted::Counts;
+use rules::Choice;
+use rules::Component;
+use rules::Lengths;
+use rules::Model;
+use rules::Pin;
+use rules::Selector;
+use rules::Waveform;
+
+fn lengths_of(
+    components: usize,
+    pins: usize,
+    selectors: usize,
+    choices: usize,
+    models: usize,
+    waveforms: usize,
+    rows: usize,
+) -> Lengths
+    ensures { λ r. ⌜ r ≡ lengthsOf components pins selectors choices models waveforms rows ⌝ }
+{
+    Lengths {
+        components: components,
+        pins: pins,
+        selectors: selectors,
+        choices: choices,
+        models: models,
+        waveforms: waveforms,
+        rows: rows / 4,
+    }
+}
+
+fn counts_of(a: Answer) -> Counts
+    ensures { λ r. ⌜ r ≡ a .counts ⌝ }
+{
+    a.counts
+}
+
+// ---- how many records of each table are used
+
+fn component_count(o: Counts) -> usize
+    ensures { λ r. ⌜ r ≡ o .components ⌝ }
+{
+    o.components
+}
+
+fn pin_count(o: Counts) -> usize
+    ensures { λ r. ⌜ r ≡ o .pins ⌝ }
+{
+    o.pins
+}
+
+fn selector_count(o: Counts) -> usize
+    ensures { λ r. ⌜ r ≡ o .selectors ⌝ }
+{
+    o.selectors
+}
+
+fn choice_count(o: Counts) -> usize
+    ensures { λ r. ⌜ r ≡ o .choices ⌝ }
+{
+    o.choices
+}
+
+fn model_count(o: Counts) -> usize
+    ensures { λ r. ⌜ r ≡ o .models ⌝ }
+{
+    o.models
+}
+
+fn waveform_count(o: Counts) -> usize
+    ensures { λ r. ⌜ r ≡ o .waveforms ⌝ }
+{
+    o.waveforms
+}
+
+// ---- a put and a fill for each table of records
+
+fn put_component(components: &mut [Component], i: usize, component: Component)
+    requires { ⌜ i < length (now components) ⌝ }
+    ensures { λ _. ⌜ now (components .exit) ≡ set (now (components .entry)) i component ⌝ }
+{
+    components[i] = component;
+}
+
+fn put_pin(pins: &mut [Pin], i: usize, pin: Pin)
+    requires { ⌜ i < length (now pins) ⌝ }
+    ensures { λ _. ⌜ now (pins .exit) ≡ set (now (pins .entry)) i pin ⌝ }
+{
+    pins[i] = pin;
+}
+
+fn put_selector(selectors: &mut [Selector], i: usize, selector: Selector)
+    requires { ⌜ i < length (now selectors) ⌝ }
+    ensures { λ _. ⌜ now (selectors .exit) ≡ set (now (selectors .entry)) i selector ⌝ }
+{
+    selectors[i] = selector;
+}
+
+fn put_choice(choices: &mut [Choice], i: usize, choice: Choice)
+    requires { ⌜ i < length (now choices) ⌝ }
+    ensures { λ _. ⌜ now (choices .exit) ≡ set (now (choices .entry)) i choice ⌝ }
+{
+    choices[i] = choice;
+}
+
+fn put_model(models: &mut [Model], i: usize, model: Model)
+    requires { ⌜ i < length (now models) ⌝ }
+    ensures { λ _. ⌜ now (models .exit) ≡ set (now (models .entry)) i model ⌝ }
+{
+    models[i] = model;
+}
+
+fn put_waveform(waveforms: &mut [Waveform], i: usize, waveform: Waveform)
+    requires { ⌜ i < length (now waveforms) ⌝ }
+    ensures { λ _. ⌜ now (waveforms .exit) ≡ set (now (waveforms .entry)) i waveform ⌝ }
+{
+    waveforms[i] = waveform;
+}
+
+fn fill_components(components: &mut [Component], src: &[u8], notes: &[u32], o: Counts)
+    requires { ⌜ o .components ≤ length (now components) ⌝ }
+    ensures { λ _. ⌜ now (components .exit) ≡ filledTo (λ k. componentAt (now (src .entry)) (now (notes .entry)) k) (o .components) (now (components .entry)) ⌝ }
+{
+    let n = component_count(o);
+    let mut i = 0;
+    while i < n {
+        let component = made::component_at(src, notes, i);
+        put_component(components, i, component);
+        i += 1;
+    }
+}
+
+fn fill_pins(pins: &mut [Pin], src: &[u8], notes: &[u32], o: Counts)
+    requires { ⌜ o .pins ≤ length (now pins) ⌝ }
+    ensures { λ _. ⌜ now (pins .exit) ≡ filledTo (λ k. pinAt (now (src .entry)) (now (notes .entry)) k) (o .pins) (now (pins .entry)) ⌝ }
+{
+    let n = pin_count(o);
+    let mut i = 0;
+    while i < n {
+        let pin = made::pin_at(src, notes, i);
+        put_pin(pins, i, pin);
+        i += 1;
+    }
+}
+
+fn fill_selectors(selectors: &mut [Selector], src: &[u8], notes: &[u32], o: Counts)
+    requires { ⌜ o .selectors ≤ length (now selectors) ⌝ }
+    ensures { λ _. ⌜ now (selectors .exit) ≡ filledTo (λ k. selectorAt (now (src .entry)) (now (notes .entry)) k) (o .selectors) (now (selectors .entry)) ⌝ }
+{
+    let n = selector_count(o);
+    let mut i = 0;
+    while i < n {
+        let selector = made::selector_at(src, notes, i);
+        put_selector(selectors, i, selector);
+        i += 1;
+    }
+}
+
+fn fill_choices(choices: &mut [Choice], src: &[u8], notes: &[u32], o: Counts)
+    requires { ⌜ o .choices ≤ length (now choices) ⌝ }
+    ensures { λ _. ⌜ now (choices .exit) ≡ filledTo (λ k. choiceAt (now (src .entry)) (now (notes .entry)) k) (o .choices) (now (choices .entry)) ⌝ }
+{
+    let n = choice_count(o);
+    let mut i = 0;
+    while i < n {
+        let choice = made::choice_at(src, notes, i);
+        put_choice(choices, i, choice);
+        i += 1;
+    }
+}
+
+fn fill_models(models: &mut [Model], src: &[u8], notes: &[u32], o: Counts)
+    requires { ⌜ o .models ≤ length (now models) ⌝ }
+    ensures { λ _. ⌜ now (models .exit) ≡ filledTo (λ k. modelAt (now (src .entry)) (now (notes .entry)) k) (o .models) (now (models .entry)) ⌝ }
+{
+    let n = model_count(o);
+    let mut i = 0;
+    while i < n {
+        let model = made::model_at(src, notes, i);
+        put_model(models, i, model);
+        i += 1;
+    }
+}
+
+fn fill_waveforms(waveforms: &mut [Waveform], src: &[u8], notes: &[u32], o: Counts)
+    requires { ⌜ o .waveforms ≤ length (now waveforms) ⌝ }
+    ensures { λ _. ⌜ now (waveforms .exit) ≡ filledTo (λ k. waveformAt (now (src .entry)) (now (notes .entry)) k) (o .waveforms) (now (waveforms .entry)) ⌝ }
+{
+    let n = waveform_count(o);
+    let mut i = 0;
+    while i < n {
+        let waveform = made::waveform_at(src, notes, i);
+        put_waveform(waveforms, i, waveform);
+        i += 1;
+    }
+}
+
+// The rows of all models, one after the other.
+fn fill_rows(rows: &mut [u64], src: &[u8], notes: &[u32], o: Counts)
+    requires { ⌜ rowsFit (now src) (now notes) o (now rows) ⌝ }
+    ensures { λ _. ⌜ now (rows .exit) ≡ rowsFilled (now (src .entry)) (now (notes .entry)) o (now (rows .entry)) ⌝ }
+{
+    made::fill_rows(rows, src, notes, o.models);
+}
+
+// Reads a file into the lent tables.
+pub fn read(
+    src: &[u8],
+    components: &mut [Component],
+    pins: &mut [Pin],
+    selectors: &mut [Selector],
+    choices: &mut [Choice],
+    models: &mut [Model],
+    waveforms: &mut [Waveform],
+    rows: &mut [u64],
+) -> Answer
+    ensures { λ r. ⌜ Read (now (src .entry)) (now (components .entry)) (now (pins .entry)) (now (selectors .entry)) (now (choices .entry)) (now (models .entry)) (now (waveforms .entry)) (now (rows .entry)) r (now (components .exit)) (now (pins .exit)) (now (selectors .exit)) (now (choices .exit)) (now (models .exit)) (now (waveforms .exit)) (now (rows .exit)) ⌝ }
+{
+    let mut notes = [0u32; 12825];
+    let l = lengths_of(
+        components.len(),
+        pins.len(),
+        selectors.len(),
+        choices.len(),
+        models.len(),
+        waveforms.len(),
+        rows.len(),
+    );
+    let a = answers::outlined(src, l, &mut notes);
+    let o = counts_of(a);
+    fill_components(components, src, &notes, o);
+    fill_pins(pins, src, &notes, o);
+    fill_selectors(selectors, src, &notes, o);
+    fill_choices(choices, src, &notes, o);
+    fill_models(models, src, &notes, o);
+    fill_waveforms(waveforms, src, &notes, o);
+    fill_rows(rows, src, &notes, o);
+    a
+}
