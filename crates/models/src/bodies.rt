@@ -167,10 +167,9 @@ fn take_part(b: Body, src: &[u8], c: Cursor, part: ModelPart, argument: &[u8]) -
         }
         ModelPart::Ramp => {
             let read = ramp_lines(src, c);
-            let ramp = read.ramp;
             let next = read.next;
             Taken {
-                body: with_ramp(b, ramp),
+                body: with_ramp(b, read.ramp),
                 next: next,
             }
         }

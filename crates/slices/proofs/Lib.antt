@@ -9,4 +9,6 @@ pub mod Put
 pub mod Get
 pub mod Count
 pub mod Fill
+pub mod Reading
 pub mod Read
+pub mod Loaded

@@ -39,6 +39,7 @@ use Rattle.slices.proofs.Elem.{Data, row, Elem, of-number, number-elem}
 use Rattle.slices.proofs.Literal.{literal, literal-lit}
 use Rattle.slices.proofs.Lend.{slice-at}
 use Rattle.slices.proofs.Arrays.{repeated, lend-array, back-array, share-array, whole-array}
+use Rattle.slices.proofs.Reading.{Promise, read-ended, read-clauses}
 use Rattle.slices.proofs.Calls.{Told, plain-ended, fill-ended, twice, calls-any, calls-plain, calls-fill}
 
 -- the element of the notes
@@ -68,7 +69,7 @@ Fill o e f 𝓤 H A = Told (fill-of o e) 𝓤 H A (fill-clauses o e f 𝓤)
 
 -- e, l, a and o are the records of the tables, the lengths, the answer and the counts; wants and tells what `outlined` requires and ensures; f the fills; Done what `read` promises; m and zeros the notes before the reading
 module _ (e₁ e₂ e₃ e₄ e₅ e₆ e₇ l a o : Data) (lengthsOf : ℕ → ℕ → ℕ → ℕ → ℕ → ℕ → ℕ → l .D) (wants : (M : Type 1) (𝓤 : URA M) → List ℕ → l .D → List ℕ → SProp 𝓤) (tells : (M : Type 1) (𝓤 : URA M) → List ℕ → l .D → List ℕ → a .D → List ℕ → SProp 𝓤) (Outlines : List ℕ → l .D → a .D → List ℕ → Type 0) (countsOf : a .D → o .D) (f₁ : Filling o e₁) (f₂ : Filling o e₂) (f₃ : Filling o e₃) (f₄ : Filling o e₄) (f₅ : Filling o e₅) (f₆ : Filling o e₆) (f₇ : Filling o e₇)
-    (Done : List ℕ → List (e₁ .D) → List (e₂ .D) → List (e₃ .D) → List (e₄ .D) → List (e₅ .D) → List (e₆ .D) → List (e₇ .D) → a .D → List (e₁ .D) → List (e₂ .D) → List (e₃ .D) → List (e₄ .D) → List (e₅ .D) → List (e₆ .D) → List (e₇ .D) → Type 0) (m : ℕ) (zeros : List ℕ) (#lengths #outlined #counts #fill₁ #fill₂ #fill₃ #fill₄ #fill₅ #fill₆ #fill₇ : Name) where
+    (Done : Promise e₁ e₂ e₃ e₄ e₅ e₆ e₇ a) (m : ℕ) (zeros : List ℕ) (#lengths #outlined #counts #fill₁ #fill₂ #fill₃ #fill₄ #fill₅ #fill₆ #fill₇ : Name) where
   -- what the callees promise
   abbrev lengths-ended : Ended
   lengths-ended = plain-ended (plain (λ _. usize) ∷ plain (λ _. usize) ∷ plain (λ _. usize) ∷ plain (λ _. usize) ∷ plain (λ _. usize) ∷ plain (λ _. usize) ∷ plain (λ _. usize) ∷ []) (yes, (yes, (yes, (yes, (yes, (yes, (yes, tt))))))) (row l)
@@ -261,11 +262,11 @@ module _ (e₁ e₂ e₃ e₄ e₅ e₆ e₇ l a o : Data) (lengthsOf : ℕ → 
         rest₁)))))))))))));
   }
 
-  abbrev pub signature : Signature
-  signature = record { lifetimes = 8; outlives = []; params = SliceRefOf (0 ∷ []) tt (plain (λ κs. u8)) (λ κs. tt) ∷ SliceRefMutOf (1 ∷ []) tt (plain (λ κs. row e₁)) (λ κs. tt) ∷ SliceRefMutOf (2 ∷ []) tt (plain (λ κs. row e₂)) (λ κs. tt) ∷ SliceRefMutOf (3 ∷ []) tt (plain (λ κs. row e₃)) (λ κs. tt) ∷ SliceRefMutOf (4 ∷ []) tt (plain (λ κs. row e₄)) (λ κs. tt) ∷ SliceRefMutOf (5 ∷ []) tt (plain (λ κs. row e₅)) (λ κs. tt) ∷ SliceRefMutOf (6 ∷ []) tt (plain (λ κs. row e₆)) (λ κs. tt) ∷ SliceRefMutOf (7 ∷ []) tt (plain (λ κs. row e₇)) (λ κs. tt) ∷ []; result = plain (λ κs. row a) }
-
   abbrev pub ended : Ended
-  ended = record { signature = signature; kept = (yes, (yes, (yes, (yes, (yes, (yes, (yes, (yes, tt)))))))) }
+  ended = read-ended e₁ e₂ e₃ e₄ e₅ e₆ e₇ a
+
+  abbrev pub signature : Signature
+  signature = ended .signature
 
   abbrev stayed : Stays (ended .signature .params) (ended .kept)
   stayed = (stay-dropped (shrSliceOf (0 ∷ []) tt (plain (λ _. u8))) yes, (stay-slice (1 ∷ []) tt (plain (λ _. row e₁)), (stay-slice (2 ∷ []) tt (plain (λ _. row e₂)), (stay-slice (3 ∷ []) tt (plain (λ _. row e₃)), (stay-slice (4 ∷ []) tt (plain (λ _. row e₄)), (stay-slice (5 ∷ []) tt (plain (λ _. row e₅)), (stay-slice (6 ∷ []) tt (plain (λ _. row e₆)), (stay-slice (7 ∷ []) tt (plain (λ _. row e₇)), tt))))))))
@@ -274,7 +275,7 @@ module _ (e₁ e₂ e₃ e₄ e₅ e₆ e₇ l a o : Data) (lengthsOf : ℕ → 
   lens y₁ y₂ y₃ y₄ y₅ y₆ y₇ = lengthsOf (length y₁) (length y₂) (length y₃) (length y₄) (length y₅) (length y₆) (length y₇)
 
   abbrev pub clauses : {M : Type 1} (𝓤 : URA M) → Clauses 𝓤 ended
-  clauses 𝓤 κs x = record { ghost = Unit {0}; requires = λ _. emp 𝓤; ensures = λ _ r z. fact 𝓤 (Done (now (x .0)) (now (x .1 .0)) (now (x .1 .1 .0)) (now (x .1 .1 .1 .0)) (now (x .1 .1 .1 .1 .0)) (now (x .1 .1 .1 .1 .1 .0)) (now (x .1 .1 .1 .1 .1 .1 .0)) (now (x .1 .1 .1 .1 .1 .1 .1 .0)) r (now (z .1 .0)) (now (z .1 .1 .0)) (now (z .1 .1 .1 .0)) (now (z .1 .1 .1 .1 .0)) (now (z .1 .1 .1 .1 .1 .0)) (now (z .1 .1 .1 .1 .1 .1 .0)) (now (z .1 .1 .1 .1 .1 .1 .1 .0))) }
+  clauses 𝓤 = read-clauses e₁ e₂ e₃ e₄ e₅ e₆ e₇ a Done 𝓤
 
   -- what `outlined` asks and tells
   abbrev pub Wanted : Type 2

@@ -39,12 +39,8 @@ pub fn next_part(src: &[u8], c: Cursor) -> PartNext
                             next: next,
                         };
                     }
-                    Keyword::Opens(_) => {
-                        return PartNext::NoPart;
-                    }
-                    Keyword::End => {
-                        return PartNext::NoPart;
-                    }
+                    Keyword::Opens(_) => return PartNext::NoPart,
+                    Keyword::End => return PartNext::NoPart,
                     Keyword::IbisVer => {}
                     Keyword::InHeader(_) => {}
                     Keyword::InComponent(_) => {}

@@ -76,8 +76,8 @@ returns-3 c =
 
 returns-4 : tie.Need-returns-4
 returns-4 c =
-    let n = c .before .before .before .ramp-lines .ensures in
-    taken Ramp (c .with-ramp .result) (c .before .before .before .ramp-lines .result .next) (c .before .before .before .before .enum-told3 .given .1) (c .with-ramp .ensures ∙ ap (withRamp (c .before .before .before .before .before .before .before .before .args .b)) (n .ramp)) (record { row = omega (arith, n .stops .rises, c .before .before .before .before .before .before .before .before .pre .1); waveforms = omega (arith, n .stops .rises, c .before .before .before .before .before .before .before .before .pre .2) }) (parts-behind (n .stops)) (n .stops .placed) (n .stops .rises)
+    let n = c .before .before .ramp-lines .ensures in
+    taken Ramp (c .with-ramp .result) (c .before .before .ramp-lines .result .next) (c .before .before .before .enum-told3 .given .1) (c .with-ramp .ensures ∙ ap (withRamp (c .before .before .before .before .before .before .before .args .b)) (n .ramp)) (record { row = omega (arith, n .stops .rises, c .before .before .before .before .before .before .before .pre .1); waveforms = omega (arith, n .stops .rises, c .before .before .before .before .before .before .before .pre .2) }) (parts-behind (n .stops)) (n .stops .placed) (n .stops .rises)
 
 returns-5 : tie.Need-returns-5
 returns-5 c =

@@ -1,0 +1,34 @@
+-- `Scan.antt`'s walk, at a Model, a `Found` and a `Name`.
+use contract.Running.{givenOf, tables, tablesOf}
+use denote.Triple.Spec.{tripleOf}
+use denote.Triple.Table.{entered, cited}
+use Rattle.chosen.specs.Chosen.{tryModel, modelPlace}
+use Rattle.chosen.proofs.Scan.{Start, More, Get, Step, scan-meets}
+use Rattle.chosen.proofs.Records.{models, models-elem, places, places-elem, names, names-elem, search-by}
+use Rattle.chosen.proofs.nothing_yet.Symbol as start-def
+use Rattle.chosen.proofs.nothing_yet.Symbol.{name as #start}
+use Rattle.chosen.proofs.nothing_yet.Met as start-thm
+use Rattle.chosen.proofs.seeking.Symbol as more-def
+use Rattle.chosen.proofs.seeking.Symbol.{name as #more}
+use Rattle.chosen.proofs.seeking.Met as more-thm
+use Rattle.chosen.proofs.get_model.Symbol as get-def
+use Rattle.chosen.proofs.get_model.Symbol.{name as #get}
+use Rattle.chosen.proofs.get_model.Met as get-thm
+use Rattle.chosen.proofs.try_model.Symbol as step-def
+use Rattle.chosen.proofs.try_model.Symbol.{name as #step}
+use Rattle.chosen.proofs.try_model.Met as step-thm
+use Rattle.chosen.proofs.find_model.Key.{name as #chosen·find-model}
+use Rattle.chosen.proofs.find_model as find-model
+use Rattle.chosen.proofs.find_model.Statement as stated
+use Rattle.chosen.proofs.find_model.Code as code
+
+pub find-model-spec : {M : Type 1} → stated.statement M
+unfolding code.routine tablesOf modelPlace
+find-model-spec 𝓤 H 𝓜 𝓖 𝓡 =
+    entered 𝓤 H (tripleOf 𝓤 H (𝓖 .A) find-model.signature (find-model.spec 𝓤 H (𝓖 .A) (𝓜 .mem) (𝓡 .run)))
+    (tables 𝓤 H 𝓜 𝓡 code.env .C) (tables 𝓤 H 𝓜 𝓡 code.env .Λ) #chosen·find-model code.function (code.unfolded 𝓤 H 𝓜 𝓡)
+    (scan-meets models places names (search-by models tryModel) #start #more #get #step models-elem places-elem names-elem 𝓤 H (𝓖 .A) (givenOf 𝓤 H 𝓜 𝓖) (tablesOf 𝓤 H 𝓜 (tables 𝓤 H 𝓜 𝓡 code.env))
+    (cited 𝓤 H (Start models places names (search-by models tryModel) #start #more #get #step 𝓤 H (𝓖 .A)) 𝓜 𝓡 code.env #start start-def.routine code.calls-chosen·nothing-yet (start-thm.met 𝓤 H 𝓜 𝓖 𝓡))
+    (cited 𝓤 H (More models places names (search-by models tryModel) #start #more #get #step 𝓤 H (𝓖 .A)) 𝓜 𝓡 code.env #more more-def.routine code.calls-chosen·seeking (more-thm.met 𝓤 H 𝓜 𝓖 𝓡))
+    (cited 𝓤 H (Get models places names (search-by models tryModel) #start #more #get #step 𝓤 H (𝓖 .A)) 𝓜 𝓡 code.env #get get-def.routine code.calls-chosen·get-model (get-thm.met 𝓤 H 𝓜 𝓖 𝓡))
+    (cited 𝓤 H (Step models places names (search-by models tryModel) #start #more #get #step 𝓤 H (𝓖 .A)) 𝓜 𝓡 code.env #step step-def.routine code.calls-chosen·try-model (step-thm.met 𝓤 H 𝓜 𝓖 𝓡)))

@@ -1,0 +1,4 @@
+-- The dump, line by line.
+pub mod Components
+pub mod Labelled
+pub mod Models

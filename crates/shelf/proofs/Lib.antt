@@ -1,0 +1,2 @@
+-- Laws on the tables of a shelf.
+pub mod Laws

@@ -1,0 +1,12 @@
+-- By computing: forty zeros.
+use mathlib.Core.Path.{refl}
+use Rattle.rules.specs.Laid.{padded}
+use Rattle.shelf.proofs.no_name.Statement.{statement}
+use Rattle.shelf.proofs.no_name.Tie as tie
+
+returns : tie.Need-returns
+unfolding padded
+returns c = refl
+
+pub no-name-spec : {M : Type 1} → statement M
+no-name-spec = tie.close (tie.spec returns)

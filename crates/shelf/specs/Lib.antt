@@ -1,0 +1,2 @@
+-- What a shelf holds.
+pub mod Shelved

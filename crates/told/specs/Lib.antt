@@ -1,0 +1,3 @@
+-- Sentences and hints for faults.
+pub mod Hints
+pub mod Sentences
