@@ -1,4 +1,5 @@
 // The dump of a shelf on standard output: the sections in file order, each with what is its own in other tables.
+ghost use Prim.Native.Nat.{_≤_};
 use noted::Counts;
 use rules::Choice;
 use rules::Component;
@@ -154,6 +155,20 @@ fn print_models(
     }
 }
 
+fn at_most(a: usize, b: usize) -> usize
+    ensures { λ r. ⌜ r ≤ b ⌝ }
+{
+    if a < b {
+        return a;
+    }
+    b
+}
+
+// How many sections a file has.
+fn sections_in(c: Counts) -> usize {
+    at_most(c.components, 8) + at_most(c.selectors, 32) + at_most(c.models, 64)
+}
+
 // All sections: a file has at most 104.
 fn print_sections(
     components: [Component; 8],
@@ -165,10 +180,13 @@ fn print_sections(
     rows: [u64; 32768],
     c: Counts,
 ) {
+    let n = sections_in(c);
     for k in 0..104 {
-        print_components(components, c.components, k, pins);
-        print_selectors(selectors, c.selectors, k, choices);
-        print_models(models, c.models, k, waveforms, &rows);
+        if k < n {
+            print_components(components, c.components, k, pins);
+            print_selectors(selectors, c.selectors, k, choices);
+            print_models(models, c.models, k, waveforms, &rows);
+        }
     }
 }
 

@@ -5,10 +5,13 @@ use Rattle.printed.proofs.print_sections.Statement.{statement}
 use Rattle.printed.proofs.print_sections.Tie as tie
 
 abbrev Inv-loop : tie.InvT-loop
-Inv-loop components pins selectors choices models waveforms c rows k₀ k = k ≤ 104
+Inv-loop components pins selectors choices models waveforms c rows n k₀ k = k ≤ 104
 
 abbrev μ-loop : tie.MeasureT-loop
-μ-loop components pins selectors choices models waveforms c rows k₀ k = 104 - k
+μ-loop components pins selectors choices models waveforms c rows n k₀ k = 104 - k
+
+sections-in-requires : tie.Need-sections-in-requires Inv-loop μ-loop
+sections-in-requires c κs = search needs
 
 loop-holds : tie.Need-loop-holds Inv-loop μ-loop
 loop-holds c = search needs
@@ -43,6 +46,7 @@ print-sections-spec =
     (tie.spec
     Inv-loop
     μ-loop
+    sections-in-requires
     loop-holds
     print-components-requires
     print-selectors-requires
