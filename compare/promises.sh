@@ -1,0 +1,3 @@
+#!/usr/bin/env bash
+# Holds every public function to the forms of promise that leave one result, or to its place among docs/CONTRACTS.md's exceptions.
+exec python3 "$(dirname "$0")/promises.py"

@@ -1,0 +1,2 @@
+-- When a promise leaves one result.
+pub mod One
