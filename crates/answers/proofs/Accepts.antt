@@ -13,7 +13,7 @@ use Rattle.texts.specs.Texts.{Text, rest, past, firstCursor}
 use Rattle.texts.specs.Cursors.{Placed}
 use Rattle.texts.specs.declared.Cursor.{Cursor}
 use Rattle.rules.specs.Reading.{FileIs, fileIn}
-use Rattle.rules.specs.Laid.{laid}
+use Rattle.laid.specs.Laid.{laid}
 use Rattle.rules.specs.Outline.{Entry, place, is, count}
 use Rattle.rules.specs.Whole.{Held, Outcome, passed, refused, outcome, textsOf, lastChecks}
 use Rattle.lines.specs.Lines.{bytesFault}

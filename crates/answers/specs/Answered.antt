@@ -2,7 +2,7 @@
 use Prim.Native.Nat.{ℕ}
 use mathlib.Core.List.{List, []}
 use Rattle.rules.specs.Reading.{FileIs, fileIn}
-use Rattle.rules.specs.Laid.{laid, wordsLaid}
+use Rattle.laid.specs.Laid.{laid, wordsLaid}
 use Rattle.rules.specs.Whole.{Outcome, passed, refused, outcome, textsOf}
 use Rattle.rules.specs.declared.Lengths.{Lengths}
 use Rattle.noted.specs.Noted.{nothingUsed}

@@ -11,7 +11,7 @@ use Rattle.decimal.specs.Decimal.{wordOf, cellIn}
 use Rattle.decimal.specs.declared.Cell.{Cell}
 use Rattle.decimal.specs.declared.Cell.the-variants.{Number}
 use Rattle.decimal.proofs.Cells.{kept}
-use Rattle.rules.specs.Laid.{padded, nameLaid, rowWords, stored, over}
+use Rattle.laid.specs.Laid.{padded, nameLaid, rowWords, stored, over}
 use Rattle.rules.specs.declared.Row.{Row}
 use Rattle.chosen.specs.declared.StoredRow.the-variants.{Kept}
 use Rattle.chosen.specs.Chosen.{textOf, isNamed, sameName, asRow, rowIn, rowAt, FineRow, FineRows}

@@ -15,7 +15,7 @@ use Rattle.keyword.specs.declared.Edge.{Edge}
 use Rattle.texts.specs.Texts.{Text, plain}
 use Rattle.rules.specs.Fields.{rowOf}
 use Rattle.rules.specs.Reading.{ontoRow, rowsIn, rowLines, under, keyAt, pinIn, choiceIn, waveformIn, TableIs, current, waveform, sectionsIn}
-use Rattle.rules.specs.Laid.{Laid, pinLaid, choiceLaid, allRows, waveformLaid, waveformsLaid, laidFrom}
+use Rattle.laid.specs.Laid.{Laid, pinLaid, choiceLaid, allRows, waveformLaid, waveformsLaid, laidFrom}
 use Rattle.rules.specs.declared.Kind.the-variants.{OfComponent, OfPin, OfSelector, OfChoice, OfModel}
 use Rattle.rules.specs.declared.Row.{Row}
 use Rattle.rules.specs.declared.RowRead.{RowRead}

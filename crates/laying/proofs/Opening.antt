@@ -12,7 +12,7 @@ use Rattle.keyword.specs.declared.Section.the-variants.{Component, Selector, Mo
 use Rattle.texts.specs.Texts.{Text, plain}
 use Rattle.rules.specs.Fields.{firstWord}
 use Rattle.rules.specs.Reading.{under, pinIn, choiceIn, PinIs, ComponentIs, componentIn, SelectorIs, ModelIs, modelIn, TableIs, isWithin, sectionIn, sectionsIn}
-use Rattle.rules.specs.Laid.{pinLaid, choiceLaid, allRows, waveformsLaid, componentLaid, selectorLaid, modelLaid, withSection, laidFrom}
+use Rattle.laid.specs.Laid.{pinLaid, choiceLaid, allRows, waveformsLaid, componentLaid, selectorLaid, modelLaid, withSection, laidFrom}
 use Rattle.rules.specs.declared.Kind.the-variants.{OfComponent, OfPin, OfSelector, OfChoice, OfModel}
 use Rattle.rules.specs.declared.Row.{Row}
 use Rattle.rules.specs.declared.Event.the-variants.{Opened}

@@ -7,7 +7,7 @@ use lib.ListN.{length}
 use Rattle.texts.specs.Texts.{Text}
 use Rattle.rules.specs.Steps.{onText}
 use Rattle.rules.specs.Reading.{sectionsIn, fileIn}
-use Rattle.rules.specs.Laid.{Laid, allRows, waveformsLaid, laidFrom, laid}
+use Rattle.laid.specs.Laid.{Laid, allRows, waveformsLaid, laidFrom, laid}
 use Rattle.rules.specs.declared.Kind.the-variants.{OfComponent, OfPin, OfSelector, OfChoice, OfModel}
 use Rattle.rules.specs.declared.Lengths.{Lengths}
 use Rattle.rules.specs.declared.Stage.{Stage}

@@ -16,7 +16,7 @@ use Rattle.texts.specs.Texts.{Text}
 use Rattle.rules.specs.Outline.{is}
 use Rattle.rules.specs.Whole.{bound, waveformBound}
 use Rattle.rules.specs.Reading.{pinIn, componentIn, choiceIn, modelIn, WaveformIs, waveformIn, ModelIs, under, isWithin, keyAt}
-use Rattle.rules.specs.Laid.{Laid, componentLaid, pinLaid, selectorLaid, choiceLaid, modelLaid, waveformLaid, allRows}
+use Rattle.laid.specs.Laid.{Laid, componentLaid, pinLaid, selectorLaid, choiceLaid, modelLaid, waveformLaid, allRows}
 use Rattle.rules.specs.declared.Kind.{Kind}
 use Rattle.rules.specs.declared.Kind.the-variants.{OfComponent, OfPin, OfSelector, OfChoice, OfModel}
 use Rattle.rules.specs.declared.Lengths.{Lengths}

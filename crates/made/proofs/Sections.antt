@@ -6,7 +6,7 @@ use Rattle.laws.specs.Lists.{front}
 use Rattle.texts.specs.Texts.{Text, rest}
 use Rattle.texts.specs.declared.Cursor.{Cursor}
 use Rattle.rules.specs.Reading.{under, isWithin, componentIn, ChoiceIs, choiceIn, modelIn}
-use Rattle.rules.specs.Laid.{componentLaid, selectorLaid, modelLaid}
+use Rattle.laid.specs.Laid.{componentLaid, selectorLaid, modelLaid}
 use Rattle.rules.specs.declared.Kind.the-variants.{OfComponent, OfSelector, OfModel}
 use Rattle.store.specs.Store.{notingAt, noteFrom}
 use Rattle.store.specs.declared.Noting.{Noting}

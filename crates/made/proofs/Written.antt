@@ -13,7 +13,7 @@ use Rattle.texts.specs.declared.Cursor.{Cursor}
 use Rattle.keyword.specs.declared.ModelPart.{ModelPart}
 use Rattle.keyword.specs.declared.ModelPart.the-variants.{VoltageRange, TemperatureRange, Current, Ramp, Waveform}
 use Rattle.rules.specs.Reading.{isWithin, rowsIn, waveformIn, TableIs, current, waveform, ModelIs, onModelPart, modelIn}
-use Rattle.rules.specs.Laid.{allRows, stored, over}
+use Rattle.laid.specs.Laid.{allRows, stored, over}
 use Rattle.rules.specs.declared.Kind.the-variants.{OfModel}
 use Rattle.store.specs.Store.{notingAt, noteFrom}
 use Rattle.laying.specs.Lies.{rowsNoted}

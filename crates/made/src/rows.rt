@@ -2,7 +2,7 @@
 ghost use mathlib.Core.Path.{_≡_};
 ghost use Prim.Native.Nat.{_≤_};
 ghost use lib.ListN.{length};
-ghost use Rattle.rules.specs.Laid.{stored, over};
+ghost use Rattle.laid.specs.Laid.{stored, over};
 ghost use Rattle.made.specs.Made.{rowsAt};
 use crate::places::section_noted;
 use crate::places::word_behind;

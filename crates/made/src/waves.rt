@@ -4,7 +4,7 @@ ghost use mathlib.Core.Option.{some};
 ghost use Rattle.texts.specs.Texts.{plain, rest};
 ghost use Rattle.texts.specs.Cursors.{Placed};
 ghost use Rattle.rules.specs.Reading.{keyAt};
-ghost use Rattle.rules.specs.Laid.{waveformLaid};
+ghost use Rattle.laid.specs.Laid.{waveformLaid};
 ghost use Rattle.laying.specs.Lies.{partEdge, keyEdge, waveformFrom};
 ghost use Rattle.made.specs.Made.{waveformAt};
 use crate::places::cursor_at;

@@ -12,7 +12,8 @@ use Rattle.keyword.specs.declared.ModelPart.{ModelPart}
 use Rattle.keyword.specs.declared.ModelPart.the-variants.{VoltageRange, TemperatureRange, Current, Ramp, Waveform}
 use Rattle.texts.specs.Texts.{Text}
 use Rattle.rules.specs.Reading.{noCells, under, isWithin, firstIn, withDefaults, bareFirst, rowsIn, waveformIn, current, waveform, ModelIs, onModelPart, modelIn}
-use Rattle.rules.specs.Laid.{nameLaid, allRows, tableAt, waveformsOf, rangeLaid, rampLaid, modelLaid}
+use Rattle.rules.specs.Same.{waveformsOf}
+use Rattle.laid.specs.Laid.{nameLaid, allRows, tableAt, rangeLaid, rampLaid, modelLaid}
 use Rattle.under.proofs.Laws.{under-within}
 use Rattle.tables.specs.Parts.{PartIs, partsIn, withParts}
 use Rattle.tables.proofs.RowLaws.{current-rows, waveform-rows}

@@ -19,7 +19,7 @@ use Rattle.rules.specs.Fields.{lineAt, namedWord, meaningIn, wordMeaning, assig
 use Rattle.rules.specs.Tables.{modelLines, modelTypes, polarities, enables}
 use Rattle.rules.specs.Model.{orNothing, isInput, numberIs, orElse, defaultVinl, defaultVinh}
 use Rattle.rules.specs.Reading.{orGiven, FirstIs, onFirstLine, firstIn, withDefaults, bareFirst}
-use Rattle.rules.specs.Laid.{markedLaid}
+use Rattle.laid.specs.Laid.{markedLaid}
 use Rattle.rules.specs.declared.ModelType.{ModelType}
 use Rattle.rules.specs.declared.ModelType.the-variants.{Terminator}
 use Rattle.fields.specs.Views.{asType, asMarked}

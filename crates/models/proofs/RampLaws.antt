@@ -15,7 +15,7 @@ use Rattle.names.specs.declared.Found.the-variants.{At, Nothing}
 use Rattle.rules.specs.Fields.{lineAt, namedSlopes}
 use Rattle.rules.specs.Tables.{rampLines}
 use Rattle.rules.specs.Reading.{noSlopes, slopesAre, RampIs, onRampLine, rampIn}
-use Rattle.rules.specs.Laid.{rampLaid}
+use Rattle.laid.specs.Laid.{rampLaid}
 use Rattle.rules.specs.declared.RampTriple.{RampTriple}
 use Rattle.rules.specs.declared.RampTable.{RampTable}
 use Rattle.tables.proofs.Places.{set-at}

@@ -10,7 +10,8 @@ use Rattle.laws.proofs.Tests.{by-test}
 use Rattle.keyword.specs.declared.CurrentTable.{CurrentTable}
 use Rattle.rules.specs.Model.{tablePlace}
 use Rattle.rules.specs.Reading.{TableIs, current, waveform, WaveformIs}
-use Rattle.rules.specs.Laid.{rowsIn, allRows, tableAt, waveformsOf}
+use Rattle.rules.specs.Same.{waveformsOf}
+use Rattle.laid.specs.Laid.{rowsIn, allRows, tableAt}
 use Rattle.rules.specs.declared.Row.{Row}
 use Rattle.tables.proofs.PartLaws.{all-append}
 use Rattle.models.specs.Bodies.{withTable}

@@ -15,7 +15,7 @@ use Rattle.texts.specs.Cursors.{Placed}
 use Rattle.texts.specs.declared.Cursor.{Cursor}
 use Rattle.rules.specs.Fields.{threeCells}
 use Rattle.rules.specs.Reading.{tripleIs, noCells, under}
-use Rattle.rules.specs.Laid.{rangeLaid, rampLaid}
+use Rattle.laid.specs.Laid.{rangeLaid, rampLaid}
 use Rattle.rules.specs.declared.Name.{Name}
 use Rattle.rules.specs.declared.RampTable.{RampTable}
 use Rattle.rules.specs.declared.Table.{Table}

@@ -15,7 +15,7 @@ use Rattle.rules.specs.Fields.{lineAt, namedWord, wordMeaning, namedCells, assi
 use Rattle.rules.specs.Tables.{modelLines, modelTypes, polarities, enables}
 use Rattle.rules.specs.Model.{orNothing, isInput, numberIs, orElse, defaultVinl, defaultVinh}
 use Rattle.rules.specs.Reading.{tripleIs, noCells, orGiven, under, FirstIs}
-use Rattle.rules.specs.Laid.{markedLaid}
+use Rattle.laid.specs.Laid.{markedLaid}
 use Rattle.rules.specs.declared.ModelType.the-variants.{Terminator}
 use Rattle.rules.specs.declared.Marked.the-variants.{Unmarked}
 use Rattle.under.specs.Under.{StopsAt}

@@ -8,7 +8,7 @@ ghost use Rattle.rules.specs.Fields.{namedWord, wordMeaning, namedCells, assign
 ghost use Rattle.rules.specs.Tables.{modelTypes, polarities, enables};
 ghost use Rattle.rules.specs.Model.{orNothing, isInput, numberIs, orElse};
 ghost use Rattle.rules.specs.Reading.{tripleIs, orGiven};
-ghost use Rattle.rules.specs.Laid.{markedLaid};
+ghost use Rattle.laid.specs.Laid.{markedLaid};
 ghost use Rattle.rules.specs.declared.ModelType.the-variants.{Terminator};
 ghost use Rattle.models.specs.Firsts.{bareLines, withFirstLine, defaulted, FirstReadIs};
 use crate::FirstLines;

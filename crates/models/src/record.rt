@@ -5,7 +5,7 @@ ghost use Rattle.laws.specs.Lists.{front};
 ghost use Rattle.texts.specs.Texts.{rest};
 ghost use Rattle.texts.specs.Cursors.{Placed};
 ghost use Rattle.rules.specs.Reading.{isWithin, modelIn};
-ghost use Rattle.rules.specs.Laid.{modelLaid};
+ghost use Rattle.laid.specs.Laid.{modelLaid};
 ghost use Rattle.models.specs.Bodies.{modelOver};
 use crate::Body;
 use crate::FirstLines;

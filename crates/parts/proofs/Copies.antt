@@ -13,7 +13,7 @@ use Rattle.laws.proofs.Tests.{by-order}
 use Rattle.laws.proofs.Same.{eqs-eq}
 use Rattle.rules.specs.Fields.{needsNoModel, oneOf}
 use Rattle.rules.specs.Reading.{keptModel}
-use Rattle.rules.specs.Laid.{padded}
+use Rattle.laid.specs.Laid.{padded}
 
 -- ---- a copy of n bytes
 

@@ -18,7 +18,7 @@ use Rattle.texts.specs.Texts.{Text, rest}
 use Rattle.texts.specs.declared.Cursor.{Cursor}
 use Rattle.rules.specs.Header.{textPlace}
 use Rattle.rules.specs.Reading.{under, keyAt, argumentAt, isEnd, isWithin, pinIn, packageIn, ComponentIs, onComponentPart, onComponentKey, withComponentKeys, orArgument, headerIn}
-use Rattle.rules.specs.Laid.{nameLaid, componentLaid}
+use Rattle.laid.specs.Laid.{nameLaid, componentLaid}
 use Rattle.rules.specs.declared.Location.{Location}
 use Rattle.rules.specs.declared.Name.{Name}
 use Rattle.under.specs.Under.{isKeyless, StopsAt, KeyIs}

@@ -18,7 +18,7 @@ use Rattle.words.proofs.Laws.{words-none, words-some}
 use Rattle.cells.specs.Threes.{bytesOf, Within}
 use Rattle.rules.specs.Fields.{firstWord, otherWords}
 use Rattle.rules.specs.Reading.{cellIs, cellFrom, pinIn, keptModel}
-use Rattle.rules.specs.Laid.{nameLaid, pinLaid}
+use Rattle.laid.specs.Laid.{nameLaid, pinLaid}
 
 pub record WordFrom (s : List ℕ) (at : ℕ) (r : Word) : Type 0 where
   pub text : bytesOf s r ≡ firstWord (words (drop at s))

@@ -14,7 +14,7 @@ use Rattle.texts.specs.Cursors.{Placed}
 use Rattle.texts.specs.declared.Cursor.{Cursor}
 use Rattle.rules.specs.Header.{headerPlace}
 use Rattle.rules.specs.Reading.{noCells, under, isWithin, locationsIn, packageIn, ComponentIs, onComponentPart, withComponentKeys, choiceIn, SelectorIs, headerIn}
-use Rattle.rules.specs.Laid.{nameLaid, wordsLaid}
+use Rattle.laid.specs.Laid.{nameLaid, wordsLaid}
 use Rattle.rules.specs.declared.Triple.{Triple}
 use Rattle.rules.specs.declared.Location.{Location}
 use Rattle.rules.specs.declared.Location.the-variants.{AtPin}

@@ -4,7 +4,7 @@ ghost use Prim.Native.Nat.{_<_};
 ghost use Rattle.texts.specs.Texts.{rest};
 ghost use Rattle.texts.specs.Cursors.{Placed};
 ghost use Rattle.rules.specs.Reading.{headerIn};
-ghost use Rattle.rules.specs.Laid.{wordsLaid};
+ghost use Rattle.laid.specs.Laid.{wordsLaid};
 ghost use Rattle.parts.specs.Views.{isHead, headerLaid};
 use crate::held::no_words;
 use crate::held::words_of;

@@ -3,7 +3,7 @@ ghost use mathlib.Core.Path.{_≡_};
 ghost use mathlib.Core.List.{[]};
 ghost use Prim.Native.Nat.{min};
 ghost use Rattle.rules.specs.Reading.{keptModel};
-ghost use Rattle.rules.specs.Laid.{nameLaid, wordsLaid};
+ghost use Rattle.laid.specs.Laid.{nameLaid, wordsLaid};
 use rules::Name;
 use rules::Words;
 

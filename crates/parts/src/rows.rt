@@ -3,7 +3,7 @@ ghost use mathlib.Core.Path.{_≡_};
 ghost use Rattle.decimal.specs.Decimal.{cellOf};
 ghost use Rattle.cells.specs.Threes.{bytesOf, Within};
 ghost use Rattle.rules.specs.Reading.{cellIs, keptModel, pinIn, choiceIn};
-ghost use Rattle.rules.specs.Laid.{nameLaid, pinLaid, choiceLaid};
+ghost use Rattle.laid.specs.Laid.{nameLaid, pinLaid, choiceLaid};
 use crate::held::model_kept;
 use crate::held::name_of;
 use crate::held::words_of;

@@ -7,7 +7,7 @@ ghost use Rattle.keyword.specs.declared.ComponentPart.the-variants.{Package, Pi
 ghost use Rattle.texts.specs.Texts.{rest};
 ghost use Rattle.texts.specs.Cursors.{Placed};
 ghost use Rattle.rules.specs.Reading.{isWithin, componentIn};
-ghost use Rattle.rules.specs.Laid.{selectorLaid, componentLaid};
+ghost use Rattle.laid.specs.Laid.{selectorLaid, componentLaid};
 ghost use Rattle.parts.specs.Views.{selectorIn, noParts, PartIs, PartsAre};
 use crate::held::name_of;
 use crate::held::no_name;

@@ -7,7 +7,7 @@ use native.Mathlib.Nat.{le-refl}
 use lib.ListN.{length, replicate, length-replicate}
 use Rattle.slices.specs.Filled.{filledTo}
 use Rattle.rules.specs.Reading.{fileIn}
-use Rattle.rules.specs.Laid.{laid, stored, over}
+use Rattle.laid.specs.Laid.{laid, stored, over}
 use Rattle.rules.specs.Whole.{Outcome, passed, refused, outcome, textsOf}
 use Rattle.rules.specs.declared.Lengths.{Lengths}
 use Rattle.rules.specs.declared.Component.{Component}

@@ -4,7 +4,7 @@ use mathlib.Core.Path.{_≡_, refl, sym, ap, _∙_}
 use mathlib.Core.List.{List, [], _∷_, _++_}
 use lib.ListN.{length, drop}
 use Rattle.rules.specs.Reading.{fileIn}
-use Rattle.rules.specs.Laid.{Laid, laid, over}
+use Rattle.laid.specs.Laid.{Laid, laid, over}
 use Rattle.rules.specs.Whole.{Held, passed, refused, outcome, textsOf}
 use Rattle.rules.specs.declared.Model.{Model}
 use Rattle.answers.specs.Answered.{answerFor, answerOf}

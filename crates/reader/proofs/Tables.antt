@@ -6,7 +6,7 @@ use native.Mathlib.Omega.{arith}
 use lib.ListN.{length, drop, length-append, length-map, length-reverse}
 use Rattle.slices.specs.Filled.{filledTo}
 use Rattle.rules.specs.Reading.{fileIn}
-use Rattle.rules.specs.Laid.{Laid, laid, stored, rowWords, over}
+use Rattle.laid.specs.Laid.{Laid, laid, stored, rowWords, over}
 use Rattle.rules.specs.Whole.{Outcome, passed, refused, outcome, textsOf}
 use Rattle.rules.specs.declared.Lengths.{Lengths}
 use Rattle.rules.specs.declared.Row.{Row}

@@ -2,7 +2,7 @@
 use Prim.Native.Nat.{ℕ, _≤_}
 use mathlib.Core.List.{List}
 use lib.ListN.{length, replicate}
-use Rattle.rules.specs.Laid.{stored, over}
+use Rattle.laid.specs.Laid.{stored, over}
 use Rattle.noted.specs.declared.Counts.{Counts}
 use Rattle.made.specs.Made.{rowsAt}
 

@@ -11,4 +11,4 @@ pub mod Steps
 pub mod Outline
 pub mod Whole
 pub mod Reading
-pub mod Laid
+pub mod Same

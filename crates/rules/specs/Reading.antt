@@ -101,6 +101,16 @@ abbrev pub keyAt : Text → Option Keyword
 keyAt (plain k w) = cond (isBracketed w) (keyIn (keyOf w)) none
 keyAt (change k n) = none
 
+-- by what a keyword is: none or [IBIS Ver], one of the header's, a section's, one of a component's, of a model's, [End]
+abbrev pub byKeyword : {A : Type 0} → A → (HeaderPart → A) → (Section → A) → (ComponentPart → A) → (ModelPart → A) → A → Option Keyword → A
+byKeyword other header section component model end none = other
+byKeyword other header section component model end (some key.IbisVer) = other
+byKeyword other header section component model end (some (key.InHeader p)) = header p
+byKeyword other header section component model end (some (key.Opens o)) = section o
+byKeyword other header section component model end (some (key.InComponent p)) = component p
+byKeyword other header section component model end (some (key.InModel p)) = model p
+byKeyword other header section component model end (some key.End) = end
+
 abbrev pub argumentAt : Text → List ℕ
 argumentAt (plain k w) = argument w
 argumentAt (change k n) = []
@@ -173,13 +183,8 @@ onComponentPart c w ls Pin =
     record { name = c .name; locations = c .locations; manufacturer = c .manufacturer; boxed = c .boxed; pins = c .pins ++ map pinIn ls }
 
 abbrev pub onComponentKey : ComponentIs → List ℕ → List (List ℕ) → Option Keyword → ComponentIs
-onComponentKey c w ls none = c
-onComponentKey c w ls (some key.IbisVer) = c
-onComponentKey c w ls (some (key.InHeader p)) = c
-onComponentKey c w ls (some (key.Opens o)) = c
-onComponentKey c w ls (some (key.InComponent p)) = onComponentPart c w ls p
-onComponentKey c w ls (some (key.InModel p)) = c
-onComponentKey c w ls (some key.End) = c
+onComponentKey c w ls k =
+    byKeyword c (λ p. c) (λ o. c) (onComponentPart c w ls) (λ p. c) c k
 
 unfoldable pub withComponentKeys : ComponentIs → List Text → ComponentIs
 withComponentKeys c [] = c
@@ -312,13 +317,8 @@ onModelPart m w ls Ramp =
 onModelPart m w ls (Waveform e) = withTable m (waveform (waveformIn e ls))
 
 abbrev pub onModelKey : ModelIs → List ℕ → List (List ℕ) → Option Keyword → ModelIs
-onModelKey m w ls none = m
-onModelKey m w ls (some key.IbisVer) = m
-onModelKey m w ls (some (key.InHeader p)) = m
-onModelKey m w ls (some (key.Opens o)) = m
-onModelKey m w ls (some (key.InComponent p)) = m
-onModelKey m w ls (some (key.InModel p)) = onModelPart m w ls p
-onModelKey m w ls (some key.End) = m
+onModelKey m w ls k =
+    byKeyword m (λ p. m) (λ o. m) (λ p. m) (onModelPart m w ls) m k
 
 unfoldable pub withModelKeys : ModelIs → List Text → ModelIs
 withModelKeys m [] = m
@@ -347,22 +347,12 @@ sectionIn w ts Model = model (modelIn (firstWord (words w)) ts)
 
 -- "Sections open at [Component], [Model Selector] and [Model], and end before the next of these or [End]"
 abbrev pub opens : Option Keyword → Option Section
-opens none = none
-opens (some key.IbisVer) = none
-opens (some (key.InHeader p)) = none
-opens (some (key.Opens o)) = some o
-opens (some (key.InComponent p)) = none
-opens (some (key.InModel p)) = none
-opens (some key.End) = none
+opens k =
+    byKeyword none (λ p. none) (λ o. some o) (λ p. none) (λ p. none) none k
 
 abbrev pub isEnd : Option Keyword → Bool
-isEnd none = false
-isEnd (some key.IbisVer) = false
-isEnd (some (key.InHeader p)) = false
-isEnd (some (key.Opens o)) = true
-isEnd (some (key.InComponent p)) = false
-isEnd (some (key.InModel p)) = false
-isEnd (some key.End) = true
+isEnd k =
+    byKeyword false (λ p. false) (λ o. true) (λ p. false) (λ p. false) true k
 
 abbrev pub isWithin : Text → Bool
 isWithin t = not (isEnd (keyAt t))
@@ -377,13 +367,8 @@ sectionsIn (t ∷ ts) = ontoSections (argumentAt t) (front isWithin ts) (section
 
 -- the argument of the header keyword at place n
 abbrev pub orArgument : ℕ → List ℕ → List ℕ → Option Keyword → List ℕ
-orArgument n w more none = more
-orArgument n w more (some key.IbisVer) = more
-orArgument n w more (some (key.InHeader p)) = cond (eqb n (headerPlace p)) w more
-orArgument n w more (some (key.Opens o)) = more
-orArgument n w more (some (key.InComponent p)) = more
-orArgument n w more (some (key.InModel p)) = more
-orArgument n w more (some key.End) = more
+orArgument n w more k =
+    byKeyword more (λ p. cond (eqb n (headerPlace p)) w more) (λ o. more) (λ p. more) (λ p. more) more k
 
 unfoldable pub headerIn : ℕ → List Text → List ℕ
 headerIn n [] = []

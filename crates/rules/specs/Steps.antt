@@ -24,12 +24,25 @@ use Rattle.rules.specs.Header.{version, headerPart, headerLine, headerSh
 use Rattle.rules.specs.Component.{newComponent, componentPart, componentLine, componentShut, componentDone}
 use Rattle.rules.specs.Selector.{newSelector, selectorLine, selectorShut}
 use Rattle.rules.specs.Model.{newModel, modelPart, modelLine, modelShut, modelDone}
+use Rattle.rules.specs.declared.HeaderState.{HeaderState}
+use Rattle.rules.specs.declared.ComponentState.{ComponentState}
+use Rattle.rules.specs.declared.SelectorState.{SelectorState}
+use Rattle.rules.specs.declared.ModelState.{ModelState}
 use Rattle.rules.specs.declared.Stage.{Stage}
 use Rattle.rules.specs.declared.Stage.the-variants.{BeforeVersion, InHeader, InComponent, InSelector, InModel, AfterEnd}
 use Rattle.rules.specs.declared.Event.{Event}
 use Rattle.rules.specs.declared.Event.the-variants.{Opened, Ended}
 use Rattle.rules.specs.declared.Went.{Went}
 use Rattle.rules.specs.declared.Went.the-variants.{On, Stop}
+
+-- by what is open: nothing before [IBIS Ver], the header, a component, a selector, a model, nothing after [End]
+abbrev pub byStage : {A : Type 0} → A → (HeaderState → A) → (ComponentState → A) → (SelectorState → A) → (ModelState → A) → A → Stage → A
+byStage before header component selector model after BeforeVersion = before
+byStage before header component selector model after (InHeader h) = header h
+byStage before header component selector model after (InComponent c) = component c
+byStage before header component selector model after (InSelector s) = selector s
+byStage before header component selector model after (InModel m) = model m
+byStage before header component selector model after AfterEnd = after
 
 -- ---- what a line closes
 
@@ -61,37 +74,17 @@ opened k w Model = refuse (not (oneWord isModelName (words w))) 10 k (On (InMode
 
 -- "A second [IBIS Ver] is 8 in the header, 7 later"
 abbrev pub secondVersion : Stage → ℕ → Went
-secondVersion BeforeVersion k = stop 7 k
-secondVersion (InHeader h) k = stop 8 k
-secondVersion (InComponent c) k = stop 7 k
-secondVersion (InSelector s) k = stop 7 k
-secondVersion (InModel m) k = stop 7 k
-secondVersion AfterEnd k = stop 7 k
+secondVersion s k = byStage (stop 7 k) (λ h. stop 8 k) (λ c. stop 7 k) (λ l. stop 7 k) (λ m. stop 7 k) (stop 7 k) s
 
 -- a keyword has its place in its own section alone
 abbrev pub inHeader : Stage → ℕ → List ℕ → HeaderPart → Went
-inHeader BeforeVersion k w p = stop 7 k
-inHeader (InHeader h) k w p = headerPart h k w p
-inHeader (InComponent c) k w p = stop 7 k
-inHeader (InSelector s) k w p = stop 7 k
-inHeader (InModel m) k w p = stop 7 k
-inHeader AfterEnd k w p = stop 7 k
+inHeader s k w p = byStage (stop 7 k) (λ h. headerPart h k w p) (λ c. stop 7 k) (λ l. stop 7 k) (λ m. stop 7 k) (stop 7 k) s
 
 abbrev pub inComponent : Stage → ℕ → List ℕ → ComponentPart → Went
-inComponent BeforeVersion k w p = stop 7 k
-inComponent (InHeader h) k w p = stop 7 k
-inComponent (InComponent c) k w p = componentPart c k w p
-inComponent (InSelector s) k w p = stop 7 k
-inComponent (InModel m) k w p = stop 7 k
-inComponent AfterEnd k w p = stop 7 k
+inComponent s k w p = byStage (stop 7 k) (λ h. stop 7 k) (λ c. componentPart c k w p) (λ l. stop 7 k) (λ m. stop 7 k) (stop 7 k) s
 
 abbrev pub inModel : Stage → ℕ → List ℕ → ModelPart → Went
-inModel BeforeVersion k w p = stop 7 k
-inModel (InHeader h) k w p = stop 7 k
-inModel (InComponent c) k w p = stop 7 k
-inModel (InSelector s) k w p = stop 7 k
-inModel (InModel m) k w p = modelPart m k w p
-inModel AfterEnd k w p = stop 7 k
+inModel s k w p = byStage (stop 7 k) (λ h. stop 7 k) (λ c. stop 7 k) (λ l. stop 7 k) (λ m. modelPart m k w p) (stop 7 k) s
 
 -- [End] takes no argument; that there is no component comes before that, so the fault is left to whoever counts
 abbrev pub onKeyword : Stage → ℕ → List ℕ → Keyword → Went

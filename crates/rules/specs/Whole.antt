@@ -15,13 +15,13 @@ use Rattle.keyword.specs.declared.Section.{Section}
 use Rattle.keyword.specs.declared.Section.the-variants.{Component, Selector, Model}
 use Rattle.texts.specs.Texts.{Text, plain, change, textsFrom}
 use Rattle.rules.specs.Fields.{firstWord, otherWords}
-use Rattle.rules.specs.Steps.{onText}
+use Rattle.rules.specs.Steps.{byStage, onText}
 use Rattle.rules.specs.Outline.{Entry, is, count, isUsed, isFound, isListed, firstFailing}
 use Rattle.rules.specs.declared.Kind.{Kind}
 use Rattle.rules.specs.declared.Kind.the-variants.{OfComponent, OfPin, OfSelector, OfChoice, OfModel}
 use Rattle.rules.specs.declared.Lengths.{Lengths}
 use Rattle.rules.specs.declared.Stage.{Stage}
-use Rattle.rules.specs.declared.Stage.the-variants.{BeforeVersion, InHeader, InComponent, InSelector, InModel, AfterEnd}
+use Rattle.rules.specs.declared.Stage.the-variants.{BeforeVersion}
 use Rattle.rules.specs.declared.Event.{Event}
 use Rattle.rules.specs.declared.Event.the-variants.{Quiet, Opened, PinRow, ChoiceRow, WaveformOpened, TableRow, Ended}
 use Rattle.rules.specs.declared.Went.{Went}
@@ -107,12 +107,8 @@ lineOf (change k n) = k
 
 -- "A file that runs out gives 19 before anything it would close"
 abbrev pub ranOut : ℕ → Held → Stage → Outcome
-ranOut past h BeforeVersion = refused 19 past
-ranOut past h (InHeader s) = refused 19 past
-ranOut past h (InComponent s) = refused 19 past
-ranOut past h (InSelector s) = refused 19 past
-ranOut past h (InModel s) = refused 19 past
-ranOut past h AfterEnd = passed h
+ranOut past h s =
+    byStage (refused 19 past) (λ e. refused 19 past) (λ c. refused 19 past) (λ l. refused 19 past) (λ m. refused 19 past) (passed h) s
 
 abbrev pub afterAdmission : (Held → Outcome) → Admission → Outcome
 afterAdmission go (admitted h) = go h

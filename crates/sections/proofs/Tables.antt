@@ -5,7 +5,7 @@ use mathlib.Core.List.{List, [], _∷_, _++_, map, append-assoc, append-nil}
 use native.Mathlib.Omega.{arith}
 use lib.ListN.{length, drop}
 use Rattle.rules.specs.Reading.{ModelIs, SectionIs, component, selector, model, FileIs}
-use Rattle.rules.specs.Laid.{Laid, nothingLaid, modelLaid, waveformsLaid, allRows, withSection, laidFrom, laid}
+use Rattle.laid.specs.Laid.{Laid, nothingLaid, modelLaid, waveformsLaid, allRows, withSection, laidFrom, laid}
 use Rattle.rules.specs.declared.Model.{Model}
 use Rattle.rules.specs.declared.Waveform.{Waveform}
 use Rattle.rules.specs.declared.Row.{Row}

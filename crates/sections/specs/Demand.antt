@@ -9,7 +9,8 @@ use lib.ListN.{length, drop}
 use Rattle.lines.specs.Lines.{Physical, linesOf}
 use Rattle.rules.specs.Whole.{Held, passed, refused, textsOf, outcome}
 use Rattle.rules.specs.Reading.{ModelIs, SectionIs, model, fileIn}
-use Rattle.rules.specs.Laid.{SameModel, Laid, waveformsLaid, modelLaid, allRows, laid}
+use Rattle.rules.specs.Same.{SameModel}
+use Rattle.laid.specs.Laid.{Laid, waveformsLaid, modelLaid, allRows, laid}
 use Rattle.rules.specs.declared.Lengths.{Lengths}
 use Rattle.sections.specs.Lines.{charAfterLines, sectionsOn, beginsAnother, isModelSection}
 

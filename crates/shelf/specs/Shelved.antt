@@ -7,7 +7,7 @@ use lib.ListN.{replicate}
 use Rattle.decimal.specs.declared.Cell.the-variants.{Missing}
 use Rattle.keyword.specs.declared.Edge.the-variants.{Rising}
 use Rattle.rules.specs.Reading.{noCells}
-use Rattle.rules.specs.Laid.{nameLaid, wordsLaid, rangeLaid, rampLaid}
+use Rattle.laid.specs.Laid.{nameLaid, wordsLaid, rangeLaid, rampLaid}
 use Rattle.rules.specs.declared.Location.the-variants.{AtPin}
 use Rattle.rules.specs.declared.Marked.the-variants.{Unmarked}
 use Rattle.rules.specs.declared.ModelType.the-variants.{Input}

@@ -24,7 +24,7 @@ ghost use mathlib.Core.Path.{_≡_};
 ghost use mathlib.Core.List.{[]};
 ghost use mathlib.Core.Option.{none};
 ghost use Rattle.rules.specs.Reading.{noCells};
-ghost use Rattle.rules.specs.Laid.{nameLaid, rampLaid};
+ghost use Rattle.laid.specs.Laid.{nameLaid, rampLaid};
 ghost use Rattle.shelf.specs.Shelved.{blankComponents, blankPins, blankSelectors, blankChoices, blankModel, blankModels, blankWaveforms, blankRows, shelfOf, Loaded};
 
 // The answer, and the tables behind it. Of a refused file the tables hold blank records.

@@ -11,7 +11,7 @@ use Rattle.keyword.specs.declared.ModelPart.the-variants.{VoltageRange, Tempera
 use Rattle.texts.specs.Texts.{Text, rest}
 use Rattle.texts.specs.declared.Cursor.{Cursor}
 use Rattle.rules.specs.Reading.{isLine, under, keyAt, argumentAt, isWithin, TableIs, current, waveform, ModelIs, onModelPart, waveformIn, withModelKeys, modelIn}
-use Rattle.rules.specs.Laid.{rowsIn, allRows, rowWords, stored}
+use Rattle.laid.specs.Laid.{rowsIn, allRows, rowWords, stored}
 use Rattle.rules.specs.declared.Row.{Row}
 use Rattle.under.specs.Under.{isKeyless, StopsAt, KeyIs}
 use Rattle.under.proofs.Laws.{keys-behind, keys-only, under-within}

@@ -15,7 +15,7 @@ use Rattle.texts.specs.Texts.{rest}
 use Rattle.texts.specs.Cursors.{Placed}
 use Rattle.texts.specs.declared.Cursor.{Cursor}
 use Rattle.rules.specs.Reading.{under}
-use Rattle.rules.specs.Laid.{stored, over}
+use Rattle.laid.specs.Laid.{stored, over}
 use Rattle.rules.specs.declared.Row.{Row}
 use Rattle.under.specs.Under.{isKeyless, KeyIs}
 use Rattle.tables.specs.Rows.{rowsAt, FillIs}

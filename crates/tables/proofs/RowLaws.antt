@@ -7,7 +7,7 @@ use Rattle.laws.proofs.Tests.{by-test, cond-no}
 use Rattle.words.specs.Words.{words}
 use Rattle.rules.specs.Fields.{rowOf}
 use Rattle.rules.specs.Reading.{ontoRow, rowsIn, rowLines, isNamedLine}
-use Rattle.rules.specs.Laid.{rowWords, stored}
+use Rattle.laid.specs.Laid.{rowWords, stored}
 use Rattle.rules.specs.declared.Row.{Row}
 use Rattle.rules.specs.declared.RowRead.{RowRead}
 use Rattle.rules.specs.declared.RowRead.the-variants.{Line, Amiss}

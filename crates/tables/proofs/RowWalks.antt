@@ -11,7 +11,7 @@ use Rattle.texts.specs.Texts.{rest}
 use Rattle.texts.specs.Cursors.{Placed}
 use Rattle.texts.specs.declared.Cursor.{Cursor}
 use Rattle.rules.specs.Reading.{under}
-use Rattle.rules.specs.Laid.{rowWords, stored, over}
+use Rattle.laid.specs.Laid.{rowWords, stored, over}
 use Rattle.rules.specs.declared.Row.{Row}
 use Rattle.rules.specs.declared.RowRead.the-variants.{Line, Amiss}
 use Rattle.under.specs.Under.{LineIs, NoLineIs}

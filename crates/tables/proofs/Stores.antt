@@ -6,7 +6,7 @@ use native.Mathlib.Omega.{arith}
 use lib.ListN.{length, take, drop, set, length-append, length-take, length-drop, drop-of-length-le}
 use lib.Seq.{take-all, drop-drop, take-at, drop-at}
 use borrow.Rule.Slice.PartMut.{putMid, midOf, postOf}
-use Rattle.rules.specs.Laid.{over}
+use Rattle.laid.specs.Laid.{over}
 
 -- four words at the front
 pub over-four : (l : List ℕ) (a b c d : ℕ) → 4 ≤ length l → set (set (set (set l 0 a) 1 b) 2 c) 3 d ≡ over l (a ∷ b ∷ c ∷ d ∷ [])

@@ -17,7 +17,7 @@ use Rattle.rules.specs.Fields.{lineAt, assignedNumber, rowOf}
 use Rattle.rules.specs.Tables.{fixtures}
 use Rattle.rules.specs.Model.{numberIs}
 use Rattle.rules.specs.Reading.{atPlace, isNamedLine, fixturesIn, rowLines, rowsIn, ontoRow, waveformIn}
-use Rattle.rules.specs.Laid.{waveformLaid}
+use Rattle.laid.specs.Laid.{waveformLaid}
 use Rattle.rules.specs.declared.Row.{Row}
 use Rattle.rules.specs.declared.RowRead.{RowRead}
 use Rattle.rules.specs.declared.RowRead.the-variants.{Line, Amiss}

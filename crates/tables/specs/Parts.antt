@@ -14,7 +14,7 @@ use Rattle.texts.specs.Texts.{Text, rest}
 use Rattle.texts.specs.Cursors.{Placed}
 use Rattle.texts.specs.declared.Cursor.{Cursor}
 use Rattle.rules.specs.Reading.{under, keyAt, argumentAt, isWithin, ModelIs, onModelPart, modelIn}
-use Rattle.rules.specs.Laid.{allRows, stored, over}
+use Rattle.laid.specs.Laid.{allRows, stored, over}
 use Rattle.rules.specs.declared.Row.{Row}
 use Rattle.tables.specs.Rows.{tableRows}
 use Rattle.tables.specs.declared.Filled.{Filled}

@@ -9,7 +9,7 @@ use Rattle.texts.specs.Texts.{rest}
 use Rattle.texts.specs.declared.Cursor.{Cursor}
 use Rattle.rules.specs.Fields.{rowOf}
 use Rattle.rules.specs.Reading.{under, ontoRow, isNamedLine}
-use Rattle.rules.specs.Laid.{stored, over}
+use Rattle.laid.specs.Laid.{stored, over}
 use Rattle.rules.specs.declared.Row.{Row}
 use Rattle.rules.specs.declared.RowRead.{RowRead}
 use Rattle.rules.specs.declared.RowRead.the-variants.{Amiss}

@@ -5,7 +5,7 @@ ghost use lib.ListN.{length};
 ghost use Rattle.texts.specs.Texts.{rest};
 ghost use Rattle.texts.specs.Cursors.{Placed};
 ghost use Rattle.rules.specs.Reading.{under};
-ghost use Rattle.rules.specs.Laid.{stored, over};
+ghost use Rattle.laid.specs.Laid.{stored, over};
 ghost use Rattle.tables.specs.Parts.{partRows, PartNextIs, PartFilled, modelWords};
 use crate::Filled;
 use crate::PartNext;

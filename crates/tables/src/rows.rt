@@ -4,7 +4,7 @@ ghost use Prim.Native.Nat.{_≤_};
 ghost use lib.ListN.{length};
 ghost use Rattle.texts.specs.Cursors.{Placed};
 ghost use Rattle.rules.specs.Reading.{isNamedLine};
-ghost use Rattle.rules.specs.Laid.{rowWords, stored, over};
+ghost use Rattle.laid.specs.Laid.{rowWords, stored, over};
 ghost use Rattle.tables.specs.Rows.{rowIn, rowsAt, CountIs, FillIs};
 use crate::Counted;
 use crate::Filled;

@@ -7,7 +7,7 @@ ghost use Rattle.texts.specs.Texts.{rest};
 ghost use Rattle.texts.specs.Cursors.{Placed};
 ghost use Rattle.rules.specs.Model.{numberIs};
 ghost use Rattle.rules.specs.Reading.{under, waveformIn};
-ghost use Rattle.rules.specs.Laid.{waveformLaid};
+ghost use Rattle.laid.specs.Laid.{waveformLaid};
 ghost use Rattle.tables.specs.Waveforms.{bareWaveform, withFixture, withPoint, withLine};
 use crate::rows::named_line;
 use decimal::Cell;

@@ -1,5 +1,5 @@
 -- By what its parts are while nothing is read.
-use Rattle.rules.specs.Laid.{padded}
+use Rattle.laid.specs.Laid.{padded}
 use Rattle.shelf.specs.Shelved.{blankChoices}
 use borrow.Author.Needs.{needs}
 use Rattle.shelf.proofs.blank_choices.Statement.{statement}

@@ -1,6 +1,6 @@
 -- By computing: forty zeros.
 use mathlib.Core.Path.{refl}
-use Rattle.rules.specs.Laid.{padded}
+use Rattle.laid.specs.Laid.{padded}
 use Rattle.shelf.proofs.no_name.Statement.{statement}
 use Rattle.shelf.proofs.no_name.Tie as tie
 

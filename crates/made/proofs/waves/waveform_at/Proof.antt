@@ -6,7 +6,7 @@ use native.Mathlib.Omega.{arith}
 use borrow.Author.Needs.{needs}
 use lib.ListN.{getD}
 use denote.Ref.{now}
-use Rattle.rules.specs.Laid.{waveformLaid}
+use Rattle.laid.specs.Laid.{waveformLaid}
 use Rattle.store.specs.Store.{wavesFrom, waveAt}
 use Rattle.laying.specs.Lies.{waveformFrom, waveNoted}
 use Rattle.made.specs.Made.{waveformAt}

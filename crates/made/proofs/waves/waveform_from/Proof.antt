@@ -5,7 +5,7 @@ use borrow.Author.Needs.{needs}
 use mathlib.Core.Path.{subst}
 use denote.Ref.{now}
 use Rattle.texts.specs.Cursors.{NextIs}
-use Rattle.rules.specs.Laid.{waveformLaid}
+use Rattle.laid.specs.Laid.{waveformLaid}
 use Rattle.made.proofs.Edges.{from-text, from-change, from-none}
 use Rattle.made.proofs.waves.waveform_from.Statement.{statement}
 use Rattle.made.proofs.waves.waveform_from.Tie as tie

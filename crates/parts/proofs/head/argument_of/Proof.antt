@@ -9,7 +9,7 @@ use denote.Ref.{now}
 use Rattle.texts.specs.Texts.{rest}
 use Rattle.texts.specs.Cursors.{Placed}
 use Rattle.rules.specs.Reading.{headerIn}
-use Rattle.rules.specs.Laid.{wordsLaid}
+use Rattle.laid.specs.Laid.{wordsLaid}
 use Rattle.under.specs.Under.{KeyNextIs}
 use Rattle.parts.proofs.Keys.{head-found, head-more, head-none}
 use Rattle.parts.proofs.head.argument_of.Statement.{statement}

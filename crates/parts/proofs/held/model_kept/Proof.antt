@@ -2,7 +2,7 @@
 use mathlib.Core.Path.{sym, ap, _∙_}
 use borrow.Author.Needs.{needs}
 use denote.Ref.{now}
-use Rattle.rules.specs.Laid.{nameLaid}
+use Rattle.laid.specs.Laid.{nameLaid}
 use Rattle.parts.proofs.Copies.{kept-power, kept-ground, kept-none, kept-other}
 use Rattle.parts.proofs.held.model_kept.Statement.{statement}
 use Rattle.parts.proofs.held.model_kept.Tie as tie

@@ -1,6 +1,6 @@
 -- Zeros alone, by computing.
 use mathlib.Core.Path.{refl}
-use Rattle.rules.specs.Laid.{padded}
+use Rattle.laid.specs.Laid.{padded}
 use Rattle.parts.proofs.held.no_name.Statement.{statement}
 use Rattle.parts.proofs.held.no_name.Tie as tie
 

@@ -3,7 +3,7 @@ use borrow.Author.Needs.{needs}
 use denote.Ref.{now}
 use Rattle.laws.proofs.Lists.{part-rest}
 use Rattle.rules.specs.Reading.{choiceIn}
-use Rattle.rules.specs.Laid.{choiceLaid}
+use Rattle.laid.specs.Laid.{choiceLaid}
 use Rattle.parts.proofs.Words.{word-from, choice-fits, choice-behind}
 use Rattle.parts.proofs.rows.choice_of.Statement.{statement}
 use Rattle.parts.proofs.rows.choice_of.Tie as tie

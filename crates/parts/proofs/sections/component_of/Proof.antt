@@ -6,7 +6,7 @@ use denote.Ref.{now}
 use Rattle.laws.specs.Lists.{front}
 use Rattle.texts.specs.Texts.{rest}
 use Rattle.rules.specs.Reading.{under, isWithin, locationsIn, componentIn}
-use Rattle.rules.specs.Laid.{componentLaid}
+use Rattle.laid.specs.Laid.{componentLaid}
 use Rattle.rules.specs.declared.Location.{Location}
 use Rattle.rules.specs.declared.Location.the-variants.{AtPin}
 use Rattle.under.proofs.Laws.{under-within}

@@ -3,7 +3,7 @@ use borrow.Author.Needs.{needs}
 use lib.ListN.{length-map}
 use denote.Ref.{now}
 use Rattle.texts.specs.Texts.{rest}
-use Rattle.rules.specs.Laid.{selectorLaid}
+use Rattle.laid.specs.Laid.{selectorLaid}
 use Rattle.under.proofs.Laws.{under-within}
 use Rattle.parts.proofs.sections.selector_of.Statement.{statement}
 use Rattle.parts.proofs.sections.selector_of.Tie as tie

@@ -1,84 +1,36 @@
--- What is kept of a file, when two files say the same, and how a file lies in the lent tables.
+-- How a file lies in the lent tables: each record, and each table from its start on.
 use Prim.Native.Nat.{ℕ, _+_, _-_}
 use mathlib.Core.List.{List, [], _∷_, _++_, map}
 use mathlib.Core.Bool.{Bool, true, false, cond}
 use mathlib.Core.Option.{Option, none, some}
-use mathlib.Core.Path.{_≡_}
 use lib.ListN.{length, take, drop, getD, replicate}
 use lib.Dec.{eqb}
 use Rattle.decimal.specs.Decimal.{wordOf}
-use Rattle.decimal.specs.declared.Cell.{Cell}
 use Rattle.decimal.specs.declared.Cell.the-variants.{Number, Missing}
 use Rattle.names.specs.Names.{meaning}
 use Rattle.keyword.specs.declared.CurrentTable.{CurrentTable}
 use Rattle.keyword.specs.declared.CurrentTable.the-variants.{Pulldown, Pullup, GndClamp, PowerClamp}
 use Rattle.rules.specs.Tables.{modelTypes}
 use Rattle.rules.specs.Model.{tablePlace}
-use Rattle.rules.specs.Reading.{noCells, noSlopes, orGiven, PinIs, ComponentIs, ChoiceIs, SelectorIs, FirstIs, RampIs, WaveformIs, TableIs, current, waveform, ModelIs, SectionIs, component, selector, model, FileIs}
+use Rattle.rules.specs.Reading.{noCells, noSlopes, orGiven, PinIs, ComponentIs, ChoiceIs, SelectorIs, RampIs, WaveformIs, TableIs, current, waveform, ModelIs, SectionIs, component, selector, model, FileIs}
 use Rattle.rules.specs.declared.Location.the-variants.{AtPin}
 use Rattle.rules.specs.declared.ModelType.the-variants.{Terminator}
 use Rattle.rules.specs.declared.Triple.{Triple}
 use Rattle.rules.specs.declared.Row.{Row}
 use Rattle.rules.specs.declared.Name.{Name}
 use Rattle.rules.specs.declared.Words.{Words}
 use Rattle.rules.specs.declared.Component.{Component}
 use Rattle.rules.specs.declared.Pin.{Pin}
 use Rattle.rules.specs.declared.Selector.{Selector}
 use Rattle.rules.specs.declared.Choice.{Choice}
 use Rattle.rules.specs.declared.Marked.{Marked}
 use Rattle.rules.specs.declared.Marked.the-variants.{Unmarked, First, Second}
 use Rattle.rules.specs.declared.Table.{Table}
 use Rattle.rules.specs.declared.Range.{Range}
 use Rattle.rules.specs.declared.RampTable.{RampTable}
 use Rattle.rules.specs.declared.Model.{Model}
 use Rattle.rules.specs.declared.Waveform.{Waveform}
-
--- ---- "Kept is all that is read, the order of sections and of waveforms included, but not .. the order of other parts within a section"
-
-unfoldable pub rowsOf : CurrentTable → List TableIs → Option (List Row)
-rowsOf t [] = none
-rowsOf t (current u rs ∷ ts) = cond (eqb (tablePlace t) (tablePlace u)) (some rs) (rowsOf t ts)
-rowsOf t (waveform x ∷ ts) = rowsOf t ts
-
-unfoldable pub waveformsOf : List TableIs → List WaveformIs
-waveformsOf [] = []
-waveformsOf (current u rs ∷ ts) = waveformsOf ts
-waveformsOf (waveform x ∷ ts) = x ∷ waveformsOf ts
-
--- the tables by kind, the waveforms in file order
-unfoldable pub inOrder : List TableIs → List (Option (List Row)) × List WaveformIs
-inOrder ts = (rowsOf Pulldown ts ∷ rowsOf Pullup ts ∷ rowsOf GndClamp ts ∷ rowsOf PowerClamp ts ∷ [], waveformsOf ts)
-
--- "Tables say the same if all that is kept is equal"
-pub record SameModel (m n : ModelIs) : Type 0 where
-  pub name : m .name ≡ n .name
-  pub first : m .first ≡ n .first
-  pub voltage : m .voltage ≡ n .voltage
-  pub temperature : m .temperature ≡ n .temperature
-  pub ramp : m .ramp ≡ n .ramp
-  pub tables : inOrder (m .tables) ≡ inOrder (n .tables)
-
-abbrev pub SameSection : SectionIs → SectionIs → Type 0
-SameSection (component a) (component b) = a ≡ b
-SameSection (component a) (selector b) = ⊥
-SameSection (component a) (model b) = ⊥
-SameSection (selector a) (component b) = ⊥
-SameSection (selector a) (selector b) = a ≡ b
-SameSection (selector a) (model b) = ⊥
-SameSection (model a) (component b) = ⊥
-SameSection (model a) (selector b) = ⊥
-SameSection (model a) (model b) = SameModel a b
-
-abbrev pub SameSections : List SectionIs → List SectionIs → Type 0
-SameSections [] [] = Unit {0}
-SameSections [] (b ∷ bs) = ⊥
-SameSections (a ∷ xs) [] = ⊥
-SameSections (a ∷ xs) (b ∷ bs) = SameSection a b × SameSections xs bs
-
-pub record SaysTheSame (f g : FileIs) : Type 0 where
-  pub name : f .name ≡ g .name
-  pub revision : f .revision ≡ g .revision
-  pub sections : SameSections (f .sections) (g .sections)
+use Rattle.rules.specs.Same.{waveformsOf}
 
 -- ---- texts as they lie in a record
 

@@ -1,0 +1,2 @@
+-- How a file lies in the lent tables.
+pub mod Laid
