@@ -1,14 +1,16 @@
 -- What the places that the code answers say of the lines.
-use Prim.Native.Nat.{ℕ, _+_, _≤_, _<_}
+use Prim.Native.Nat.{ℕ, _+_, _≤_, _<_, min}
+use Prim.Native.Char.{code}
 use mathlib.Core.Path.{_≡_}
 use mathlib.Core.List.{List, [], _∷_}
 use mathlib.Core.Bool.{Bool, cond, _&&_}
 use lib.ListN.{length, drop}
-use Rattle.laws.specs.Lists.{part}
+use Rattle.laws.specs.Lists.{front, other, part}
 use Rattle.lines.specs.Lines.{Physical, linesOf, faultFrom}
 use Rattle.lines.specs.declared.Bytes.{Bytes}
 use Rattle.lines.specs.declared.Bytes.the-variants.{Clean, Faulty}
 use Rattle.lines.specs.declared.Line.{Line}
+use Rattle.lines.specs.declared.LineReader.{LineReader}
 use Rattle.lines.specs.declared.LineCheck.{LineCheck}
 use Rattle.lines.specs.declared.LineCheck.the-variants.{Next, Wrong}
 
@@ -20,6 +22,23 @@ checked s k (Wrong f) = Faulty (record { number = f; line = k })
 abbrev pub Goes : List ℕ → ℕ → LineCheck → Type 0
 Goes s at (Next n) = (at < n) × (n ≤ length s)
 Goes s at (Wrong f) = Unit {0}
+
+-- the bytes of the first line, without its end; none where there is no line
+unfoldable pub firstBytes : List Physical → List ℕ
+firstBytes [] = []
+firstBytes (l ∷ ls) = l .bytes
+
+-- how many bytes the first line takes: up to the first LF, and with it
+unfoldable pub extent : List ℕ → ℕ
+extent s = min (length (front (other (code "\n")) s) + 1) (length s)
+
+-- where the line at a place ends, and where the next begins; past the last line both are the place
+unfoldable pub lineAt : List ℕ → ℕ → Line
+lineAt s at = record { end = at + length (firstBytes (linesOf (drop at s))); next = at + extent (drop at s) }
+
+-- a reader behind the line that it handed out
+abbrev pub passed : LineReader → Line → LineReader
+passed r l = record { src = r .src; at = l .next }
 
 -- The first of the lines from `at` on lies from there to end, without its line's end; the others begin at next.
 pub record RawAt (s : List ℕ) (at : ℕ) (r : Line) : Type 0 where

@@ -1,10 +1,10 @@
-// Lines of a file: the faults of their bytes, in one pass; the line at a place; and what cutting leaves of it.
+// Lines of a file: the faults of their bytes, in one pass; the reader that hands out one line at a time; and what cutting leaves.
 ghost use mathlib.Core.Path.{_≡_};
 ghost use Prim.Native.Nat.{ℕ, _+_, _≤_, _<_};
 ghost use lib.ListN.{length, drop};
 ghost use Rattle.laws.specs.Lists.{front};
 ghost use Rattle.lines.specs.Lines.{isAllowed, linesOf, faultFrom, bytesFault, cut};
-ghost use Rattle.lines.specs.Places.{checked, Goes, RawAt};
+ghost use Rattle.lines.specs.Places.{checked, Goes, lineAt, passed};
 ghost use Rattle.lines.specs.Breaks.{breakOf};
 
 // The bytes of a file and the characters of a line at the most.
@@ -24,10 +24,16 @@ pub enum Bytes {
     Faulty(Fault),
 }
 
-// A line from where it was asked for up to end, and where the next begins.
+// A line from where it was asked for up to end, and where the next begins; all three are one place where no line is left.
 pub struct Line {
     pub end: usize,
     pub next: usize,
+}
+
+// A reader that is lent the file and remembers its place.
+pub struct LineReader<'a> {
+    pub src: &'a [u8],
+    pub at: usize,
 }
 
 // A line without a fault, and where the next begins; or the fault's number.
@@ -131,10 +137,12 @@ pub fn check_bytes(s: &[u8]) -> Bytes
 }
 
 // The line at a place, whole.
-pub fn raw_line(s: &[u8], at: usize) -> Line
-    requires { ⌜ at < length (now s) ⌝ }
-    ensures { λ r. ⌜ RawAt (now (s .entry)) at r ⌝ }
+fn whole_line(s: &[u8], at: usize) -> Line
+    ensures { λ r. ⌜ r ≡ lineAt (now (s .entry)) at ⌝ }
 {
+    if s.len() <= at {
+        return Line { end: at, next: at };
+    }
     let stop = words::find(s, at, b'\n');
     if s.len() <= stop {
         return Line {
@@ -155,6 +163,32 @@ pub fn raw_line(s: &[u8], at: usize) -> Line
         end: stop,
         next: stop + 1,
     }
+}
+
+impl<'a> LineReader<'a> {
+    // A reader of these bytes that stands at a place.
+    pub fn new(src: &'a [u8], at: usize) -> LineReader<'a>
+        ensures { λ r. ⌜ r ≡ record { src = src .entry; at = at } ⌝ }
+    {
+        LineReader { src: src, at: at }
+    }
+
+    // Hands out the line at its place, and stands behind it.
+    pub fn next<'s>(self: &'s mut LineReader<'a>) -> Line
+        ensures { λ l. ⌜ (l ≡ lineAt (now (now (self .entry) .src)) (now (self .entry) .at)) × (now (self .exit) ≡ passed (now (self .entry)) l) ⌝ }
+    {
+        let l = whole_line(self.src, self.at);
+        self.at = l.next;
+        l
+    }
+}
+
+// The line at a place: a reader that stands there hands it out.
+pub fn line_at(src: &[u8], at: usize) -> Line
+    ensures { λ r. ⌜ r ≡ lineAt (now (src .entry)) at ⌝ }
+{
+    let mut reader = LineReader::new(src, at);
+    reader.next()
 }
 
 // How much of a line is left once it is cut at its comment, without trailing blanks.

@@ -165,7 +165,7 @@ fn one_line(s: &[u8], c: Cursor) -> OneLine
     ensures { λ r. ⌜ OneIs (now (s .entry)) c r ⌝ }
 {
     let at = c.at;
-    let raw = lines::raw_line(s, at);
+    let raw = lines::line_at(s, at);
     let end = raw.end;
     let line = &s[at..end];
     if changes(line) {
