@@ -6,9 +6,9 @@ import sys
 from pathlib import Path
 
 ROOT = Path(__file__).resolve().parent.parent
-FUNCTION = re.compile(r'^(?:#\[no_mangle\]\n)?pub (?:extern "C" )?fn (\w+)', re.M)
+FUNCTION = re.compile(r'^ *pub (?:extern "C" )?fn (\w+)', re.M)
 PROMISE = re.compile(r"ensures \{ λ (\w+)\. ⌜ (.*?) ⌝ \}", re.S)
-BODY = re.compile(r"^\{$|\)(?: -> [^{\n]*)? \{$", re.M)
+BODY = re.compile(r"^ *\{$|\)(?: -> [^{\n]*)? \{$", re.M)
 LISTED = re.compile(r"`(\w+)::(\w+|\{[^}]*\})`")
 
 
@@ -30,7 +30,10 @@ def forms(signature):
     fixed = set()
     for result, text in PROMISE.findall(signature):
         text = " ".join(text.split())
-        if re.match(rf"{result} ≡ ", text):
+        both = re.match(rf"\({result} ≡ .*\) × \(now \((\w+) \.exit\) ≡ .*\)$", text)
+        if both:
+            fixed |= {"result", both.group(1)}
+        elif re.match(rf"{result} ≡ ", text):
             fixed.add("result")
         elif text.startswith("Put (now (out .entry)) (now (out .exit)) "):
             fixed |= {"result", "out"}
@@ -57,7 +60,7 @@ def functions():
 
 def wanted(signature):
     """What a promise has to fix: the result, where there is one, and each slice lent to be written."""
-    lent = set(re.findall(r"(\w+): &mut ", signature))
+    lent = set(re.findall(r"(\w+): &(?:'\w+ )?mut ", signature))
     head = signature.split("requires")[0].split("ensures")[0]
     return lent | ({"result"} if "->" in head else set())
 
