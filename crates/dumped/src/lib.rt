@@ -11,6 +11,7 @@ pub use components::header_lines;
 pub use components::pin_line;
 pub use components::selector_lines;
 pub use models::model_lines;
+pub use models::put_type;
 pub use models::ramp_lines;
 pub use models::row_line;
 pub use models::table_line;

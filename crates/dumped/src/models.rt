@@ -22,7 +22,8 @@ use shown::put_count;
 use shown::put_decimal;
 use shown::put_next_cell;
 
-fn put_type(out: &mut [u8], at: usize, kind: ModelType) -> usize
+// A model type as document 01 spells it.
+pub fn put_type(out: &mut [u8], at: usize, kind: ModelType) -> usize
     ensures { λ r. ⌜ Put (now (out .entry)) (now (out .exit)) at (typeText kind) r ⌝ }
 {
     match kind {

@@ -1,5 +1,5 @@
 -- Laws of `specs/Put.antt`: nothing put, and one text put behind another.
-use Prim.Native.Nat.{ℕ, zero, suc, _+_, _≤_, _<_, min}
+use Prim.Native.Nat.{ℕ, zero, suc, _+_, _-_, _≤_, _<_, min}
 use mathlib.Core.Path.{_≡_, refl, sym, ap, _∙_, subst}
 use mathlib.Core.List.{List, [], _∷_, _++_}
 use native.Mathlib.Omega.{arith}
@@ -65,9 +65,33 @@ put-full a at x h = record { written = sym (set-out a at x h); stop = omega arit
 pub put-next : (a b c : List ℕ) (at m r i : ℕ) (text : List ℕ) → i < length text → Put a b at (take i text) m → Put b c m (getD text i 0 ∷ []) r → Put a c at (take (i + 1) text) r
 put-next a b c at m r i text h p q = rw (add-one i) rw (take-suc text i 0 h) (put-then p q)
 
-pub put-zero : (a b c : List ℕ) (at m r i : ℕ) → Put a b at (replicate i 48) m → Put b c m (48 ∷ []) r → Put a c at (replicate (i + 1) 48) r
-put-zero a b c at m r i p q = rw (sym (replicate-append-replicate {A = ℕ} i 1 48)) (put-then p q)
+pub put-again : (a b c : List ℕ) (at m r i x : ℕ) → Put a b at (replicate i x) m → Put b c m (x ∷ []) r → Put a c at (replicate (i + 1) x) r
+put-again a b c at m r i x p q = rw (sym (replicate-append-replicate {A = ℕ} i 1 x)) (put-then p q)
 
 -- the same text under another name
 pub put-as : {a b : List ℕ} {at r : ℕ} {xs ys : List ℕ} → xs ≡ ys → Put a b at xs r → Put a b at ys r
 put-as {a} {b} {at} {r} e p = subst (λ (t : List ℕ). Put a b at t r) e p
+
+-- ---- a column: blanks behind a text, counted from where it ends
+
+-- past the end every text is as good as another
+put-past : (b c : List ℕ) (m r : ℕ) (xs ys : List ℕ) → length b ≤ m → Put b c m xs r → Put b c m ys r
+put-past b c m r xs ys h q =
+    record {
+      written = q .written ∙ sets-out b m xs h ∙ sym (sets-out b m ys h);
+      stop = omega (arith, q .stop, h);
+      within = q .within;
+    }
+
+-- where the text had room, m - at is its length; where it had none, no blank has room either
+pub put-filled : {a b c : List ℕ} {at m r : ℕ} {text : List ℕ} (fill : ℕ → List ℕ)
+    → Put a b at text m → Put b c m (fill (m - at)) r → Put a c at (text ++ fill (length text)) r
+put-filled {a} {b} {c} {at} {m} {r} {text} fill p q =
+    by-order (at + length text) (length a)
+    (λ h.
+    let e : m - at ≡ length text = omega (arith, p .stop, h) in
+    put-then p (put-as (ap fill e) q))
+    (λ h.
+    let n : length b ≡ length a = put-kept p in
+    let g : length b ≤ m = omega (arith, p .stop, h, n) in
+    put-then p (put-past b c m r (fill (m - at)) (fill (length text)) g q))

@@ -35,14 +35,14 @@ pub fn put_bytes(out: &mut [u8], at: usize, text: &[u8]) -> usize
     next
 }
 
-// As many zeros as count says.
-pub(crate) fn put_zeros(out: &mut [u8], at: usize, count: usize) -> usize
-    ensures { λ r. ⌜ Put (now (out .entry)) (now (out .exit)) at (replicate count 48) r ⌝ }
+// A byte as often as count says.
+pub fn put_repeated(out: &mut [u8], at: usize, byte: u8, count: usize) -> usize
+    ensures { λ r. ⌜ Put (now (out .entry)) (now (out .exit)) at (replicate count byte) r ⌝ }
 {
     let mut next = least(at, out.len());
     let mut i = 0;
     while i < count {
-        next = put_byte(out, next, b'0');
+        next = put_byte(out, next, byte);
         i += 1;
     }
     next

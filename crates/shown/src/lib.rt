@@ -7,6 +7,7 @@ pub mod numbers; // numbers.rt: numbers, decimals and cells
 pub use bytes::put_byte;
 pub use bytes::put_bytes;
 pub use bytes::put_name;
+pub use bytes::put_repeated;
 pub use bytes::put_words;
 pub use listing::accepted_line;
 pub use listing::listed_line;

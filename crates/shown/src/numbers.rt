@@ -4,7 +4,7 @@ ghost use Rattle.shown.specs.Put.{Put};
 ghost use Rattle.shown.specs.Numerals.{digitOf, numeralOf, signText, powerText, decimalText, cellText, pointed, plainText, DigitsAre};
 use crate::bytes::put_byte;
 use crate::bytes::put_bytes;
-use crate::bytes::put_zeros;
+use crate::bytes::put_repeated;
 use decimal::Cell;
 use decimal::Decimal;
 
@@ -109,7 +109,7 @@ fn put_pointed(out: &mut [u8], at: usize, number: u64, places: usize) -> usize
         return put_bytes(out, dot, &bytes[point..]);
     }
     let dot = put_bytes(out, at, b"0.");
-    let zeros = put_zeros(out, dot, places - count);
+    let zeros = put_repeated(out, dot, b'0', places - count);
     put_bytes(out, zeros, &bytes[first..])
 }
 
@@ -122,5 +122,5 @@ pub fn put_plain_decimal(out: &mut [u8], at: usize, d: Decimal) -> usize
         return put_pointed(out, sign, d.digits, (40 - d.power) as usize);
     }
     let whole = put_number(out, sign, d.digits);
-    put_zeros(out, whole, (d.power - 40) as usize)
+    put_repeated(out, whole, b'0', (d.power - 40) as usize)
 }

@@ -28,18 +28,18 @@ returns c = rw (lt-ltb (c .before .before .before .before .before .before .befor
 put-number-requires : tie.Need-put-number-requires
 put-number-requires c κs = search needs
 
-cast-put-zeros : tie.Need-cast-put-zeros
-cast-put-zeros c = search needs
+cast-put-repeated : tie.Need-cast-put-repeated
+cast-put-repeated c = search needs
 
-put-zeros-requires : tie.Need-put-zeros-requires
-put-zeros-requires c κs = search needs
+put-repeated-requires : tie.Need-put-repeated-requires
+put-repeated-requires c κs = search needs
 
 same-length-2 : tie.Need-same-length-2
 same-length-2 c = search needs
 
 returns-2 : tie.Need-returns-2
 unfolding plainText
-returns-2 c = rw (le-ltb (c .before .before .before .before .before .before .before .before .before .before .before .before .before .before .before .before .args .d .power) 40 (c .before .before .before .before .before .before .before .before .before .if1 .left)) (put-then (c .before .before .before .before .before .before .before .before .before .before .before .before .before .put-sign .ensures) (put-then (c .before .before .before .before .before .before .before .put-number .ensures) (c .before .before .put-zeros .ensures)))
+returns-2 c = rw (le-ltb (c .before .before .before .before .before .before .before .before .before .before .before .before .before .before .before .before .args .d .power) 40 (c .before .before .before .before .before .before .before .before .before .if1 .left)) (put-then (c .before .before .before .before .before .before .before .before .before .before .before .before .before .put-sign .ensures) (put-then (c .before .before .before .before .before .before .before .put-number .ensures) (c .before .before .put-repeated .ensures)))
 
 pub put-plain-decimal-spec : {M : Type 1} → statement M
 put-plain-decimal-spec =
@@ -52,7 +52,7 @@ put-plain-decimal-spec =
     same-length
     returns
     put-number-requires
-    cast-put-zeros
-    put-zeros-requires
+    cast-put-repeated
+    put-repeated-requires
     same-length-2
     returns-2)

@@ -64,8 +64,8 @@ slice-aggregate-put-bytes c = search needs
 put-bytes-requires-3 : tie.Need-put-bytes-requires-3
 put-bytes-requires-3 c κs = search needs
 
-put-zeros-requires : tie.Need-put-zeros-requires
-put-zeros-requires c κs = search needs
+put-repeated-requires : tie.Need-put-repeated-requires
+put-repeated-requires c κs = search needs
 
 sub-put-bytes-3 : tie.Need-sub-put-bytes-3
 sub-put-bytes-3 c = search needs
@@ -89,7 +89,7 @@ returns-2 c =
     let n = c .before .before .before .before .before .before .before .before .before .before .before .before .before .before .before .before .before .before .before .args .number in
     let k = c .before .before .before .before .before .before .before .before .before .before .before .before .before .before .before .before .before .before .before .args .places in
     let h : length (numeralOf n) ≤ k = omega (arith, digits-count n (d .result) (d .ensures), c .before .before .before .before .before .before .before .before .before .before .before .before .before .before .before .if1 .left) in
-    rw (le-ltb k (length (numeralOf n)) h) rw (digits-count n (d .result) (d .ensures)) (put-then (put-then (c .before .before .before .before .before .before .before .before .before .before .before .before .put-bytes3 .ensures) (c .before .before .before .before .before .before .before .before .put-zeros .ensures)) (put-as (digits-all n (d .result) (d .ensures)) (c .before .before .put-bytes4 .ensures)))
+    rw (le-ltb k (length (numeralOf n)) h) rw (digits-count n (d .result) (d .ensures)) (put-then (put-then (c .before .before .before .before .before .before .before .before .before .before .before .before .put-bytes3 .ensures) (c .before .before .before .before .before .before .before .before .put-repeated .ensures)) (put-as (digits-all n (d .result) (d .ensures)) (c .before .before .put-bytes4 .ensures)))
 
 pub put-pointed-spec : {M : Type 1} → statement M
 put-pointed-spec =
@@ -111,7 +111,7 @@ put-pointed-spec =
     returns
     slice-aggregate-put-bytes
     put-bytes-requires-3
-    put-zeros-requires
+    put-repeated-requires
     sub-put-bytes-3
     part-put-bytes-start-3
     part-put-bytes-end-3
