@@ -1,6 +1,6 @@
 -- Laws of what a user of the tables asks: a name's bytes, a row of the row store, and a search from the top of a table.
 use Prim.Native.Nat.{ℕ, suc, _+_, _*_, _/_, _<_, _≤_, min}
-use mathlib.Core.Path.{_≡_, refl, sym, ap, _∙_}
+use mathlib.Core.Path.{_≡_, refl, sym, ap, _∙_, subst}
 use mathlib.Core.List.{List, [], _∷_, map}
 use mathlib.Core.Bool.{Bool, true, false, not, _&&_}
 use native.Mathlib.Nat.{min-eq-left, min-eq-right, le-of-lt}
@@ -116,6 +116,24 @@ module _ {A : Type 0} (try : ℕ → A → Found) (xs : List A) (n : ℕ) where
   seeking-ends i (At k) inv h = inv
   seeking-ends i Nothing inv h = sym (ap (firstOf try i) (drop-of-length-le (take n xs) (past xs n i h))) ∙ inv
 
+-- ---- the same in a table by value, whose length is known
+
+told : (t : Bool) → t ≡ true → T t
+told t h = subst T (sym h) tt
+
+told-not : (t : Bool) → t ≡ false → T (not t)
+told-not t h = subst (λ (b : Bool). T (not b)) (sym h) tt
+
+pub held-below : (f : Found) (i n m : ℕ) → isSeeking f i n m ≡ true → i < m
+held-below f i n m h = seeking-below f i n m (told (isSeeking f i n m) h)
+
+module _ {A : Type 0} (try : ℕ → A → Found) (xs : List A) (n m : ℕ) (e : length xs ≡ m) where
+  pub held-goes : (i : ℕ) (f : Found) (d : A) → Goes try xs n i f → isSeeking f i n m ≡ true → Goes try xs n (i + 1) (try i (getD xs i d))
+  held-goes i f d inv h = rw (add-one i) (seeking-goes try xs n i f d inv (told (isSeeking f i n (length xs)) (ap (isSeeking f i n) e ∙ h)))
+
+  pub held-ends : (i : ℕ) (f : Found) → Goes try xs n i f → isSeeking f i n m ≡ false → f ≡ firstOf try 0 (take n xs)
+  held-ends i f inv h = seeking-ends try xs n i f inv (told-not (isSeeking f i n (length xs)) (ap (isSeeking f i n) e ∙ h))
+
 -- ---- the row that was found among the choices
 
 pub there-below : (f : Found) (n m : ℕ) → T (isThere f n m) → rowPlace f < m
@@ -134,3 +152,13 @@ pub there-no : (xs : List Choice) (n : ℕ) (f : Found) (name : Name) → T (not
 unfolding nameIn
 there-no xs n (At k) name h = sym (ap (λ (l : List Choice). nameIn l name) (drop-of-length-le (take n xs) (past xs n k h)))
 there-no xs n Nothing name h = refl
+
+module _ (xs : List Choice) (n m : ℕ) (f : Found) (name : Name) (e : length xs ≡ m) where
+  pub held-row : isThere f n m ≡ true → rowPlace f < m
+  held-row h = there-below f n m (told (isThere f n m) h)
+
+  pub held-yes : (d : Choice) → isThere f n m ≡ true → getD xs (rowPlace f) d .model ≡ nameAt (take n xs) f name
+  held-yes d h = there-yes xs n f name d (told (isThere f n (length xs)) (ap (isThere f n) e ∙ h))
+
+  pub held-no : isThere f n m ≡ false → name ≡ nameAt (take n xs) f name
+  held-no h = there-no xs n f name (told-not (isThere f n (length xs)) (ap (isThere f n) e ∙ h))

@@ -1,4 +1,6 @@
 // What a user of the filled tables asks: whether two names are the same, a row of the row store, the package values of a pin, and the model chosen for it.
+pub mod tables; // tables.rt: the model chosen for a pin, in tables by value
+
 use decimal::Cell;
 use names::Found;
 use noted::Counts;
