@@ -3,7 +3,8 @@
 ghost use mathlib.Core.Path.{_≡_};
 ghost use Prim.Native.Nat.{_≤_, _<_};
 ghost use lib.ListN.{length};
-use answers::Verdict;
+use printed::files::Form;
+use printed::files::print_file;
 use rules::Lengths;
 
 // A byte of the head; what is past the end counts as 0.
@@ -49,20 +50,6 @@ fn lengths_in(head: &[u8]) -> Lengths {
     }
 }
 
-fn print_file(src: &[u8], l: Lengths) {
-    match answers::check(src, l) {
-        Verdict::Accepted => {
-            let t = shelf::loaded(src);
-            printed::print_dump(t);
-        }
-        Verdict::Refused(f) => {
-            let mut out = io::buffer();
-            let m = shown::refused_line(&mut out, 0, f);
-            printed::put_out(&out, m);
-        }
-    }
-}
-
 fn file_buffer() -> [u8; 131072]
     ensures { λ r. ⌜ 131072 ≡ length r ⌝ }
 {
@@ -81,7 +68,7 @@ fn next_file(head: &mut [u8], src: &mut [u8]) -> bool {
         return false;
     }
     let l = lengths_in(head);
-    print_file(&src[0..n], l);
+    print_file(&src[0..n], l, Form::Dump);
     true
 }
 

@@ -1,5 +1,8 @@
 // The dump of a shelf on standard output: the sections in file order, each with what is its own in other tables.
-ghost use Prim.Native.Nat.{_≤_};
+ghost use mathlib.Core.Path.{_≡_};
+ghost use mathlib.Core.Bool.{_&&_};
+ghost use Prim.Native.Nat.{_-_, _≤_};
+ghost use lib.Dec.{ltb, leb};
 use noted::Counts;
 use rules::Choice;
 use rules::Component;
@@ -11,6 +14,7 @@ use rules::Table;
 use rules::Waveform;
 use shelf::Shelf;
 
+pub mod files; // files.rt: the answer to a file
 pub mod listing; // listing.rt: the listing
 
 // Writes the first n bytes.
@@ -21,7 +25,9 @@ pub fn put_out(out: &[u8], n: usize) {
 }
 
 // Whether place i is one of a span's.
-fn holds(s: Span, i: usize) -> bool {
+pub fn holds(s: Span, i: usize) -> bool
+    ensures { λ r. ⌜ r ≡ leb (s .start) i && ltb (i - s .start) (s .count) ⌝ }
+{
     if i < s.start {
         return false;
     }

@@ -34,8 +34,11 @@ mul-pin c = search needs
 array-copy-out-pin : tie.Need-array-copy-out-pin Inv-loop μ-loop
 array-copy-out-pin c = search needs
 
-selected-requires : tie.Need-selected-requires Inv-loop μ-loop
-selected-requires c κs = search needs
+name-for-requires : tie.Need-name-for-requires Inv-loop μ-loop
+name-for-requires c κs = search needs
+
+model-for-requires : tie.Need-model-for-requires Inv-loop μ-loop
+model-for-requires c κs = search needs
 
 print-pin-requires : tie.Need-print-pin-requires Inv-loop μ-loop
 print-pin-requires c κs = search needs
@@ -66,7 +69,8 @@ print-listing-spec =
     loop-holds
     mul-pin
     array-copy-out-pin
-    selected-requires
+    name-for-requires
+    model-for-requires
     print-pin-requires
     add-i
     loop-less

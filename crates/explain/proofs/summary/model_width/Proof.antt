@@ -1,14 +1,14 @@
 -- A place at a time, up to the table's end.
-use Prim.Native.Nat.{_≤_, _-_}
+use Prim.Native.Nat.{_-_, _≤_}
 use borrow.Author.Needs.{needs}
-use Rattle.printed.proofs.listing.model_named.Statement.{statement}
-use Rattle.printed.proofs.listing.model_named.Tie as tie
+use Rattle.explain.proofs.summary.model_width.Statement.{statement}
+use Rattle.explain.proofs.summary.model_width.Tie as tie
 
 abbrev Inv-loop : tie.InvT-loop
-Inv-loop n name models i₀ i = i ≤ 64
+Inv-loop used models width₀ i₀ width i = i ≤ 64
 
 abbrev μ-loop : tie.MeasureT-loop
-μ-loop n name models i₀ i = 64 - i
+μ-loop used models width₀ i₀ width i = 64 - i
 
 loop-holds : tie.Need-loop-holds Inv-loop μ-loop
 loop-holds c = search needs
@@ -19,11 +19,8 @@ mul-m c = search needs
 array-copy-out-m : tie.Need-array-copy-out-m Inv-loop μ-loop
 array-copy-out-m c = search needs
 
-same-name-requires : tie.Need-same-name-requires Inv-loop μ-loop
-same-name-requires c κs = search needs
-
-returns : tie.Need-returns Inv-loop μ-loop
-returns c = search needs
+wider-requires : tie.Need-wider-requires Inv-loop μ-loop
+wider-requires c κs = search needs
 
 add-i : tie.Need-add-i Inv-loop μ-loop
 add-i c = search needs
@@ -34,11 +31,11 @@ loop-less c = search needs
 loop-again : tie.Need-loop-again Inv-loop μ-loop
 loop-again c = search needs
 
-returns-2 : tie.Need-returns-2 Inv-loop μ-loop
-returns-2 c = search needs
+returns : tie.Need-returns Inv-loop μ-loop
+returns c = search needs
 
-pub model-named-spec : {M : Type 1} → statement M
-model-named-spec =
+pub model-width-spec : {M : Type 1} → statement M
+model-width-spec =
     tie.close
     (tie.spec
     Inv-loop
@@ -46,9 +43,8 @@ model-named-spec =
     loop-holds
     mul-m
     array-copy-out-m
-    same-name-requires
-    returns
+    wider-requires
     add-i
     loop-less
     loop-again
-    returns-2)
+    returns)

@@ -1,0 +1,31 @@
+// Standard input is read as a file, with what the other programs lend, and told to a person: a summary, or the fault and its line.
+// The first argument is the file's name.
+mod summary; // summary.rt: the summary of a shelf
+
+use answers::Verdict;
+use lines::Fault;
+
+fn print_refusal(name: &[u8], src: &[u8], fault: Fault) {
+    let mut out = io::large_buffer();
+    let n = explained::put_refusal(&mut out, 0, name, src, fault);
+    printed::put_out(&out, n);
+}
+
+fn print_file(name: &[u8], src: &[u8]) {
+    match answers::check(src, printed::files::lent_lengths()) {
+        Verdict::Accepted => summary::print_summary(name, shelf::loaded(src)),
+        Verdict::Refused(f) => print_refusal(name, src, f),
+    }
+}
+
+fn main() {
+    let mut name = io::buffer();
+    let n = os::arg(1, &mut name);
+    let mut src = printed::files::file_buffer();
+    let m = io::read_full(0, &mut src);
+    if n == 0 {
+        print_file(b"standard input", &src[..m]);
+        return;
+    }
+    print_file(&name[..n], &src[..m]);
+}

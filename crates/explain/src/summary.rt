@@ -1,0 +1,129 @@
+// The summary of a shelf on standard output: the file, and each component with its pins in columns as wide as their names.
+use chosen::Chosen;
+use explained::Widths;
+use noted::Counts;
+use printed::put_out;
+use rules::Choice;
+use rules::Component;
+use rules::Model;
+use rules::Name;
+use rules::Pin;
+use rules::Selector;
+use rules::Span;
+use shelf::Shelf;
+
+// ---- how wide the columns are: as their headings, or as the longest name
+
+fn wider(width: usize, name: Name) -> usize {
+    let n = name.len as usize;
+    if width < n { n } else { width }
+}
+
+fn model_width(models: [Model; 64], used: usize) -> usize {
+    let mut width: usize = 5;
+    for i in 0..64 {
+        let m = models[i];
+        if i < used {
+            width = wider(width, m.name);
+        }
+    }
+    width
+}
+
+fn widths_of(pins: [Pin; 512], used: usize, model: usize) -> Widths {
+    let mut pin: usize = 3;
+    let mut signal: usize = 6;
+    for i in 0..512 {
+        let p = pins[i];
+        if i < used {
+            pin = wider(pin, p.name);
+            signal = wider(signal, p.signal);
+        }
+    }
+    Widths {
+        pin: pin,
+        signal: signal,
+        model: model,
+    }
+}
+
+// ---- components and their pins
+
+fn print_bare_pin(w: Widths, p: Pin) {
+    let mut out = io::buffer();
+    let n = explained::put_bare_pin(&mut out, 0, w, p);
+    put_out(&out, n);
+}
+
+fn print_pin(w: Widths, p: Pin, models: [Model; 64], choice: Chosen) {
+    match choice {
+        Chosen::Model(k) => {
+            if k < 64 {
+                let mut out = io::buffer();
+                let n = explained::put_pin(&mut out, 0, w, p, models[k]);
+                put_out(&out, n);
+            }
+        }
+        Chosen::Nobody => print_bare_pin(w, p),
+    }
+}
+
+fn print_pins(
+    w: Widths,
+    pins: [Pin; 512],
+    span: Span,
+    selectors: [Selector; 32],
+    choices: [Choice; 256],
+    models: [Model; 64],
+    counts: Counts,
+) {
+    for i in 0..512 {
+        let p = pins[i];
+        if printed::holds(span, i) {
+            let choice = chosen::tables::model_for(selectors, choices, models, counts, p);
+            print_pin(w, p, models, choice);
+        }
+    }
+}
+
+fn print_component(c: Component, w: Widths) {
+    let mut out = io::buffer();
+    let n = explained::put_component(&mut out, 0, c);
+    let m = explained::put_heading(&mut out, n, w);
+    put_out(&out, m);
+}
+
+fn print_components(
+    w: Widths,
+    components: [Component; 8],
+    pins: [Pin; 512],
+    selectors: [Selector; 32],
+    choices: [Choice; 256],
+    models: [Model; 64],
+    counts: Counts,
+) {
+    for i in 0..8 {
+        let c = components[i];
+        if i < counts.components {
+            print_component(c, w);
+            print_pins(w, pins, c.pins, selectors, choices, models, counts);
+        }
+    }
+}
+
+// The summary of an accepted file.
+pub(crate) fn print_summary(name: &[u8], t: Shelf) {
+    let a = t.answer;
+    let counts = a.counts;
+    let components = t.components;
+    let pins = t.pins;
+    let selectors = t.selectors;
+    let choices = t.choices;
+    let models = t.models;
+    let mut out = io::large_buffer();
+    let n = explained::put_header(&mut out, 0, name, a.header);
+    let m = explained::put_counts(&mut out, n, counts);
+    put_out(&out, m);
+    let w = widths_of(pins, counts.pins, model_width(models, counts.models));
+    print_components(w, components, pins, selectors, choices, models, counts);
+}

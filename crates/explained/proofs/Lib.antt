@@ -1,0 +1,2 @@
+-- Laws behind the proofs.
+pub mod Laws

@@ -1,0 +1,3 @@
+-- What a person reads of a file: a refusal with its line, or a summary.
+pub mod Refusals
+pub mod Summaries

@@ -1,0 +1,12 @@
+// What a person reads of a file, as bytes in a lent buffer: a refusal with its line, or a summary in columns.
+pub mod refusals; // refusals.rt: where, which fault, the line itself, and what to look at
+pub mod summaries; // summaries.rt: the file, and its pins in columns
+
+pub use refusals::put_refusal;
+pub use summaries::Widths;
+pub use summaries::put_bare_pin;
+pub use summaries::put_component;
+pub use summaries::put_counts;
+pub use summaries::put_header;
+pub use summaries::put_heading;
+pub use summaries::put_pin;

@@ -1,0 +1,2 @@
+-- What the programs lend.
+pub mod Lent
