@@ -2,3 +2,4 @@
 pub mod Tables
 pub mod Laws
 pub mod Strength
+pub mod Answered

@@ -8,6 +8,11 @@ pub mod Filled
 pub mod Put
 pub mod Get
 pub mod Count
+pub mod Looks
+pub mod Scan
+pub mod Pick
+pub mod TwoTables
+pub mod ThreeTables
 pub mod Fill
 pub mod Reading
 pub mod Read

@@ -3,8 +3,9 @@ use contract.Running.{givenOf, tables, tablesOf}
 use denote.Triple.Spec.{tripleOf}
 use denote.Triple.Table.{entered, cited}
 use Rattle.chosen.specs.Chosen.{tryModel, modelPlace}
-use Rattle.chosen.proofs.Scan.{Start, More, Get, Step, scan-meets}
-use Rattle.chosen.proofs.Records.{models, models-elem, places, places-elem, names, names-elem, search-by}
+use Rattle.slices.proofs.Scan.{Start, More, Get, Step, scan-meets}
+use Rattle.records.proofs.Tables.{models, models-elem, names, names-elem}
+use Rattle.chosen.proofs.Records.{places, places-elem, search-by}
 use Rattle.chosen.proofs.nothing_yet.Symbol as start-def
 use Rattle.chosen.proofs.nothing_yet.Symbol.{name as #start}
 use Rattle.chosen.proofs.nothing_yet.Met as start-thm

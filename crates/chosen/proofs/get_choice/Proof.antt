@@ -3,7 +3,7 @@ use contract.Running.{givenOf, tables, tablesOf}
 use denote.Triple.Spec.{tripleOf}
 use denote.Triple.Table.{entered}
 use Rattle.slices.proofs.Get.{get-meets}
-use Rattle.chosen.proofs.Records.{choices, choices-elem}
+use Rattle.records.proofs.Tables.{choices, choices-elem}
 use Rattle.chosen.proofs.get_choice.Key.{name as #chosen·get-choice}
 use Rattle.chosen.proofs.get_choice as get-choice
 use Rattle.chosen.proofs.get_choice.Statement as stated

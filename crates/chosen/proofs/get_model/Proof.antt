@@ -3,7 +3,7 @@ use contract.Running.{givenOf, tables, tablesOf}
 use denote.Triple.Spec.{tripleOf}
 use denote.Triple.Table.{entered}
 use Rattle.slices.proofs.Get.{get-meets}
-use Rattle.chosen.proofs.Records.{models, models-elem}
+use Rattle.records.proofs.Tables.{models, models-elem}
 use Rattle.chosen.proofs.get_model.Key.{name as #chosen·get-model}
 use Rattle.chosen.proofs.get_model as get-model
 use Rattle.chosen.proofs.get_model.Statement as stated

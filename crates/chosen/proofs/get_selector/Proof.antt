@@ -3,7 +3,7 @@ use contract.Running.{givenOf, tables, tablesOf}
 use denote.Triple.Spec.{tripleOf}
 use denote.Triple.Table.{entered}
 use Rattle.slices.proofs.Get.{get-meets}
-use Rattle.chosen.proofs.Records.{selectors, selectors-elem}
+use Rattle.records.proofs.Tables.{selectors, selectors-elem}
 use Rattle.chosen.proofs.get_selector.Key.{name as #chosen·get-selector}
 use Rattle.chosen.proofs.get_selector as get-selector
 use Rattle.chosen.proofs.get_selector.Statement as stated

@@ -7,9 +7,10 @@ use lib.ListN.{take}
 use Rattle.slices.proofs.Elem.{Data}
 use Rattle.noted.specs.declared.Counts.{Counts}
 use Rattle.chosen.specs.Chosen.{nameFor, modelPlace, chosenOf, modelFor}
-use Rattle.chosen.proofs.ThreeTables.{Three, Named, Some, Find, Tells, three-meets}
-use Rattle.chosen.proofs.Looks.{of-enum, enum-elem}
-use Rattle.chosen.proofs.Records.{selectors, choices, models, counts, counts-elem, pins, pins-elem, places, places-elem, names, names-elem}
+use Rattle.slices.proofs.ThreeTables.{Three, Named, Some, Find, Tells, three-meets}
+use Rattle.slices.proofs.Looks.{of-enum, enum-elem}
+use Rattle.records.proofs.Tables.{selectors, choices, models, counts, counts-elem, pins, pins-elem, names, names-elem}
+use Rattle.chosen.proofs.Records.{places, places-elem}
 use Rattle.chosen.proofs.Chosen as A
 use Rattle.chosen.proofs.Chosen.Laws as A′
 use Rattle.chosen.proofs.name_for.Symbol as name-def

@@ -7,8 +7,9 @@ use lib.ListN.{take}
 use Rattle.noted.specs.declared.Counts.{Counts}
 use Rattle.rules.specs.declared.Pin.{Pin}
 use Rattle.chosen.specs.Chosen.{selectorRow, nameAt, nameFor}
-use Rattle.chosen.proofs.TwoTables.{Two, Asks, Some, Find, Others, Read, two-meets}
-use Rattle.chosen.proofs.Records.{selectors, choices, counts, counts-elem, pins, pins-elem, places, places-elem, names, names-elem}
+use Rattle.slices.proofs.TwoTables.{Two, Asks, Some, Find, Others, Read, two-meets}
+use Rattle.records.proofs.Tables.{selectors, choices, counts, counts-elem, pins, pins-elem, names, names-elem}
+use Rattle.chosen.proofs.Records.{places, places-elem}
 use Rattle.chosen.proofs.pin_model.Symbol as asked-def
 use Rattle.chosen.proofs.pin_model.Symbol.{name as #asked}
 use Rattle.chosen.proofs.pin_model.Met as asked-thm

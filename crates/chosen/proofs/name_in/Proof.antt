@@ -6,8 +6,9 @@ use lib.ListN.{take}
 use Rattle.rules.specs.declared.Choice.{Choice}
 use Rattle.chosen.specs.Chosen.{isThere, rowPlace, nameAt}
 use Rattle.chosen.proofs.Laws.{there-below, there-yes, there-no}
-use Rattle.chosen.proofs.Pick.{Pick, There, Where, Get, Taken, pick-meets}
-use Rattle.chosen.proofs.Records.{choices, choices-elem, places, places-elem, names, names-elem}
+use Rattle.slices.proofs.Pick.{Pick, There, Where, Get, Taken, pick-meets}
+use Rattle.records.proofs.Tables.{choices, choices-elem, names, names-elem}
+use Rattle.chosen.proofs.Records.{places, places-elem}
 use Rattle.chosen.proofs.there.Symbol as there-def
 use Rattle.chosen.proofs.there.Symbol.{name as #there}
 use Rattle.chosen.proofs.there.Met as there-thm

@@ -39,11 +39,11 @@ use denote.Triple.Spec.{Meets}
 use denote.Triple.Statement.{Contract, Triple}
 use denote.Triple.Clauses.{Clauses, Ended, closing}
 use denote.Triple.Walked.{says, Stays, stay-dropped, walkOf, Walks, ends-at, walked, goes-dropped, walk-meets}
 use Rattle.slices.proofs.Elem.{Data, row, vals, Elem}
 use Rattle.slices.proofs.Get as get
 use Rattle.slices.proofs.Get.{nth}
 use Rattle.slices.proofs.Calls.{Told, plain-ended, calls-plain}
-use Rattle.chosen.proofs.Looks.{calls-look}
+use Rattle.slices.proofs.Looks.{calls-look}
 
 nearer : (n i : ℕ) → i < n → n - suc i < n - i
 nearer n i h = omega (arith, h)

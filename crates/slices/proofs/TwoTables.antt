@@ -31,9 +31,9 @@ use denote.Triple.Spec.{Meets}
 use denote.Triple.Statement.{Contract, Triple}
 use denote.Triple.Clauses.{Clauses, Ended, closing}
 use denote.Triple.Walked.{says, Stays, stay-dropped, walkOf, Walks, ends-at, walked, goes-dropped, walk-meets}
 use Rattle.slices.proofs.Elem.{Data, row, vals, Elem}
 use Rattle.slices.proofs.Calls.{Told, plain-ended, calls-plain}
-use Rattle.chosen.proofs.Looks.{look-ended, calls-look}
+use Rattle.slices.proofs.Looks.{look-ended, calls-look}
 
 -- what the functions compute, and that together they give the answer
 pub record Two (e₁ e₂ o p w z : Data) : Type 2 where

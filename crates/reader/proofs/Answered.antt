@@ -1,0 +1,10 @@
+-- An answer as plain data for the walks of `slices`.
+use Rattle.slices.proofs.Elem.{Data, Elem, of-struct, struct-elem}
+use Rattle.answers.proofs.Answer as Answer
+use Rattle.answers.proofs.Answer.Laws as Answer′
+
+abbrev pub answer : Data
+answer = of-struct Answer.the-type Answer′.the-laws
+
+pub answer-elem : Elem answer
+answer-elem = struct-elem Answer.the-type Answer′.the-laws Answer′.the-copy Answer′.the-plain
