@@ -45,7 +45,7 @@ pub fn words_of(w: &[u8]) -> Words
     }
 }
 
-pub(crate) fn no_name() -> Name
+pub fn no_name() -> Name
     ensures { λ r. ⌜ r ≡ nameLaid [] ⌝ }
 {
     Name {
@@ -54,7 +54,7 @@ pub(crate) fn no_name() -> Name
     }
 }
 
-pub(crate) fn no_words() -> Words
+pub fn no_words() -> Words
     ensures { λ r. ⌜ r ≡ wordsLaid [] ⌝ }
 {
     Words {

@@ -7,6 +7,8 @@ pub mod head; // head.rt: the header
 
 pub use head::header_of;
 pub use held::name_of;
+pub use held::no_name;
+pub use held::no_words;
 pub use held::words_of;
 pub use lists::no_cells;
 pub use lists::triple_is;

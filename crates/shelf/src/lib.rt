@@ -1,4 +1,4 @@
-// A file read into tables at the limits of document 01, handed back by value: for programs, which lend nothing.
+// A file read into tables at the limits of document 01, handed back by value: for programs, which lend nothing; and blank records.
 use answers::Answer;
 use decimal::Cell;
 use keyword::Edge;
@@ -8,7 +8,6 @@ use rules::Location;
 use rules::Marked;
 use rules::Model;
 use rules::ModelType;
-use rules::Name;
 use rules::Pin;
 use rules::RampCell;
 use rules::RampTable;
@@ -17,15 +16,11 @@ use rules::Range;
 use rules::Selector;
 use rules::Span;
 use rules::Table;
-use rules::Triple;
 use rules::Waveform;
-use rules::Words;
 ghost use mathlib.Core.Path.{_≡_};
-ghost use mathlib.Core.List.{[]};
 ghost use mathlib.Core.Option.{none};
-ghost use Rattle.rules.specs.Reading.{noCells};
-ghost use Rattle.laid.specs.Laid.{nameLaid, rampLaid};
-ghost use Rattle.shelf.specs.Shelved.{blankComponents, blankPins, blankSelectors, blankChoices, blankModel, blankModels, blankWaveforms, blankRows, shelfOf, Loaded};
+ghost use Rattle.laid.specs.Laid.{rampLaid};
+ghost use Rattle.shelf.specs.Shelved.{blankComponent, blankPin, blankSelector, blankChoice, blankModel, blankWaveform, blankComponents, blankPins, blankSelectors, blankChoices, blankModels, blankWaveforms, blankRows, shelfOf, Loaded};
 
 // The answer, and the tables behind it. Of a refused file the tables hold blank records.
 pub struct Shelf {
@@ -40,25 +35,6 @@ pub struct Shelf {
 }
 
 // ---- blank records
-
-fn no_name() -> Name
-    ensures { λ r. ⌜ r ≡ nameLaid [] ⌝ }
-{
-    Name {
-        bytes: [0u8; 40],
-        len: 0,
-    }
-}
-
-fn no_cells() -> Triple
-    ensures { λ r. ⌜ r ≡ noCells ⌝ }
-{
-    Triple {
-        typ: Cell::Missing,
-        min: Cell::Missing,
-        max: Cell::Missing,
-    }
-}
 
 fn no_ramp() -> RampTable
     ensures { λ r. ⌜ r ≡ rampLaid none ⌝ }
@@ -76,14 +52,12 @@ fn no_ramp() -> RampTable
     }
 }
 
-// ---- blank tables
-
-fn blank_components() -> [Component; 8]
-    ensures { λ r. ⌜ r ≡ blankComponents ⌝ }
+pub fn blank_component() -> Component
+    ensures { λ r. ⌜ r ≡ blankComponent ⌝ }
 {
-    let name = no_name();
-    let cells = no_cells();
-    let component = Component {
+    let name = parts::no_name();
+    let cells = parts::no_cells();
+    Component {
         section: 0,
         name: name,
         si: Location::AtPin,
@@ -93,60 +67,53 @@ fn blank_components() -> [Component; 8]
         inductance: cells,
         capacitance: cells,
         pins: Span { start: 0, count: 0 },
-    };
-    [component; 8]
+    }
 }
 
-fn blank_pins() -> [Pin; 512]
-    ensures { λ r. ⌜ r ≡ blankPins ⌝ }
+pub fn blank_pin() -> Pin
+    ensures { λ r. ⌜ r ≡ blankPin ⌝ }
 {
-    let name = no_name();
-    let pin = Pin {
+    let name = parts::no_name();
+    Pin {
         name: name,
         signal: name,
         model: name,
         resistance: Cell::Missing,
         inductance: Cell::Missing,
         capacitance: Cell::Missing,
-    };
-    [pin; 512]
+    }
 }
 
-fn blank_selectors() -> [Selector; 32]
-    ensures { λ r. ⌜ r ≡ blankSelectors ⌝ }
+pub fn blank_selector() -> Selector
+    ensures { λ r. ⌜ r ≡ blankSelector ⌝ }
 {
-    let selector = Selector {
+    Selector {
         section: 0,
-        name: no_name(),
+        name: parts::no_name(),
         choices: Span { start: 0, count: 0 },
-    };
-    [selector; 32]
+    }
 }
 
-fn blank_choices() -> [Choice; 256]
-    ensures { λ r. ⌜ r ≡ blankChoices ⌝ }
+pub fn blank_choice() -> Choice
+    ensures { λ r. ⌜ r ≡ blankChoice ⌝ }
 {
-    let choice = Choice {
-        model: no_name(),
-        description: Words {
-            bytes: [0u8; 120],
-            len: 0,
-        },
-    };
-    [choice; 256]
+    Choice {
+        model: parts::no_name(),
+        description: parts::no_words(),
+    }
 }
 
-fn blank_model() -> Model
+pub fn blank_model() -> Model
     ensures { λ r. ⌜ r ≡ blankModel ⌝ }
 {
-    let cells = no_cells();
+    let cells = parts::no_cells();
     let table = Table {
         given: false,
         rows: Span { start: 0, count: 0 },
     };
     Model {
         section: 0,
-        name: no_name(),
+        name: parts::no_name(),
         kind: ModelType::Input,
         polarity: Marked::Unmarked,
         enable: Marked::Unmarked,
@@ -171,17 +138,10 @@ fn blank_model() -> Model
     }
 }
 
-fn blank_models() -> [Model; 64]
-    ensures { λ r. ⌜ r ≡ blankModels ⌝ }
+pub fn blank_waveform() -> Waveform
+    ensures { λ r. ⌜ r ≡ blankWaveform ⌝ }
 {
-    let model = blank_model();
-    [model; 64]
-}
-
-fn blank_waveforms() -> [Waveform; 1024]
-    ensures { λ r. ⌜ r ≡ blankWaveforms ⌝ }
-{
-    let waveform = Waveform {
+    Waveform {
         edge: Edge::Rising,
         rfixture: Cell::Missing,
         vfixture: Cell::Missing,
@@ -193,7 +153,50 @@ fn blank_waveforms() -> [Waveform; 1024]
         ldut: Cell::Missing,
         cdut: Cell::Missing,
         rows: Span { start: 0, count: 0 },
-    };
+    }
+}
+
+// ---- blank tables
+
+fn blank_components() -> [Component; 8]
+    ensures { λ r. ⌜ r ≡ blankComponents ⌝ }
+{
+    let component = blank_component();
+    [component; 8]
+}
+
+fn blank_pins() -> [Pin; 512]
+    ensures { λ r. ⌜ r ≡ blankPins ⌝ }
+{
+    let pin = blank_pin();
+    [pin; 512]
+}
+
+fn blank_selectors() -> [Selector; 32]
+    ensures { λ r. ⌜ r ≡ blankSelectors ⌝ }
+{
+    let selector = blank_selector();
+    [selector; 32]
+}
+
+fn blank_choices() -> [Choice; 256]
+    ensures { λ r. ⌜ r ≡ blankChoices ⌝ }
+{
+    let choice = blank_choice();
+    [choice; 256]
+}
+
+fn blank_models() -> [Model; 64]
+    ensures { λ r. ⌜ r ≡ blankModels ⌝ }
+{
+    let model = blank_model();
+    [model; 64]
+}
+
+fn blank_waveforms() -> [Waveform; 1024]
+    ensures { λ r. ⌜ r ≡ blankWaveforms ⌝ }
+{
+    let waveform = blank_waveform();
     [waveform; 1024]
 }
 

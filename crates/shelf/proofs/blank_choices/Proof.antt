@@ -1,16 +1,18 @@
--- By what its parts are while nothing is read.
-use Rattle.laid.specs.Laid.{padded}
-use Rattle.shelf.specs.Shelved.{blankChoices}
+-- A blank choice, over and over.
+use mathlib.Core.Path.{ap}
+use lib.ListN.{replicate}
 use borrow.Author.Needs.{needs}
+use Rattle.rules.specs.declared.Choice.{Choice}
+use Rattle.shelf.specs.Shelved.{blankChoices}
 use Rattle.shelf.proofs.blank_choices.Statement.{statement}
 use Rattle.shelf.proofs.blank_choices.Tie as tie
 
-no-name-requires : tie.Need-no-name-requires
-no-name-requires c κs = search needs
+blank-choice-requires : tie.Need-blank-choice-requires
+blank-choice-requires c κs = search needs
 
 returns : tie.Need-returns
-unfolding blankChoices padded
-returns c = rw (c .no-name .ensures)
+unfolding blankChoices
+returns c = ap (λ (x : Choice). replicate 256 x) (c .blank-choice .ensures)
 
 pub blank-choices-spec : {M : Type 1} → statement M
-blank-choices-spec = tie.close (tie.spec no-name-requires returns)
+blank-choices-spec = tie.close (tie.spec blank-choice-requires returns)

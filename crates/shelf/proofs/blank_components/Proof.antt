@@ -1,18 +1,18 @@
--- By what its parts are while nothing is read.
-use Rattle.shelf.specs.Shelved.{blankComponents}
+-- A blank component, over and over.
+use mathlib.Core.Path.{ap}
+use lib.ListN.{replicate}
 use borrow.Author.Needs.{needs}
+use Rattle.rules.specs.declared.Component.{Component}
+use Rattle.shelf.specs.Shelved.{blankComponents}
 use Rattle.shelf.proofs.blank_components.Statement.{statement}
 use Rattle.shelf.proofs.blank_components.Tie as tie
 
-no-name-requires : tie.Need-no-name-requires
-no-name-requires c κs = search needs
-
-no-cells-requires : tie.Need-no-cells-requires
-no-cells-requires c κs = search needs
+blank-component-requires : tie.Need-blank-component-requires
+blank-component-requires c κs = search needs
 
 returns : tie.Need-returns
 unfolding blankComponents
-returns c = rw (c .before .no-name .ensures, c .no-cells .ensures)
+returns c = ap (λ (x : Component). replicate 8 x) (c .blank-component .ensures)
 
 pub blank-components-spec : {M : Type 1} → statement M
-blank-components-spec = tie.close (tie.spec no-name-requires no-cells-requires returns)
+blank-components-spec = tie.close (tie.spec blank-component-requires returns)

@@ -12,7 +12,7 @@ blank-model-requires c κs = search needs
 
 returns : tie.Need-returns
 unfolding blankModels
-returns c = ap (λ (m : Model). replicate 64 m) (c .blank-model .ensures)
+returns c = ap (λ (x : Model). replicate 64 x) (c .blank-model .ensures)
 
 pub blank-models-spec : {M : Type 1} → statement M
 blank-models-spec = tie.close (tie.spec blank-model-requires returns)

@@ -1,15 +1,18 @@
--- By what its parts are while nothing is read.
-use Rattle.shelf.specs.Shelved.{blankPins}
+-- A blank pin, over and over.
+use mathlib.Core.Path.{ap}
+use lib.ListN.{replicate}
 use borrow.Author.Needs.{needs}
+use Rattle.rules.specs.declared.Pin.{Pin}
+use Rattle.shelf.specs.Shelved.{blankPins}
 use Rattle.shelf.proofs.blank_pins.Statement.{statement}
 use Rattle.shelf.proofs.blank_pins.Tie as tie
 
-no-name-requires : tie.Need-no-name-requires
-no-name-requires c κs = search needs
+blank-pin-requires : tie.Need-blank-pin-requires
+blank-pin-requires c κs = search needs
 
 returns : tie.Need-returns
 unfolding blankPins
-returns c = rw (c .no-name .ensures)
+returns c = ap (λ (x : Pin). replicate 512 x) (c .blank-pin .ensures)
 
 pub blank-pins-spec : {M : Type 1} → statement M
-blank-pins-spec = tie.close (tie.spec no-name-requires returns)
+blank-pins-spec = tie.close (tie.spec blank-pin-requires returns)

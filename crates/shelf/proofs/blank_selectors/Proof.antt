@@ -1,15 +1,18 @@
--- By what its parts are while nothing is read.
-use Rattle.shelf.specs.Shelved.{blankSelectors}
+-- A blank selector, over and over.
+use mathlib.Core.Path.{ap}
+use lib.ListN.{replicate}
 use borrow.Author.Needs.{needs}
+use Rattle.rules.specs.declared.Selector.{Selector}
+use Rattle.shelf.specs.Shelved.{blankSelectors}
 use Rattle.shelf.proofs.blank_selectors.Statement.{statement}
 use Rattle.shelf.proofs.blank_selectors.Tie as tie
 
-no-name-requires : tie.Need-no-name-requires
-no-name-requires c κs = search needs
+blank-selector-requires : tie.Need-blank-selector-requires
+blank-selector-requires c κs = search needs
 
 returns : tie.Need-returns
 unfolding blankSelectors
-returns c = rw (c .no-name .ensures)
+returns c = ap (λ (x : Selector). replicate 32 x) (c .blank-selector .ensures)
 
 pub blank-selectors-spec : {M : Type 1} → statement M
-blank-selectors-spec = tie.close (tie.spec no-name-requires returns)
+blank-selectors-spec = tie.close (tie.spec blank-selector-requires returns)
