@@ -1,0 +1,2 @@
+-- The tables of the example.
+pub mod Lent

@@ -1,0 +1,297 @@
+// The reader by example: standard input is read into lent tables of odd lengths, then into the same with a row too few, and is checked
+// for one pin. Printed are the verdict, every pin record, and the words past the rows that are used: what is not used keeps what it held.
+ghost use mathlib.Core.Path.{_≡_};
+ghost use Rattle.lending.specs.Lent.{sparePin, oneComponent, threePins, noSelectors, noChoices, twoModels, oneWaveform, manyWords, fewWords, enoughOf, scantOf, ReadEnough, ReadScant};
+use answers::Answer;
+use answers::Verdict;
+use noted::Counts;
+use rules::Choice;
+use rules::Component;
+use rules::Lengths;
+use rules::Model;
+use rules::Name;
+use rules::Pin;
+use rules::Selector;
+use rules::Waveform;
+
+// An answer and the tables as they are left: seven rows, and three words that hold no row.
+struct Enough {
+    answer: Answer,
+    components: [Component; 1],
+    pins: [Pin; 3],
+    selectors: [Selector; 0],
+    choices: [Choice; 0],
+    models: [Model; 2],
+    waveforms: [Waveform; 1],
+    rows: [u64; 31],
+}
+
+// The same with six rows.
+struct Scant {
+    answer: Answer,
+    components: [Component; 1],
+    pins: [Pin; 3],
+    selectors: [Selector; 0],
+    choices: [Choice; 0],
+    models: [Model; 2],
+    waveforms: [Waveform; 1],
+    rows: [u64; 27],
+}
+
+// ---- what the tables hold before they are lent
+
+fn one_component() -> [Component; 1]
+    ensures { λ r. ⌜ r ≡ oneComponent ⌝ }
+{
+    let component = shelf::blank_component();
+    [component; 1]
+}
+
+// A pin called xxxxx.
+fn spare_pin() -> Pin
+    ensures { λ r. ⌜ r ≡ sparePin ⌝ }
+{
+    let name = Name {
+        bytes: [b'x'; 40],
+        len: 5,
+    };
+    let mut pin = shelf::blank_pin();
+    pin.name = name;
+    pin
+}
+
+fn three_pins() -> [Pin; 3]
+    ensures { λ r. ⌜ r ≡ threePins ⌝ }
+{
+    let pin = spare_pin();
+    [pin; 3]
+}
+
+fn no_selectors() -> [Selector; 0]
+    ensures { λ r. ⌜ r ≡ noSelectors ⌝ }
+{
+    let selector = shelf::blank_selector();
+    [selector; 0]
+}
+
+fn no_choices() -> [Choice; 0]
+    ensures { λ r. ⌜ r ≡ noChoices ⌝ }
+{
+    let choice = shelf::blank_choice();
+    [choice; 0]
+}
+
+fn two_models() -> [Model; 2]
+    ensures { λ r. ⌜ r ≡ twoModels ⌝ }
+{
+    let model = shelf::blank_model();
+    [model; 2]
+}
+
+fn one_waveform() -> [Waveform; 1]
+    ensures { λ r. ⌜ r ≡ oneWaveform ⌝ }
+{
+    let waveform = shelf::blank_waveform();
+    [waveform; 1]
+}
+
+fn many_words() -> [u64; 31]
+    ensures { λ r. ⌜ r ≡ manyWords ⌝ }
+{
+    [7; 31]
+}
+
+fn few_words() -> [u64; 27]
+    ensures { λ r. ⌜ r ≡ fewWords ⌝ }
+{
+    [7; 27]
+}
+
+// ---- the readings
+
+fn enough_of(
+    answer: Answer,
+    components: [Component; 1],
+    pins: [Pin; 3],
+    selectors: [Selector; 0],
+    choices: [Choice; 0],
+    models: [Model; 2],
+    waveforms: [Waveform; 1],
+    rows: [u64; 31],
+) -> Enough
+    ensures { λ r. ⌜ r ≡ enoughOf answer components pins selectors choices models waveforms rows ⌝ }
+{
+    Enough {
+        answer: answer,
+        components: components,
+        pins: pins,
+        selectors: selectors,
+        choices: choices,
+        models: models,
+        waveforms: waveforms,
+        rows: rows,
+    }
+}
+
+fn read_enough(src: &[u8]) -> Enough
+    ensures { λ r. ⌜ ReadEnough (now (src .entry)) r ⌝ }
+{
+    let mut components = one_component();
+    let mut pins = three_pins();
+    let mut selectors = no_selectors();
+    let mut choices = no_choices();
+    let mut models = two_models();
+    let mut waveforms = one_waveform();
+    let mut rows = many_words();
+    let answer = reader::read(
+        src,
+        &mut components,
+        &mut pins,
+        &mut selectors,
+        &mut choices,
+        &mut models,
+        &mut waveforms,
+        &mut rows,
+    );
+    enough_of(
+        answer,
+        components,
+        pins,
+        selectors,
+        choices,
+        models,
+        waveforms,
+        rows,
+    )
+}
+
+fn scant_of(
+    answer: Answer,
+    components: [Component; 1],
+    pins: [Pin; 3],
+    selectors: [Selector; 0],
+    choices: [Choice; 0],
+    models: [Model; 2],
+    waveforms: [Waveform; 1],
+    rows: [u64; 27],
+) -> Scant
+    ensures { λ r. ⌜ r ≡ scantOf answer components pins selectors choices models waveforms rows ⌝ }
+{
+    Scant {
+        answer: answer,
+        components: components,
+        pins: pins,
+        selectors: selectors,
+        choices: choices,
+        models: models,
+        waveforms: waveforms,
+        rows: rows,
+    }
+}
+
+fn read_scant(src: &[u8]) -> Scant
+    ensures { λ r. ⌜ ReadScant (now (src .entry)) r ⌝ }
+{
+    let mut components = one_component();
+    let mut pins = three_pins();
+    let mut selectors = no_selectors();
+    let mut choices = no_choices();
+    let mut models = two_models();
+    let mut waveforms = one_waveform();
+    let mut rows = few_words();
+    let answer = reader::read(
+        src,
+        &mut components,
+        &mut pins,
+        &mut selectors,
+        &mut choices,
+        &mut models,
+        &mut waveforms,
+        &mut rows,
+    );
+    scant_of(
+        answer,
+        components,
+        pins,
+        selectors,
+        choices,
+        models,
+        waveforms,
+        rows,
+    )
+}
+
+// ---- what is printed
+
+fn print_verdict(verdict: Verdict, counts: Counts) {
+    let mut out = io::buffer();
+    match verdict {
+        Verdict::Accepted => {
+            let n = dumped::accepted_line(&mut out, 0, counts);
+            printed::put_out(&out, n);
+        }
+        Verdict::Refused(f) => {
+            let n = shown::refused_line(&mut out, 0, f);
+            printed::put_out(&out, n);
+        }
+    }
+}
+
+fn print_answer(a: Answer) {
+    let verdict = a.verdict;
+    print_verdict(verdict, a.counts);
+}
+
+fn print_pins(pins: [Pin; 3]) {
+    for i in 0..3 {
+        let mut out = io::buffer();
+        let n = dumped::pin_line(&mut out, 0, pins[i]);
+        printed::put_out(&out, n);
+    }
+}
+
+// Each word past those of the rows that are used.
+fn print_words(rows: &[u64], used: usize) {
+    let words = rows.len();
+    for i in 0..words {
+        if used <= i / 4 {
+            let mut out = io::buffer();
+            let n = shown::put_bytes(&mut out, 0, b"WORD ");
+            let m = shown::put_number(&mut out, n, rows[i]);
+            let k = shown::put_byte(&mut out, m, b'\n');
+            printed::put_out(&out, k);
+        }
+    }
+}
+
+// The verdict alone, were one pin lent.
+fn print_check(src: &[u8], counts: Counts) {
+    let l = Lengths {
+        components: 1,
+        pins: 1,
+        selectors: 0,
+        choices: 0,
+        models: 2,
+        waveforms: 1,
+        rows: 7,
+    };
+    print_verdict(reader::check(src, l), counts);
+}
+
+fn print_readings(src: &[u8]) {
+    let t = read_enough(src);
+    print_answer(t.answer);
+    print_pins(t.pins);
+    print_words(&t.rows, t.answer.counts.rows);
+    let u = read_scant(src);
+    print_answer(u.answer);
+    print_pins(u.pins);
+    print_words(&u.rows, u.answer.counts.rows);
+    print_check(src, u.answer.counts);
+}
+
+fn main() {
+    let mut src = printed::files::file_buffer();
+    let n = io::read_full(0, &mut src);
+    print_readings(&src[..n]);
+}
