@@ -1,0 +1,164 @@
+/*
+ * Olhovest for C: one IBIS 5.0 file read into tables that the caller lends, or the fault that stands first.
+ *
+ * Every function is proved to do what is said here, for any bytes and tables of any length. The archive is for x86-64
+ * Linux; `rt staticlib exported` writes it to target/staticlib/libexported.a. It calls nothing but memcpy and memset,
+ * allocates nothing, keeps nothing between calls, and needs less than 64 KiB of stack.
+ */
+#ifndef OLHOVEST_H
+#define OLHOVEST_H
+
+#include <stddef.h>
+#include <stdint.h>
+
+/*
+ * Faults, as the functions answer them:
+ *    0 accepted                          11 not a number
+ *    1 over 65,536 bytes (line 0)        12 number out of range
+ *    2 forbidden byte                    13 row order, divisor not above zero, row count or end typ
+ *    3 line over 120                     14 name already used
+ *    4 last line not ended               15 model name not found
+ *    5 keyword badly formed              16 model or selector not listed
+ *    6 keyword not carried               17 a bound passed
+ *    7 out of place                      18 lent rows too few
+ *    8 given twice                       19 no [End] (last line plus 1)
+ *    9 required part missing             20 Vinl not below Vinh
+ *   10 wrong word, name or count of words
+ */
+
+/* The bounds of a file. A table that is lent longer is used up to its bound; a shorter one has its length as the bound. */
+enum {
+    OLHOVEST_BYTES = 65536,
+    OLHOVEST_COMPONENTS = 8,
+    OLHOVEST_PINS = 512,
+    OLHOVEST_SELECTORS = 32,
+    OLHOVEST_CHOICES = 256,
+    OLHOVEST_MODELS = 64,
+    OLHOVEST_WAVEFORMS = 1024
+};
+
+/*
+ * A cell is one word: digits * 512 + power * 2 + sign, where the power 0 to 64 stands for -40 to 24, and the sign is 1
+ * for a negative number. The number is digits times ten to the power, exactly. All ones: the cell is missing.
+ */
+typedef uint64_t olhovest_cell;
+#define OLHOVEST_MISSING UINT64_MAX
+
+static inline int olhovest_missing(olhovest_cell c) { return c == OLHOVEST_MISSING; }
+static inline int olhovest_negative(olhovest_cell c) { return (int)(c & 1); }
+static inline int olhovest_power(olhovest_cell c) { return (int)(c / 2 % 256) - 40; }
+static inline uint64_t olhovest_digits(olhovest_cell c) { return c / 512; }
+
+/* Texts are followed by zeros; `length` says how many bytes are the text's. */
+struct olhovest_name { char bytes[40]; uint64_t length; };
+struct olhovest_text { char bytes[120]; uint64_t length; };
+
+/* Records of another table that belong to this one: the first one's place there, and how many. */
+struct olhovest_span { uint64_t start, count; };
+
+struct olhovest_triple { olhovest_cell typ, min, max; };
+
+/* A slope is the dividend over the divisor; both are missing together. */
+struct olhovest_slope { olhovest_cell dividend, divisor; };
+struct olhovest_slopes { struct olhovest_slope typ, min, max; };
+
+/* If `given` is 0 there is none, and the rest says nothing. */
+struct olhovest_range { uint64_t given; struct olhovest_triple cells; };
+struct olhovest_table { uint64_t given; struct olhovest_span rows; };
+struct olhovest_ramp { uint64_t given; struct olhovest_slopes rise, fall; olhovest_cell load; };
+
+/* A row of the row store: the first column is never missing. */
+struct olhovest_row { olhovest_cell number; struct olhovest_triple cells; };
+
+/* `section` is the place among all sections of the file, from 0. Locations: 0 Pin, 1 Die. */
+struct olhovest_component {
+    uint64_t section;
+    struct olhovest_name name;
+    uint64_t si_location, timing_location;
+    struct olhovest_name manufacturer;
+    struct olhovest_triple resistance, inductance, capacitance;
+    struct olhovest_span pins;
+};
+
+/* `model` is POWER, GND or NC in capitals, or the name of a model or selector. A missing cell means the package's. */
+struct olhovest_pin {
+    struct olhovest_name name, signal, model;
+    olhovest_cell resistance, inductance, capacitance;
+};
+
+struct olhovest_selector {
+    uint64_t section;
+    struct olhovest_name name;
+    struct olhovest_span choices;
+};
+
+struct olhovest_choice {
+    struct olhovest_name model;
+    struct olhovest_text description;
+};
+
+enum olhovest_type {
+    OLHOVEST_INPUT, OLHOVEST_OUTPUT, OLHOVEST_IO, OLHOVEST_3_STATE, OLHOVEST_OPEN_DRAIN, OLHOVEST_IO_OPEN_DRAIN,
+    OLHOVEST_OPEN_SINK, OLHOVEST_IO_OPEN_SINK, OLHOVEST_OPEN_SOURCE, OLHOVEST_IO_OPEN_SOURCE, OLHOVEST_INPUT_ECL,
+    OLHOVEST_OUTPUT_ECL, OLHOVEST_IO_ECL, OLHOVEST_3_STATE_ECL, OLHOVEST_TERMINATOR
+};
+
+/* Polarity: 0 not given, 1 Inverting, 2 Non-Inverting. Enable: 0 not given, 1 Active-High, 2 Active-Low. */
+struct olhovest_model {
+    uint64_t section;
+    struct olhovest_name name;
+    uint64_t type, polarity, enable;
+    struct olhovest_triple comp;
+    olhovest_cell vinl, vinh, vmeas, cref, rref, vref;
+    struct olhovest_triple voltage;
+    struct olhovest_range temperature;
+    struct olhovest_table pulldown, pullup, ground_clamp, power_clamp;
+    struct olhovest_ramp ramp;
+    struct olhovest_span waveforms;
+};
+
+/* Edge: 0 rising, 1 falling. */
+struct olhovest_waveform {
+    uint64_t edge;
+    olhovest_cell r_fixture, v_fixture, v_fixture_min, v_fixture_max, c_fixture, l_fixture, r_dut, l_dut, c_dut;
+    struct olhovest_span rows;
+};
+
+/* What is answered beside the fault: its line; how many records of each table are used; the header's texts. */
+struct olhovest_answer {
+    uint64_t line;
+    uint64_t components, pins, selectors, choices, models, waveforms, rows;
+    struct olhovest_text file_name, file_rev;
+};
+
+/* How many words `count` records of a type take. */
+#define OLHOVEST_WORDS(count, type) ((count) * (sizeof(type) / sizeof(uint64_t)))
+
+/*
+ * Whether a file of `length` bytes would be accepted, if tables of so many records (and rows) were lent. Answers the
+ * fault, and writes its line to `line`: 0 and 0 if the file is accepted. Writes nothing else.
+ */
+uint8_t olhovest_check(const uint8_t *bytes, size_t length, size_t components, size_t pins, size_t selectors,
+                       size_t choices, size_t models, size_t waveforms, size_t rows, uint64_t *line);
+
+/*
+ * Reads a file of `length` bytes into the lent tables. Behind each table stands how many words of eight bytes it has:
+ * OLHOVEST_WORDS(count, type) for `count` records; words behind the last whole record are left alone.
+ *
+ * Answers the fault, and writes all of `answer`. Accepted (0): the tables hold the file's records from the front,
+ * answer->components, .. say how many, and what lies behind those is as it was. Refused: answer->line is the line told,
+ * the counts are 0, the texts are empty, and every table is as it was.
+ *
+ * The bytes, the tables and the answer do not overlap. A table without words may be NULL.
+ */
+uint8_t olhovest_read(const uint8_t *bytes, size_t length,
+                      struct olhovest_component *components, size_t component_words,
+                      struct olhovest_pin *pins, size_t pin_words,
+                      struct olhovest_selector *selectors, size_t selector_words,
+                      struct olhovest_choice *choices, size_t choice_words,
+                      struct olhovest_model *models, size_t model_words,
+                      struct olhovest_waveform *waveforms, size_t waveform_words,
+                      struct olhovest_row *rows, size_t row_words,
+                      struct olhovest_answer *answer);
+
+#endif

@@ -1,0 +1,3 @@
+-- Laws of the words that are handed to C.
+pub mod Laws
+pub mod Tables
