@@ -1,3 +1,2 @@
--- Laws of the words that are handed to C.
-pub mod Laws
+-- Laws of the promise to C.
 pub mod Tables

@@ -1,4 +1,2 @@
--- How the answer and the tables lie in words, for C.
-pub mod Values
-pub mod Records
+-- What is promised to C.
 pub mod Exported

@@ -5,14 +5,14 @@ use denote.Ref.{now}
 use Rattle.rules.specs.Whole.{outcome}
 use Rattle.rules.specs.declared.Lengths.{Lengths}
 use Rattle.answers.specs.Answered.{verdictOf}
-use Rattle.exported.specs.Exported.{faultNumber, faultLine}
+use Rattle.packed.specs.Packed.{faultNumber, faultLine}
 use Rattle.exported.proofs.olhovest_check.Statement.{statement}
 use Rattle.exported.proofs.olhovest_check.Tie as tie
 use Rattle.exported.proofs.olhovest_check.Reads as reads
 use Rattle.exported.proofs.olhovest_check.Lts as lts
 use Rattle.answers.proofs.check.Reads as check-reads
-use Rattle.exported.proofs.fault_line.Reads as fault-line-reads
-use Rattle.exported.proofs.fault_number.Reads as fault-number-reads
+use Rattle.packed.proofs.fault_line.Reads as fault-line-reads
+use Rattle.packed.proofs.fault_number.Reads as fault-number-reads
 use Rattle.exported.proofs.lengths_of.Reads as lengths-of-reads
 
 lengths-of-requires : tie.Need-lengths-of-requires

@@ -5,17 +5,17 @@ use denote.Ref.{now}
 use mathlib.Core.Path.{subst}
 use Rattle.rules.specs.declared.Lengths.{Lengths}
 use Rattle.answers.specs.Sorted.{Outlines}
-use Rattle.exported.specs.Exported.{lent}
+use Rattle.packed.specs.Packed.{lent}
 use Rattle.exported.proofs.Tables.{fits, finishes}
 use Rattle.exported.proofs.olhovest_read.Statement.{statement}
 use Rattle.exported.proofs.olhovest_read.Tie as tie
 use Rattle.exported.proofs.olhovest_read.Reads as reads
 use Rattle.exported.proofs.olhovest_read.Lts as lts
 use Rattle.answers.proofs.outlined.Reads as outlined-reads
-use Rattle.exported.proofs.fault_number.Reads as fault-number-reads
-use Rattle.exported.proofs.fill_tables.Reads as fill-tables-reads
+use Rattle.packed.proofs.fault_number.Reads as fault-number-reads
+use Rattle.packed.proofs.fill_tables.Reads as fill-tables-reads
 use Rattle.exported.proofs.lengths_of.Reads as lengths-of-reads
-use Rattle.exported.proofs.put_answer.Reads as put-answer-reads
+use Rattle.packed.proofs.put_answer.Reads as put-answer-reads
 
 lengths-of-requires : tie.Need-lengths-of-requires
 lengths-of-requires c κs = search needs

@@ -1,0 +1,18 @@
+#!/usr/bin/env bash
+# The static library, by its header: every field against the second reader's on the bench's files and the shared cases, and the example.
+set -u
+cd "$(dirname "$0")/.." || exit 2
+. bench/build.sh
+cases=${CASES:-$PWD/../shared/cases}
+out=target/bench
+library || exit 2
+build "$out/agree" bench/agree.c second/reader.c && build "$out/example" bench/example.c || exit 2
+python3 bench/files.py "$out/files" || exit 2
+files=("$out"/files/*.ibs crates/listing/stdin)
+[ ! -d "$cases" ] || files+=("$cases"/*.ibs)
+if [ "$(launch "$out/example" <crates/listing/stdin)" != $'1 in1 8e-1\n2 GND' ]; then
+    echo "library: the example prints something else"
+    echo "library: 0 passed, 1 failed"
+    exit 1
+fi
+launch "$out/agree" "${files[@]}"

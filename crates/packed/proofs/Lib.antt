@@ -1,0 +1,2 @@
+-- Laws of words that are written one after the other.
+pub mod Laws
