@@ -37,7 +37,7 @@ def forms(signature):
             fixed.add("result")
         elif text.startswith("Put (now (out .entry)) (now (out .exit)) "):
             fixed |= {"result", "out"}
-        elif text.startswith(("Read ", "Loaded ")):
+        elif text.startswith(("Read ", "Loaded ", "Exports ", "lent ")):
             fixed |= {"result"} | set(re.findall(r"now \((\w+) \.exit\)", text))
         else:
             lent = re.match(r"now \((\w+) \.exit\) ≡ ", text)

@@ -1,2 +1,3 @@
 -- Laws of the promise to C.
 pub mod Tables
+pub mod Strength

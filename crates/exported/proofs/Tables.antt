@@ -5,7 +5,7 @@ use mathlib.Core.List.{List, [], _∷_, _++_, flatMap, append-nil}
 use native.Mathlib.Omega.{arith}
 use lib.ListN.{length}
 use Rattle.rules.specs.Reading.{fileIn}
-use Rattle.rules.specs.Laid.{stored, over}
+use Rattle.laid.specs.Laid.{stored, over}
 use Rattle.rules.specs.Whole.{Outcome, passed, refused, outcome, textsOf}
 use Rattle.rules.specs.declared.Lengths.{Lengths}
 use Rattle.laying.proofs.Lists.{flat-append}

@@ -4,7 +4,7 @@ use mathlib.Core.Path.{_≡_}
 use mathlib.Core.List.{List, flatMap}
 use lib.ListN.{length}
 use Rattle.rules.specs.Reading.{fileIn}
-use Rattle.rules.specs.Laid.{Laid, laid, stored, over}
+use Rattle.laid.specs.Laid.{Laid, laid, stored, over}
 use Rattle.rules.specs.Whole.{Outcome, passed, refused, outcome, textsOf}
 use Rattle.rules.specs.declared.Lengths.{Lengths}
 use Rattle.answers.specs.Answered.{answerOf}

@@ -7,7 +7,7 @@ use native.Mathlib.Nat.{mul-le-mul-left, mul-suc, mul-zero}
 use native.Mathlib.Numerals.{add-one}
 use lib.ListN.{length, take, drop, set, length-append, drop-of-length-le}
 use lib.Seq.{sets, sets-eq, take-at, drop-at, drop-drop}
-use Rattle.rules.specs.Laid.{over}
+use Rattle.laid.specs.Laid.{over}
 use Rattle.tables.proofs.Stores.{over-length}
 use Rattle.packed.specs.Packed.{wordsTo}
 

@@ -4,7 +4,7 @@ use mathlib.Core.List.{List, [], _∷_, _++_}
 use lib.ListN.{length}
 use Rattle.lines.specs.declared.Fault.{Fault}
 use Rattle.noted.specs.declared.Counts.{Counts}
-use Rattle.rules.specs.Laid.{stored, over}
+use Rattle.laid.specs.Laid.{stored, over}
 use Rattle.made.specs.Made.{componentAt, pinAt, selectorAt, choiceAt, modelAt, waveformAt, rowsAt}
 use Rattle.answers.specs.declared.Verdict.{Verdict}
 use Rattle.answers.specs.declared.Verdict.the-variants.{Accepted, Refused}

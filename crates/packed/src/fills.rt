@@ -3,7 +3,7 @@ ghost use mathlib.Core.Path.{_≡_};
 ghost use Prim.Native.Nat.{_+_, _*_, _≤_};
 ghost use lib.ListN.{length};
 ghost use lib.Seq.{sets};
-ghost use Rattle.rules.specs.Laid.{over};
+ghost use Rattle.laid.specs.Laid.{over};
 ghost use Rattle.made.specs.Made.{componentAt, pinAt, selectorAt, choiceAt, modelAt, waveformAt};
 ghost use Rattle.packed.specs.Records.{componentWords, pinWords, selectorWords, choiceWords, modelWords, waveformWords};
 ghost use Rattle.packed.specs.Packed.{wordsTo};

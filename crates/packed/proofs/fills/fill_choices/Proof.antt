@@ -5,7 +5,7 @@ use lib.ListN.{length}
 use native.Mathlib.Omega.{arith}
 use borrow.Author.Needs.{needs}
 use denote.Ref.{now}
-use Rattle.rules.specs.Laid.{over}
+use Rattle.laid.specs.Laid.{over}
 use Rattle.made.specs.Made.{choiceAt}
 use Rattle.packed.specs.Records.{choiceWords}
 use Rattle.packed.specs.Packed.{wordsTo}

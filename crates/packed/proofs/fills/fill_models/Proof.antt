@@ -4,7 +4,7 @@ use mathlib.Core.Path.{_≡_, refl, sym, ap, _∙_}
 use native.Mathlib.Omega.{arith}
 use borrow.Author.Needs.{needs}
 use denote.Ref.{now}
-use Rattle.rules.specs.Laid.{over}
+use Rattle.laid.specs.Laid.{over}
 use Rattle.made.specs.Made.{modelAt}
 use Rattle.packed.specs.Records.{modelWords}
 use Rattle.packed.specs.Packed.{wordsTo}
