@@ -1,4 +1,9 @@
-/* agree FILE..: every field that the static library and the second reader give of each file is the same, or the fault is. */
+/*
+ * agree FILE..: every field that the static library and the second reader give of each file is the same, or the fault is;
+ * and the library uses less than 64 KiB of stack.
+ */
+#define _GNU_SOURCE
+#include "stack.h"
 #include "tables.h"
 #include "../second/reader.h"
 
@@ -158,13 +163,35 @@ static bool records(void)
     return sections() && text(&a->file_name, file.file_name) && text(&a->file_rev, file.file_rev);
 }
 
+/* ---- one file */
+
+static uint64_t line;
+static uint8_t checked, filled;
+static size_t check_stack, fill_stack;
+
+static void check(void)
+{
+    checked = check_only(bytes, length, &line);
+}
+
+static void fill(void)
+{
+    filled = read_into(&tables, bytes, length);
+}
+
+static size_t larger(size_t a, size_t b)
+{
+    return a < b ? b : a;
+}
+
 static bool agree(void)
 {
-    uint64_t line;
     int fault = second_read(bytes, length, &lent, &file);
     memset(&tables, 0x5a, sizeof tables);
     before = tables;
-    if (read_into(&tables, bytes, length) != fault || check_only(bytes, length, &line) != fault || line != tables.answer.line)
+    check_stack = larger(check_stack, stack_of(check));
+    fill_stack = larger(fill_stack, stack_of(fill));
+    if (filled != fault || checked != fault || line != tables.answer.line)
         return false;
     if (fault == NO_FAULT)
         return line == 0 && records();
@@ -188,6 +215,9 @@ int main(int count, char **paths)
             printf("library: the readers differ on %s\n", paths[i]);
         }
     }
-    printf("library: %d passed, %d failed\n", count - 1 - failed, failed);
+    printf("stack at the most: check %zu bytes, read %zu\n", check_stack, fill_stack);
+    if (larger(check_stack, fill_stack) >= 65536)
+        failed++;
+    printf("library: %d passed, %d failed\n", count - failed, failed);
     return failed != 0;
 }

@@ -1,6 +1,6 @@
 /*
  * The bench: the proved reader and the second one on the files named, in one run, turn and turn about. Each time is the
- * best of ROUNDS, each over as many calls as take about a millisecond. Then the stack that the proved reader used.
+ * best of ROUNDS, each over as many calls as take about a millisecond.
  */
 #define _GNU_SOURCE
 #include "tables.h"
@@ -10,9 +10,8 @@
 #include <stdlib.h>
 #include <string.h>
 #include <time.h>
-#include <ucontext.h>
 
-enum { ROUNDS = 40, ROUND_NANOSECONDS = 1000000, STACK = 1 << 20, PAINT = 0xa5 };
+enum { ROUNDS = 40, ROUND_NANOSECONDS = 1000000 };
 
 static uint8_t bytes[MAX_BYTES + 1];
 static size_t length;
@@ -87,38 +86,6 @@ static void measure(double best[MEASURED])
         }
 }
 
-/* ---- stack: painted, and looked at afterwards */
-
-static ucontext_t back, there;
-static uint64_t (*called)(void);
-
-static void call(void)
-{
-    called();
-}
-
-static uint64_t nothing(void)
-{
-    return 0;
-}
-
-static size_t stack_of(uint64_t (*function)(void))
-{
-    static uint8_t stack[STACK];
-    memset(stack, PAINT, sizeof stack);
-    getcontext(&there);
-    there.uc_stack.ss_sp = stack;
-    there.uc_stack.ss_size = sizeof stack;
-    there.uc_link = &back;
-    called = function;
-    makecontext(&there, call, 0);
-    swapcontext(&back, &there);
-    size_t free = 0;
-    while (free < sizeof stack && stack[free] == PAINT)
-        free++;
-    return sizeof stack - free;
-}
-
 /* ---- one file */
 
 static void load(const char *path)
@@ -148,7 +115,6 @@ static void agree(const char *path)
 
 int main(int count, char **paths)
 {
-    size_t deepest[MEASURED] = { 0 };
     puts("                        nanoseconds a byte              ratio to second");
     puts("file            bytes   pass  check   fill  second     check   fill");
     for (int i = 1; i < count; i++) {
@@ -156,16 +122,10 @@ int main(int count, char **paths)
         agree(paths[i]);
         double best[MEASURED];
         measure(best);
-        for (int k = 0; k < MEASURED; k++) {
-            size_t depth = stack_of(measured[k]) - stack_of(nothing);
-            if (depth > deepest[k])
-                deepest[k] = depth;
-        }
         const char *slash = strrchr(paths[i], '/');
         printf("%-14s %6zu  %5.2f  %5.2f  %5.2f   %5.2f     %5.2f  %5.2f\n", slash ? slash + 1 : paths[i], length,
                best[PASS] / (double)length, best[CHECK] / (double)length, best[FILL] / (double)length,
                best[SECOND] / (double)length, best[CHECK] / best[SECOND], best[FILL] / best[SECOND]);
     }
-    printf("stack at the most: check %zu bytes, read %zu, the second reader %zu\n", deepest[CHECK], deepest[FILL], deepest[SECOND]);
     return 0;
 }

@@ -1,4 +1,4 @@
-/* Tables at the bounds of a file, lent to the proved reader, and to the second one. */
+/* Tables at the bounds of a file, and the calls that lend them. */
 #ifndef BENCH_TABLES_H
 #define BENCH_TABLES_H
 
