@@ -1,13 +1,14 @@
 -- Laws of `specs/Refusals.antt`: a line further on, lines run out, the text of a line, and a byte of a text made visible.
 use Prim.Native.Nat.{ℕ, zero, suc, _+_, _-_, _≤_, _<_}
-use mathlib.Core.Path.{_≡_, refl, sym, ap, _∙_}
+use mathlib.Core.Path.{_≡_, refl, sym, ap, _∙_, subst}
 use mathlib.Core.List.{List, [], _∷_, _++_, map}
 use native.Mathlib.Omega.{arith}
 use lib.ListN.{length, take, drop, getD, length-map, drop-of-length-le}
 use lib.Seq.{drop-drop, drop-nil}
 use Rattle.lines.specs.Lines.{Physical, linesOf}
-use Rattle.lines.specs.Places.{RawAt}
+use Rattle.lines.specs.Places.{lineAt, RawAt}
 use Rattle.lines.specs.declared.Line.{Line}
+use Rattle.lines.proofs.Handed.{raw-at}
 use Rattle.laws.specs.Bytes.{bytes}
 use Rattle.laws.specs.Lists.{part}
 use Rattle.explained.specs.Refusals.{visibleText, firstText, sourceText}
@@ -16,9 +17,12 @@ use Rattle.shown.proofs.Laws.{put-next, put-as}
 
 -- ---- lines
 
--- the lines behind the first of those behind i
-pub lines-on : (l : Physical) (ls all : List Physical) (i : ℕ) → l ∷ ls ≡ drop i all → ls ≡ drop (i + 1) all
-lines-on l ls all i e = ap (drop 1) e ∙ drop-drop 1 i all
+-- the lines behind the line at a place
+pub lines-on : (s : List ℕ) (at i : ℕ) (l : Line) → at < length s → l ≡ lineAt s at → linesOf (drop at s) ≡ drop i (linesOf s)
+    → (l .next ≤ length s) × (linesOf (drop (l .next) s) ≡ drop (i + 1) (linesOf s))
+lines-on s at i l h e k =
+    let raw = subst (RawAt s at) (sym e) (raw-at s at h) in
+    (raw .within, ap (drop 1) (sym (raw .more) ∙ k) ∙ drop-drop 1 i (linesOf s))
 
 -- at the end of the file no line is left, and so behind no greater number either
 pub lines-out : (s : List ℕ) (at i n : ℕ) → length s ≤ at → i ≤ n → linesOf (drop at s) ≡ drop i (linesOf s) → linesOf (drop at s) ≡ drop n (linesOf s)
@@ -34,8 +38,14 @@ pub first-none : (s : List ℕ) (at : ℕ) → length s ≤ at → [] ≡ firstT
 unfolding linesOf
 first-none s at h = sym (ap (λ (l : List ℕ). firstText (linesOf l)) (drop-of-length-le s h))
 
-pub first-is : (s : List ℕ) (at : ℕ) (r : Line) → RawAt s at r → bytes "> " ++ visibleText (part at (r .end) s) ++ bytes "\n" ≡ firstText (linesOf (drop at s))
-first-is s at r raw = ap (λ (l : List ℕ). bytes "> " ++ visibleText l ++ bytes "\n") (raw .text) ∙ sym (ap firstText (raw .more))
+-- the line at a place lies within the file
+pub line-within : (s : List ℕ) (at : ℕ) (l : Line) → at < length s → l ≡ lineAt s at → (at ≤ l .end) × (l .end ≤ length s)
+line-within s at l h e = let raw = subst (RawAt s at) (sym e) (raw-at s at h) in (raw .starts, raw .ends)
+
+pub first-is : (s : List ℕ) (at : ℕ) (l : Line) → at < length s → l ≡ lineAt s at → bytes "> " ++ visibleText (part at (l .end) s) ++ bytes "\n" ≡ firstText (linesOf (drop at s))
+first-is s at l h e =
+    let raw = subst (RawAt s at) (sym e) (raw-at s at h) in
+    ap (λ (t : List ℕ). bytes "> " ++ visibleText t ++ bytes "\n") (raw .text) ∙ sym (ap firstText (raw .more))
 
 pub source-none : (s : List ℕ) (n : ℕ) → n ≡ 0 → [] ≡ sourceText s n
 source-none s n e = sym (ap (sourceText s) e)

@@ -81,7 +81,7 @@ fn skip_lines(src: &[u8], before: u64) -> usize
         if src.len() <= at {
             return at;
         }
-        let line = lines::raw_line(src, at);
+        let line = lines::line_at(src, at);
         at = line.next;
         i += 1;
     }
@@ -96,7 +96,7 @@ fn put_first_line(out: &mut [u8], at: usize, src: &[u8], start: usize) -> usize
     if src.len() <= start {
         return put_bytes(out, at, b"");
     }
-    let line = lines::raw_line(src, start);
+    let line = lines::line_at(src, start);
     let end = line.end;
     let mark = put_bytes(out, at, b"> ");
     let text = put_cut(out, mark, &src[start..end]);

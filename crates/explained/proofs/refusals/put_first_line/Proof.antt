@@ -1,8 +1,9 @@
 -- By whether there is a line.
 use borrow.Author.Needs.{needs}
+use native.Mathlib.Omega.{arith}
 use denote.Ref.{now}
 use Rattle.shown.proofs.Laws.{put-then, put-as, put-kept}
-use Rattle.explained.proofs.Laws.{first-none, first-is}
+use Rattle.explained.proofs.Laws.{line-within, first-none, first-is}
 use Rattle.explained.proofs.refusals.put_first_line.Statement.{statement}
 use Rattle.explained.proofs.refusals.put_first_line.Tie as tie
 
@@ -15,8 +16,8 @@ put-bytes-requires c κs = search needs
 returns : tie.Need-returns
 returns c = put-as (first-none (now (c .before .before .before .before .before .before .before .before .args .src)) (c .before .before .before .before .before .before .before .before .args .start) (c .before .before .before .before .before .if1 .taken)) (c .before .before .put-bytes .ensures)
 
-raw-line-requires : tie.Need-raw-line-requires
-raw-line-requires c κs = search needs
+line-at-requires : tie.Need-line-at-requires
+line-at-requires c κs = search needs
 
 slice-aggregate-put-bytes-2 : tie.Need-slice-aggregate-put-bytes-2
 slice-aggregate-put-bytes-2 c = search needs
@@ -25,13 +26,13 @@ put-bytes-requires-2 : tie.Need-put-bytes-requires-2
 put-bytes-requires-2 c κs = search needs
 
 sub-put-cut : tie.Need-sub-put-cut
-sub-put-cut c = search needs
+sub-put-cut c = line-within (now (c .before .before .before .before .before .before .before .before .before .before .args .src)) (c .before .before .before .before .before .before .before .before .before .before .args .start) (c .before .before .before .before .before .before .line-at .result) (omega (arith, c .before .before .before .before .before .before .before .if1 .left)) (c .before .before .before .before .before .before .line-at .ensures) .0
 
 part-put-cut-start : tie.Need-part-put-cut-start
-part-put-cut-start c = search needs
+part-put-cut-start c = line-within (now (c .before .before .before .before .before .before .before .before .before .before .args .src)) (c .before .before .before .before .before .before .before .before .before .before .args .start) (c .before .before .before .before .before .before .line-at .result) (omega (arith, c .before .before .before .before .before .before .before .if1 .left)) (c .before .before .before .before .before .before .line-at .ensures) .0
 
 part-put-cut-end : tie.Need-part-put-cut-end
-part-put-cut-end c = search needs
+part-put-cut-end c = line-within (now (c .before .before .before .before .before .before .before .before .before .before .args .src)) (c .before .before .before .before .before .before .before .before .before .before .args .start) (c .before .before .before .before .before .before .line-at .result) (omega (arith, c .before .before .before .before .before .before .before .if1 .left)) (c .before .before .before .before .before .before .line-at .ensures) .1
 
 put-cut-requires : tie.Need-put-cut-requires
 put-cut-requires c κs = search needs
@@ -40,7 +41,7 @@ put-byte-requires : tie.Need-put-byte-requires
 put-byte-requires c κs = search needs
 
 returns-2 : tie.Need-returns-2
-returns-2 c = put-as (first-is (now (c .before .before .before .before .before .before .before .before .before .before .before .before .before .before .before .before .before .before .args .src)) (c .before .before .before .before .before .before .before .before .before .before .before .before .before .before .before .before .before .before .args .start) (c .before .before .before .before .before .before .before .before .before .before .before .before .before .before .raw-line .result) (c .before .before .before .before .before .before .before .before .before .before .before .before .before .before .raw-line .ensures)) (put-then (put-then (c .before .before .before .before .before .before .before .before .before .before .before .put-bytes2 .ensures) (c .before .before .before .before .before .before .put-cut .ensures)) (c .before .before .put-byte .ensures))
+returns-2 c = put-as (first-is (now (c .before .before .before .before .before .before .before .before .before .before .before .before .before .before .before .before .before .before .args .src)) (c .before .before .before .before .before .before .before .before .before .before .before .before .before .before .before .before .before .before .args .start) (c .before .before .before .before .before .before .before .before .before .before .before .before .before .before .line-at .result) (omega (arith, c .before .before .before .before .before .before .before .before .before .before .before .before .before .before .before .if1 .left)) (c .before .before .before .before .before .before .before .before .before .before .before .before .before .before .line-at .ensures)) (put-then (put-then (c .before .before .before .before .before .before .before .before .before .before .before .put-bytes2 .ensures) (c .before .before .before .before .before .before .put-cut .ensures)) (c .before .before .put-byte .ensures))
 
 same-length : tie.Need-same-length
 same-length c = put-kept (returns c)
@@ -56,7 +57,7 @@ put-first-line-spec =
     put-bytes-requires
     same-length
     returns
-    raw-line-requires
+    line-at-requires
     slice-aggregate-put-bytes-2
     put-bytes-requires-2
     sub-put-cut

@@ -1,6 +1,6 @@
 -- The lines from here are those behind as many as were passed.
 use Prim.Native.Nat.{_-_, _≤_}
-use mathlib.Core.Path.{_≡_, refl, sym, _∙_}
+use mathlib.Core.Path.{_≡_, refl}
 use lib.ListN.{length, drop}
 use native.Mathlib.Omega.{arith}
 use borrow.Author.Needs.{needs}
@@ -24,8 +24,8 @@ returns c =
     let l = c .before .before .loop in
     (lines-out (now (c .before .before .before .before .args .src)) (l .at) (l .i) (c .before .before .before .before .args .before) (c .if1 .taken) (l .inv .1) (l .inv .2), l .inv .0)
 
-raw-line-requires : tie.Need-raw-line-requires Inv-loop μ-loop
-raw-line-requires c κs = search needs
+line-at-requires : tie.Need-line-at-requires Inv-loop μ-loop
+line-at-requires c κs = search needs
 
 add-i : tie.Need-add-i Inv-loop μ-loop
 add-i c = search needs
@@ -36,8 +36,8 @@ loop-less c = search needs
 loop-again : tie.Need-loop-again Inv-loop μ-loop
 loop-again c =
     let l = c .before .before .before .loop in
-    let r = c .raw-line .ensures in
-    (r .within, omega (arith, c .before .before .loop-test .taken), lines-on (r .line) (linesOf (drop (c .raw-line .result .next) (now (c .before .before .before .before .before .args .src)))) (linesOf (now (c .before .before .before .before .before .args .src))) (l .i) (sym (r .more) ∙ l .inv .2))
+    let on = lines-on (now (c .before .before .before .before .before .args .src)) (l .at) (l .i) (c .line-at .result) (omega (arith, c .before .if1 .left)) (c .line-at .ensures) (l .inv .2) in
+    (on .0, omega (arith, c .before .before .loop-test .taken), on .1)
 
 returns-2 : tie.Need-returns-2 Inv-loop μ-loop
 returns-2 c =
@@ -53,7 +53,7 @@ skip-lines-spec =
     μ-loop
     loop-holds
     returns
-    raw-line-requires
+    line-at-requires
     add-i
     loop-less
     loop-again
