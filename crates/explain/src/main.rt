@@ -1,4 +1,4 @@
-// Standard input is read as a file, with what the other programs lend, and told to a person: a summary, or the fault and its line.
+// Standard input is read as a file and told to a person: a summary, or the fault and its line. All rows that a file can have are lent.
 // The first argument is the file's name.
 mod summary; // summary.rt: the summary of a shelf
 
@@ -12,7 +12,7 @@ fn print_refusal(name: &[u8], src: &[u8], fault: Fault) {
 }
 
 fn print_file(name: &[u8], src: &[u8]) {
-    match answers::check(src, printed::files::lent_lengths()) {
+    match answers::check(src, printed::files::lent_lengths(8192)) {
         Verdict::Accepted => summary::print_summary(name, shelf::loaded(src)),
         Verdict::Refused(f) => print_refusal(name, src, f),
     }

@@ -4,9 +4,9 @@ use mathlib.Core.List.{List}
 use lib.ListN.{replicate}
 use Rattle.rules.specs.declared.Lengths.{Lengths}
 
--- document 01's bounds, and "lends 1,000 rows"
-abbrev pub lentLengths : Lengths
-lentLengths = record { components = 8; pins = 512; selectors = 32; choices = 256; models = 64; waveforms = 1024; rows = 1000 }
+-- document 01's bounds, and so many rows
+abbrev pub lentLengths : ℕ → Lengths
+lentLengths rows = record { components = 8; pins = 512; selectors = 32; choices = 256; models = 64; waveforms = 1024; rows = rows }
 
 -- "at most 65,536 bytes", and one more: a longer file is too long anyhow
 unfoldable pub fileBuffer : List ℕ

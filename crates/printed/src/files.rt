@@ -22,9 +22,9 @@ pub fn file_buffer() -> [u8; 65537]
     [0; 65537]
 }
 
-// What the programs lend: tables at document 01's bounds, and 1,000 rows.
-pub fn lent_lengths() -> Lengths
-    ensures { λ r. ⌜ r ≡ lentLengths ⌝ }
+// What the programs lend: tables at document 01's bounds, and so many rows.
+pub fn lent_lengths(rows: usize) -> Lengths
+    ensures { λ r. ⌜ r ≡ lentLengths rows ⌝ }
 {
     Lengths {
         components: 8,
@@ -33,7 +33,7 @@ pub fn lent_lengths() -> Lengths
         choices: 256,
         models: 64,
         waveforms: 1024,
-        rows: 1000,
+        rows: rows,
     }
 }
 
@@ -57,9 +57,9 @@ pub fn print_file(src: &[u8], l: Lengths, form: Form) {
     }
 }
 
-// Standard input as a file.
+// Standard input as a file, with the 1,000 rows of document 01's listing.
 pub fn print_input(form: Form) {
     let mut src = file_buffer();
     let n = io::read_full(0, &mut src);
-    print_file(&src[..n], lent_lengths(), form);
+    print_file(&src[..n], lent_lengths(1000), form);
 }
