@@ -23,7 +23,7 @@ use Rattle.noted.specs.Noted.{clash}
 use Rattle.store.specs.Store.{noteAt, notesTo, byKindFrom, storeLength}
 use Rattle.lookup.specs.declared.Last.{Last}
 use Rattle.lookup.specs.declared.Last.the-variants.{Fine, Missing, Unlisted}
-use Rattle.lookup.specs.Lookup.{placeAt, lineAt, entryAt, entriesTo, entriesFrom, Outside, modelOrSelector, enclosed, reaches, reachesAt, targetFrom, missingLine, isMarked, clearedTo, Clear, withMark, marked, Marks, Marked, unmarkedLine, unmarkedFrom, Concludes}
+use Rattle.lookup.specs.Lookup.{placeAt, lineAt, entryAt, entriesTo, entriesFrom, Outside, modelOrSelector, enclosed, reaches, reachesAt, targetTo, missingLine, isMarked, clearedTo, Clear, withMark, marked, Marks, Marked, unmarkedLine, unmarkedFrom, Concludes}
 use Rattle.lookup.proofs.NoteLaws.{note-kind, note-line}
 use Rattle.lookup.proofs.OutsideLaws.{outside-refl, outside-set, outside-place, line-outside, outside-then, entries-outside}
 use Rattle.lookup.proofs.TargetLaws.{hits-at, target-found, target-missed, found-line, one-target, target-outside, missing-outside}
@@ -181,10 +181,10 @@ marked-none f OfChoice = refl
 marked-none f OfModel = refl
 
 module _ (s xs : List ℕ) (n : ℕ) (unique : clash (entriesTo s xs n) ≡ none) (small : n ≤ 872) where
-  mark-each : (i : ℕ) (ys : List ℕ) (t : Found) → storeLength ≤ length ys → targetFrom s xs i 0 n ≡ t
+  mark-each : (i : ℕ) (ys : List ℕ) (t : Found) → storeLength ≤ length ys → targetTo s xs i n ≡ t
       → (j : ℕ) → j < n → isMarked (withMark ys t) j ≡ (reachesAt s xs i j || isMarked ys j)
   mark-each i ys (At k) long e j h =
-      let r = target-found s xs i 0 n k e in
+      let r = target-found s xs i n k e in
       by-test (eqb j k)
       (λ q.
       let z : j ≡ k = eqb-true j k q in
@@ -194,16 +194,16 @@ module _ (s xs : List ℕ) (n : ℕ) (unique : clash (entriesTo s xs n) ≡ none
       let z : j ≡ k → ⊥ = eqb-false j k q in
       let g : getD (set ys (byKindFrom + k) 1) (byKindFrom + j) 0 ≡ getD ys (byKindFrom + j) 0 = getD-set-other ys (byKindFrom + k) (byKindFrom + j) 1 0 (λ y. z (omega (arith, y))) in
       rw g rw (one-target s xs n unique i j k h (omega (arith, r .0)) z (r .1)) refl)
-  mark-each i ys Nothing long e j h = rw (target-missed s xs i 0 n j e (omega arith) (omega (arith, h))) refl
+  mark-each i ys Nothing long e j h = rw (target-missed s xs i n j e h) refl
 
-  mark-turn : (i : ℕ) (es : List Entry) (ys : List ℕ) → storeLength ≤ length ys → Marks s xs es n ys → Marks s xs (entryAt s xs i ∷ es) n (withMark ys (targetFrom s xs i 0 n))
+  mark-turn : (i : ℕ) (es : List Entry) (ys : List ℕ) → storeLength ≤ length ys → Marks s xs es n ys → Marks s xs (entryAt s xs i ∷ es) n (withMark ys (targetTo s xs i n))
   mark-turn i es ys long m j h =
-      mark-each i ys (targetFrom s xs i 0 n) long refl j h
+      mark-each i ys (targetTo s xs i n) long refl j h
       ∙ rw (m j h) rw (← (hits-at s xs i j)) (sym (marked-more (entryAt s xs i) es (entryAt s xs j) (noteAt s xs j .kind)))
 
-  mark-outside : (i : ℕ) (ys : List ℕ) (t : Found) → targetFrom s xs i 0 n ≡ t → Outside xs ys → Outside xs (withMark ys t)
+  mark-outside : (i : ℕ) (ys : List ℕ) (t : Found) → targetTo s xs i n ≡ t → Outside xs ys → Outside xs (withMark ys t)
   mark-outside i ys (At k) e o =
-      let r = target-found s xs i 0 n k e in
+      let r = target-found s xs i n k e in
       outside-set xs ys (byKindFrom + k) 1 o (omega arith) (omega (arith, r .0, small))
   mark-outside i ys Nothing e o = o
 
@@ -224,20 +224,20 @@ marking-none s xs n h =
     }
 
 pub marking-turn : (s xs : List ℕ) (n i first : ℕ) (ys : List ℕ) → n ≤ 872 → storeLength ≤ length xs → clash (entriesTo s xs n) ≡ none → Marking s xs n i first ys
-    → 0 < i → i ≤ n → (r : ℕ) (zs : List ℕ) → r ≡ missingLine s ys (i - 1) first (targetFrom s ys (i - 1) 0 n) → zs ≡ withMark ys (targetFrom s ys (i - 1) 0 n)
+    → 0 < i → i ≤ n → (r : ℕ) (zs : List ℕ) → r ≡ missingLine s ys (i - 1) first (targetTo s ys (i - 1) n) → zs ≡ withMark ys (targetTo s ys (i - 1) n)
     → Marking s xs n (i - 1) r zs
 unfolding firstFailing
 marking-turn s xs n i first ys small long unique m h g r zs e f =
     let k = i - 1 in
     let b : k ≤ 872 = omega (arith, g, small) in
-    let t : targetFrom s ys k 0 n ≡ targetFrom s xs k 0 n = target-outside s xs ys (m .outside) k 0 n b (omega (arith, small)) in
-    let z : zs ≡ withMark ys (targetFrom s xs k 0 n) = f ∙ ap (withMark ys) t in
+    let t : targetTo s ys k n ≡ targetTo s xs k n = target-outside s xs ys (m .outside) k n b small in
+    let z : zs ≡ withMark ys (targetTo s xs k n) = f ∙ ap (withMark ys) t in
     record {
       told =
-          e ∙ ap (missingLine s ys k first) t ∙ missing-outside s xs ys (m .outside) k first (targetFrom s xs k 0 n) b ∙ sym (found-line s xs k n first)
+          e ∙ ap (missingLine s ys k first) t ∙ missing-outside s xs ys (m .outside) k first (targetTo s xs k n) b ∙ sym (found-line s xs k n first)
           ∙ ap (λ (l : ℕ). cond (found (entriesFrom s xs 0 n) (entryAt s xs k)) l (noteAt s xs k .line)) (m .told)
           ∙ ap (firstFailing (found (entriesFrom s xs 0 n))) (sym (from-turn s xs i n h g));
-      outside = rw z (mark-outside s xs n unique small k ys (targetFrom s xs k 0 n) refl (m .outside));
+      outside = rw z (mark-outside s xs n unique small k ys (targetTo s xs k n) refl (m .outside));
       marks = rw z rw (from-turn s xs i n h g) (mark-turn s xs n unique small k (entriesFrom s xs i (n - i)) ys (omega (arith, m .outside .long, long)) (m .marks));
     }
 

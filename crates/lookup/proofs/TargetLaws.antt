@@ -21,7 +21,7 @@ use Rattle.rules.specs.declared.Kind.the-variants.{OfComponent, OfPin, OfSelect
 use Rattle.noted.specs.Noted.{orUsed, clash}
 use Rattle.store.specs.Store.{noteAt, noteFrom, notingAt, notesTo, kindOf}
 use Rattle.store.specs.declared.Noting.{Noting}
-use Rattle.lookup.specs.Lookup.{placeAt, lineAt, nameAt, modelAt, entryAt, entriesTo, entriesFrom, Outside, modelOrSelector, enclosed, reaches, reachesAt, targetFrom, excused, missingLine, withMark, marked}
+use Rattle.lookup.specs.Lookup.{placeAt, lineAt, nameAt, modelAt, entryAt, entriesTo, entriesFrom, Outside, modelOrSelector, enclosed, reaches, reachesAt, targetTo, excused, missingLine, withMark, marked}
 use Rattle.lookup.proofs.NoteLaws.{note-kind, note-name, note-line}
 use Rattle.lookup.proofs.ClashLaws.{either-is, usedAt}
 use Rattle.lookup.proofs.OutsideLaws.{outside-place, line-outside, name-outside, model-outside}
@@ -71,77 +71,95 @@ isAt (At j) = true
 isAt Nothing = false
 
 module _ (s xs : List ℕ) (i : ℕ) where
-  pub target-here : (j n : ℕ) → j < n → reachesAt s xs i j ≡ true → At j ≡ targetFrom s xs i j (n - j)
-  unfolding targetFrom
-  target-here j n h t =
-      let e : n - j ≡ suc (n - (j + 1)) = omega (arith, h) in
-      rw e (sym (cond-yes (At j) (targetFrom s xs i (j + 1) (n - (j + 1))) t))
+  target-here : (j : ℕ) → reachesAt s xs i j ≡ true → At j ≡ targetTo s xs i (suc j)
+  unfolding targetTo
+  target-here j t = sym (cond-yes (At j) (targetTo s xs i j) t)
 
-  pub target-later : (j n : ℕ) → j < n → reachesAt s xs i j ≡ false → targetFrom s xs i (j + 1) (n - (j + 1)) ≡ targetFrom s xs i j (n - j)
-  unfolding targetFrom
-  target-later j n h t =
-      let e : n - j ≡ suc (n - (j + 1)) = omega (arith, h) in
-      rw e (sym (cond-no (At j) (targetFrom s xs i (j + 1) (n - (j + 1))) t))
+  target-sooner : (j : ℕ) → reachesAt s xs i j ≡ false → targetTo s xs i j ≡ targetTo s xs i (suc j)
+  unfolding targetTo
+  target-sooner j t = sym (cond-no (At j) (targetTo s xs i j) t)
 
-  pub target-end : (j n : ℕ) → n ≤ j → Nothing ≡ targetFrom s xs i j (n - j)
-  unfolding targetFrom
-  target-end j n h =
-      let e : n - j ≡ 0 = omega (arith, h) in
+  pub turn-here : (j : ℕ) → 0 < j → reachesAt s xs i (j - 1) ≡ true → At (j - 1) ≡ targetTo s xs i j
+  turn-here j h t =
+      let e : suc (j - 1) ≡ j = omega (arith, h) in
+      target-here (j - 1) t ∙ ap (targetTo s xs i) e
+
+  pub turn-sooner : (j : ℕ) → 0 < j → reachesAt s xs i (j - 1) ≡ false → targetTo s xs i (j - 1) ≡ targetTo s xs i j
+  turn-sooner j h t =
+      let e : suc (j - 1) ≡ j = omega (arith, h) in
+      target-sooner (j - 1) t ∙ ap (targetTo s xs i) e
+
+  pub target-none : (j : ℕ) → j ≤ 0 → Nothing ≡ targetTo s xs i j
+  unfolding targetTo
+  target-none j h =
+      let e : j ≡ 0 = omega (arith, h) in
       rw e refl
 
-  pub target-start : (n : ℕ) → targetFrom s xs i 0 (n - 0) ≡ targetFrom s xs i 0 n
-  target-start n =
-      let e : n - 0 ≡ n = omega arith in
-      rw e refl
-
-  pub target-found : (a m j : ℕ) → targetFrom s xs i a m ≡ At j → (j < a + m) × (reachesAt s xs i j ≡ true)
-  unfolding targetFrom
-  target-found a zero j h = impossible (cc)
-  target-found a (suc m) j h =
-      by-test (reachesAt s xs i a)
+  pub target-found : (n j : ℕ) → targetTo s xs i n ≡ At j → (j < n) × (reachesAt s xs i j ≡ true)
+  unfolding targetTo
+  target-found zero j h = impossible (cc)
+  target-found (suc n) j h =
+      by-test (reachesAt s xs i n)
       (λ t.
-      let e : At a ≡ At j = sym (cond-yes (At a) (targetFrom s xs i (a + 1) m) t) ∙ h in
-      let z : a ≡ j = cc in
+      let e : At n ≡ At j = target-here n t ∙ h in
+      let z : n ≡ j = cc in
       (omega (arith, z), subst (λ (k : ℕ). reachesAt s xs i k ≡ true) z t))
       (λ t.
-      let e : targetFrom s xs i (a + 1) m ≡ At j = sym (cond-no (At a) (targetFrom s xs i (a + 1) m) t) ∙ h in
-      let r = target-found (a + 1) m j e in
+      let r = target-found n j (target-sooner n t ∙ h) in
       (omega (arith, r .0), r .1))
 
-  pub target-missed : (a m j : ℕ) → targetFrom s xs i a m ≡ Nothing → a ≤ j → j < a + m → reachesAt s xs i j ≡ false
-  unfolding targetFrom
-  target-missed a zero j h g f = absurd (omega (arith, g, f))
-  target-missed a (suc m) j h g f =
-      by-test (reachesAt s xs i a)
-      (λ t. let e : At a ≡ Nothing = sym (cond-yes (At a) (targetFrom s xs i (a + 1) m) t) ∙ h in impossible (cc))
+  pub target-missed : (n j : ℕ) → targetTo s xs i n ≡ Nothing → j < n → reachesAt s xs i j ≡ false
+  unfolding targetTo
+  target-missed zero j h g = absurd (omega (arith, g))
+  target-missed (suc n) j h g =
+      by-test (reachesAt s xs i n)
+      (λ t. let e : At n ≡ Nothing = target-here n t ∙ h in impossible (cc))
       (λ t.
-      let e : targetFrom s xs i (a + 1) m ≡ Nothing = sym (cond-no (At a) (targetFrom s xs i (a + 1) m) t) ∙ h in
-      by-order (a + 1) j
-      (λ b. target-missed (a + 1) m j e b (omega (arith, f)))
+      by-order (suc j) n
+      (λ b. target-missed n j (target-sooner n t ∙ h) b)
       (λ b.
-      let z : a ≡ j = omega (arith, b, g) in
+      let z : n ≡ j = omega (arith, b, g) in
       subst (λ (k : ℕ). reachesAt s xs i k ≡ false) z t))
 
   -- a section names nothing
-  pub target-never : enclosed (placeAt xs i) ≡ false → (a m : ℕ) → targetFrom s xs i a m ≡ Nothing
-  unfolding targetFrom reachesAt
-  target-never h a zero = refl
-  target-never h a (suc m) =
-      cond-no (At a) (targetFrom s xs i (a + 1) m) (and-left (reaches (placeAt xs i) (placeAt xs a)) (eqs (modelAt s xs i) (nameAt s xs a)) (reaches-never (placeAt xs i) (placeAt xs a) h))
-      ∙ target-never h (a + 1) m
+  pub target-never : enclosed (placeAt xs i) ≡ false → (n : ℕ) → targetTo s xs i n ≡ Nothing
+  unfolding targetTo reachesAt
+  target-never h zero = refl
+  target-never h (suc n) =
+      cond-no (At n) (targetTo s xs i n) (and-left (reaches (placeAt xs i) (placeAt xs n)) (eqs (modelAt s xs i) (nameAt s xs n)) (reaches-never (placeAt xs i) (placeAt xs n) h))
+      ∙ target-never h n
 
-  pub target-within : (n j : ℕ) (t : Found) → t ≡ targetFrom s xs i 0 n → t ≡ At j → j < n
-  target-within n j t e f = omega (arith, target-found 0 n j (sym e ∙ f) .0)
+  pub target-within : (n j : ℕ) (t : Found) → t ≡ targetTo s xs i n → t ≡ At j → j < n
+  target-within n j t e f = target-found n j (sym e ∙ f) .0
 
-  named-target : (q : Entry → Bool) → ((j : ℕ) → (q (entryAt s xs j) && eqs (noteAt s xs i .names) (noteAt s xs j .name)) ≡ reachesAt s xs i j)
-      → (a m : ℕ) → named q (noteAt s xs i .names) (entriesFrom s xs a m) ≡ isAt (targetFrom s xs i a m)
-  unfolding named entriesFrom targetFrom
-  named-target q h a zero = refl
-  named-target q h a (suc m) =
-      rw (h a)
-      (by-test (reachesAt s xs i a)
-      (λ t. rw t refl)
-      (λ t. rw t (named-target q h (a + 1) m)))
+  module _ (q : Entry → Bool) (h : (j : ℕ) → (q (entryAt s xs j) && eqs (noteAt s xs i .names) (noteAt s xs j .name)) ≡ reachesAt s xs i j) where
+    named-some : (a m j : ℕ) → a ≤ j → j < a + m → reachesAt s xs i j ≡ true → named q (noteAt s xs i .names) (entriesFrom s xs a m) ≡ true
+    unfolding named entriesFrom
+    named-some a zero j g f t = absurd (omega (arith, g, f))
+    named-some a (suc m) j g f t =
+        rw (h a)
+        (by-test (reachesAt s xs i a)
+        (λ u. rw u refl)
+        (λ u.
+        by-order (a + 1) j
+        (λ b. rw u (named-some (a + 1) m j b (omega (arith, f)) t))
+        (λ b.
+        let z : a ≡ j = omega (arith, b, g) in
+        absurd (never (reachesAt s xs i a) (subst (λ (k : ℕ). reachesAt s xs i k ≡ true) (sym z) t) u))))
+
+    named-none : (a m : ℕ) → ((j : ℕ) → j < a + m → reachesAt s xs i j ≡ false) → named q (noteAt s xs i .names) (entriesFrom s xs a m) ≡ false
+    unfolding named entriesFrom
+    named-none a zero g = refl
+    named-none a (suc m) g = rw (h a) rw (g a (omega arith)) (named-none (a + 1) m (λ j f. g j (omega (arith, f))))
+
+    named-by : (n : ℕ) (t : Found) → targetTo s xs i n ≡ t → named q (noteAt s xs i .names) (entriesFrom s xs 0 n) ≡ isAt t
+    named-by n (At j) e =
+        let r = target-found n j e in
+        named-some 0 n j (omega arith) (omega (arith, r .0)) (r .1)
+    named-by n Nothing e = named-none 0 n (λ j f. target-missed n j e (omega (arith, f)))
+
+    named-target : (n : ℕ) → named q (noteAt s xs i .names) (entriesFrom s xs 0 n) ≡ isAt (targetTo s xs i n)
+    named-target n = named-by n (targetTo s xs i n) refl
 
 -- ---- as the rules say it: found, or the line
 
@@ -183,23 +201,23 @@ module _ (s xs : List ℕ) (i n later : ℕ) where
   hits-as : (k : Kind) → noteAt s xs i .kind ≡ k → (j : ℕ) → (reaches (place k) (place (noteAt s xs j .kind)) && eqs (noteAt s xs i .names) (noteAt s xs j .name)) ≡ reachesAt s xs i j
   hits-as k e j = subst (λ (x : Kind). (reaches (place x) (place (noteAt s xs j .kind)) && eqs (noteAt s xs i .names) (noteAt s xs j .name)) ≡ reachesAt s xs i j) e (hits-at s xs i j)
 
-  found-kind : (k : Kind) → noteAt s xs i .kind ≡ k → cond (isFound (entriesFrom s xs 0 n) (entryAt s xs i) k) later (lineAt xs i) ≡ missingLine s xs i later (targetFrom s xs i 0 n)
+  found-kind : (k : Kind) → noteAt s xs i .kind ≡ k → cond (isFound (entriesFrom s xs 0 n) (entryAt s xs i) k) later (lineAt xs i) ≡ missingLine s xs i later (targetTo s xs i n)
   unfolding excused enclosed
-  found-kind OfComponent e = line-unless (targetFrom s xs i 0 n) (rw (number OfComponent e) refl)
+  found-kind OfComponent e = line-unless (targetTo s xs i n) (rw (number OfComponent e) refl)
   found-kind OfPin e =
       let p = number OfPin e in
       let h : enclosed (placeAt xs i) ≡ true = rw p refl in
       let q : (j : ℕ) → (isModelOrSelector (entryAt s xs j) && eqs (noteAt s xs i .names) (noteAt s xs j .name)) ≡ reachesAt s xs i j =
       λ j. ap (λ (b : Bool). b && eqs (noteAt s xs i .names) (noteAt s xs j .name)) (pin-reaches (noteAt s xs j .kind)) ∙ hits-as OfPin e j in
-      rw (named-target s xs i isModelOrSelector q 0 n) rw (note-names s xs i h) (pin-line (targetFrom s xs i 0 n) p)
-  found-kind OfSelector e = line-unless (targetFrom s xs i 0 n) (rw (number OfSelector e) refl)
+      rw (named-target s xs i isModelOrSelector q n) rw (note-names s xs i h) (pin-line (targetTo s xs i n) p)
+  found-kind OfSelector e = line-unless (targetTo s xs i n) (rw (number OfSelector e) refl)
   found-kind OfChoice e =
       let q : (j : ℕ) → (is OfModel (entryAt s xs j) && eqs (noteAt s xs i .names) (noteAt s xs j .name)) ≡ reachesAt s xs i j =
       λ j. ap (λ (b : Bool). b && eqs (noteAt s xs i .names) (noteAt s xs j .name)) (row-reaches (noteAt s xs j .kind)) ∙ hits-as OfChoice e j in
-      rw (named-target s xs i (is OfModel) q 0 n) (row-line (targetFrom s xs i 0 n) (number OfChoice e))
-  found-kind OfModel e = line-unless (targetFrom s xs i 0 n) (rw (number OfModel e) refl)
+      rw (named-target s xs i (is OfModel) q n) (row-line (targetTo s xs i n) (number OfChoice e))
+  found-kind OfModel e = line-unless (targetTo s xs i n) (rw (number OfModel e) refl)
 
-  pub found-line : cond (found (entriesFrom s xs 0 n) (entryAt s xs i)) later (noteAt s xs i .line) ≡ missingLine s xs i later (targetFrom s xs i 0 n)
+  pub found-line : cond (found (entriesFrom s xs 0 n) (entryAt s xs i)) later (noteAt s xs i .line) ≡ missingLine s xs i later (targetTo s xs i n)
   found-line = ap (cond (found (entriesFrom s xs 0 n) (entryAt s xs i)) later) (note-line s xs i) ∙ found-kind (noteAt s xs i .kind) refl
 
 -- ---- by the tests that the code makes
@@ -215,11 +233,11 @@ module _ (s xs : List ℕ) (i j k l : ℕ) (kindI : k ≡ placeAt xs i) (kindJ :
 
 module _ (s xs : List ℕ) (i k later : ℕ) (kind : k ≡ placeAt xs i) where
   -- a section marks nothing
-  pub section-marks : (n : ℕ) → enclosed k ≡ false → (later ≡ missingLine s xs i later (targetFrom s xs i 0 n)) × (xs ≡ withMark xs (targetFrom s xs i 0 n))
+  pub section-marks : (n : ℕ) → enclosed k ≡ false → (later ≡ missingLine s xs i later (targetTo s xs i n)) × (xs ≡ withMark xs (targetTo s xs i n))
   unfolding excused enclosed
   section-marks n h =
       let g : enclosed (placeAt xs i) ≡ false = rw (← kind) h in
-      rw (target-never s xs i g 0 n)
+      rw (target-never s xs i g n)
       (rw (← kind) rw (or-left (eqb k 1) (eqb k 3) h) rw (or-right (eqb k 1) (eqb k 3) h) refl, refl)
 
   pub missing-pin : (t : Bool) → k ≡ 1 → t ≡ needsNoModel (modelAt s xs i) → cond t later (lineAt xs i) ≡ missingLine s xs i later Nothing
@@ -235,10 +253,10 @@ module _ (s xs : List ℕ) (i k later : ℕ) (kind : k ≡ placeAt xs i) where
   missing-section h g = rw (← kind) rw (ne-eqb k 1 h) rw (ne-eqb k 3 g) refl
 
 -- what the search says, said of what is marked and told
-pub target-marks : (s xs : List ℕ) (i later n v : ℕ) (t x : Found) → t ≡ targetFrom s xs i 0 n → t ≡ x → v ≡ missingLine s xs i later x
-    → (v ≡ missingLine s xs i later (targetFrom s xs i 0 n)) × (withMark xs x ≡ withMark xs (targetFrom s xs i 0 n))
+pub target-marks : (s xs : List ℕ) (i later n v : ℕ) (t x : Found) → t ≡ targetTo s xs i n → t ≡ x → v ≡ missingLine s xs i later x
+    → (v ≡ missingLine s xs i later (targetTo s xs i n)) × (withMark xs x ≡ withMark xs (targetTo s xs i n))
 target-marks s xs i later n v t x e f g =
-    let z : targetFrom s xs i 0 n ≡ x = sym e ∙ f in
+    let z : targetTo s xs i n ≡ x = sym e ∙ f in
     rw z (g, refl)
 
 -- ---- in a store that differs only by marks
@@ -249,11 +267,11 @@ module _ (s xs ys : List ℕ) (o : Outside xs ys) where
   reach-outside i j h g =
       rw (outside-place xs ys i o h) rw (outside-place xs ys j o g) rw (model-outside s xs ys o i h) rw (name-outside s xs ys o j g) refl
 
-  pub target-outside : (i a m : ℕ) → i ≤ 872 → a + m ≤ 872 → targetFrom s ys i a m ≡ targetFrom s xs i a m
-  unfolding targetFrom
-  target-outside i a zero h g = refl
-  target-outside i a (suc m) h g =
-      rw (reach-outside i a h (omega (arith, g))) rw (target-outside i (a + 1) m h (omega (arith, g))) refl
+  pub target-outside : (i n : ℕ) → i ≤ 872 → n ≤ 872 → targetTo s ys i n ≡ targetTo s xs i n
+  unfolding targetTo
+  target-outside i zero h g = refl
+  target-outside i (suc n) h g =
+      rw (reach-outside i n h (omega (arith, g))) rw (target-outside i n h (omega (arith, g))) refl
 
   pub missing-outside : (i later : ℕ) (t : Found) → i ≤ 872 → missingLine s ys i later t ≡ missingLine s xs i later t
   missing-outside i later (At j) h = refl

@@ -110,10 +110,10 @@ reaches k l = cond (eqb l 4) (enclosed k) (cond (eqb l 2) (eqb k 1) false)
 unfoldable pub reachesAt : List ℕ → List ℕ → ℕ → ℕ → Bool
 reachesAt s xs i j = reaches (placeAt xs i) (placeAt xs j) && eqs (modelAt s xs i) (nameAt s xs j)
 
--- the first of n names from place j on that the one at place i names
-unfoldable pub targetFrom : List ℕ → List ℕ → ℕ → ℕ → ℕ → Found
-targetFrom s xs i j zero = answer.Nothing
-targetFrom s xs i j (suc n) = cond (reachesAt s xs i j) (answer.At j) (targetFrom s xs i (j + 1) n)
+-- the last of the first n names that the one at place i names: where no name is used twice there is one at most
+unfoldable pub targetTo : List ℕ → List ℕ → ℕ → ℕ → Found
+targetTo s xs i zero = answer.Nothing
+targetTo s xs i (suc n) = cond (reachesAt s xs i n) (answer.At n) (targetTo s xs i n)
 
 -- nothing need be found: of a section, and of a pin that needs no model
 unfoldable pub excused : ℕ → List ℕ → Bool

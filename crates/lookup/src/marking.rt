@@ -6,7 +6,7 @@ ghost use lib.ListN.{length};
 ghost use Rattle.names.specs.declared.Found.the-variants.{Nothing};
 ghost use Rattle.noted.specs.Noted.{clash};
 ghost use Rattle.store.specs.Store.{storeLength};
-ghost use Rattle.lookup.specs.Lookup.{reaches, reachesAt, targetFrom, missingLine, clearedTo, Clear, withMark, entriesTo, Outside, Marked, unmarkedLine, unmarkedFrom, Concludes};
+ghost use Rattle.lookup.specs.Lookup.{reaches, reachesAt, targetTo, missingLine, clearedTo, Clear, withMark, entriesTo, Outside, Marked, unmarkedLine, unmarkedFrom, Concludes};
 use crate::Last;
 use names::Found;
 
@@ -37,17 +37,17 @@ fn names_it(src: &[u8], notes: &[u32], i: usize, j: usize) -> bool
     false
 }
 
-// The first of n names that the one at place i names.
+// The last of n names that the one at place i names. Most files have their models behind the pins.
 fn find_target(src: &[u8], notes: &[u32], n: usize, i: usize) -> Found
     requires { ⌜ (n ≤ 872) × (i ≤ 872) ⌝ }
-    ensures { λ r. ⌜ r ≡ targetFrom (now (src .entry)) (now (notes .entry)) i 0 n ⌝ }
+    ensures { λ r. ⌜ r ≡ targetTo (now (src .entry)) (now (notes .entry)) i n ⌝ }
 {
-    let mut j = 0;
-    while j < n {
+    let mut j = n;
+    while 0 < j {
+        j -= 1;
         if names_it(src, notes, i, j) {
             return Found::At(j);
         }
-        j += 1;
     }
     Found::Nothing
 }
@@ -76,8 +76,8 @@ fn missing_line(src: &[u8], notes: &[u32], i: usize, later: u64) -> u64
 // Marks what the name at place i names. The line of the first from there on that names nothing, given that of the later ones.
 fn mark_target(src: &[u8], notes: &mut [u32], n: usize, i: usize, later: u64) -> u64
     requires { ⌜ (n ≤ 872) × (i < n) × (storeLength ≤ length (now notes)) ⌝ }
-    ensures { λ r. ⌜ r ≡ missingLine (now (src .entry)) (now (notes .entry)) i later (targetFrom (now (src .entry)) (now (notes .entry)) i 0 n) ⌝ }
-    ensures { λ r. ⌜ now (notes .exit) ≡ withMark (now (notes .entry)) (targetFrom (now (src .entry)) (now (notes .entry)) i 0 n) ⌝ }
+    ensures { λ r. ⌜ r ≡ missingLine (now (src .entry)) (now (notes .entry)) i later (targetTo (now (src .entry)) (now (notes .entry)) i n) ⌝ }
+    ensures { λ r. ⌜ now (notes .exit) ≡ withMark (now (notes .entry)) (targetTo (now (src .entry)) (now (notes .entry)) i n) ⌝ }
 {
     if !crate::clashes::is_enclosed(crate::places::kind_at(notes, i)) {
         return later;
