@@ -1,4 +1,3 @@
 -- The dump, line by line.
 pub mod Components
 pub mod Labelled
-pub mod Models

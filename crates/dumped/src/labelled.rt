@@ -24,7 +24,7 @@ pub(crate) fn put_triple(out: &mut [u8], at: usize, t: Triple) -> usize
     put_next_cell(out, second, max)
 }
 
-pub(crate) fn cell_line(out: &mut [u8], at: usize, label: &[u8], cell: Cell) -> usize
+pub fn cell_line(out: &mut [u8], at: usize, label: &[u8], cell: Cell) -> usize
     ensures { λ r. ⌜ Put (now (out .entry)) (now (out .exit)) at (cellLine (now (label .entry)) cell) r ⌝ }
 {
     let named = put_bytes(out, at, label);
@@ -32,7 +32,7 @@ pub(crate) fn cell_line(out: &mut [u8], at: usize, label: &[u8], cell: Cell) -> 
     put_byte(out, value, b'\n')
 }
 
-pub(crate) fn triple_line(out: &mut [u8], at: usize, label: &[u8], t: Triple) -> usize
+pub fn triple_line(out: &mut [u8], at: usize, label: &[u8], t: Triple) -> usize
     ensures { λ r. ⌜ Put (now (out .entry)) (now (out .exit)) at (tripleLine (now (label .entry)) t) r ⌝ }
 {
     let named = put_bytes(out, at, label);
@@ -40,7 +40,7 @@ pub(crate) fn triple_line(out: &mut [u8], at: usize, label: &[u8], t: Triple) ->
     put_byte(out, cells, b'\n')
 }
 
-pub(crate) fn count_line(out: &mut [u8], at: usize, label: &[u8], count: usize) -> usize
+pub fn count_line(out: &mut [u8], at: usize, label: &[u8], count: usize) -> usize
     ensures { λ r. ⌜ Put (now (out .entry)) (now (out .exit)) at (countLine (now (label .entry)) count) r ⌝ }
 {
     let named = put_bytes(out, at, label);
@@ -67,13 +67,7 @@ pub(crate) fn words_line(out: &mut [u8], at: usize, label: &[u8], words: Words) 
 }
 
 // A section's first line: its kind, its index among those of the kind, its name.
-pub(crate) fn section_line(
-    out: &mut [u8],
-    at: usize,
-    label: &[u8],
-    index: usize,
-    name: Name,
-) -> usize
+pub fn section_line(out: &mut [u8], at: usize, label: &[u8], index: usize, name: Name) -> usize
     ensures { λ r. ⌜ Put (now (out .entry)) (now (out .exit)) at (sectionLine (now (label .entry)) index name) r ⌝ }
 {
     let kind = put_bytes(out, at, label);
@@ -82,7 +76,7 @@ pub(crate) fn section_line(
 }
 
 // Three cells, or `-` where they are absent.
-pub(crate) fn range_line(out: &mut [u8], at: usize, label: &[u8], range: Range) -> usize
+pub fn range_line(out: &mut [u8], at: usize, label: &[u8], range: Range) -> usize
     ensures { λ r. ⌜ Put (now (out .entry)) (now (out .exit)) at (rangeLine (now (label .entry)) range) r ⌝ }
 {
     if range.given {

@@ -15,7 +15,7 @@ use Rattle.rules.specs.declared.Name.{Name}
 use Rattle.rules.specs.declared.Pin.{Pin}
 use Rattle.shown.specs.Lines.{nameText, wordsText}
 use Rattle.shown.specs.Numerals.{numeralOf, plainText}
-use Rattle.dumped.specs.Models.{typeText}
+use Rattle.modelled.specs.Models.{typeText}
 use Rattle.chosen.specs.Chosen.{sameName}
 use Rattle.explained.specs.declared.summaries.Widths.{Widths}
 

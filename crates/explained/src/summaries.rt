@@ -3,7 +3,7 @@ ghost use mathlib.Core.Path.{_≡_};
 ghost use Prim.Native.Nat.{_-_};
 ghost use Rattle.shown.specs.Lines.{nameText};
 ghost use Rattle.shown.specs.Put.{Put};
-ghost use Rattle.dumped.specs.Models.{typeText};
+ghost use Rattle.modelled.specs.Models.{typeText};
 ghost use Rattle.explained.specs.Summaries.{headerText, labelledText, countsText, gapText, column, levelText, componentText, headingText, pinColumns, selectorText, pinText, bareText};
 use decimal::Cell;
 use noted::Counts;
@@ -94,7 +94,7 @@ fn put_name_column(out: &mut [u8], at: usize, name: Name, width: usize) -> usize
 fn put_type_column(out: &mut [u8], at: usize, kind: ModelType) -> usize
     ensures { λ r. ⌜ Put (now (out .entry)) (now (out .exit)) at (column 15 (typeText kind)) r ⌝ }
 {
-    let end = dumped::put_type(out, at, kind);
+    let end = modelled::put_type(out, at, kind);
     put_gap(out, end, at, 15)
 }
 

@@ -73,7 +73,7 @@ fn print_rows(rows: &[u64], span: Span) {
     for i in 0..n {
         if holds(span, i) {
             let mut out = io::buffer();
-            let n = dumped::row_line(
+            let n = modelled::row_line(
                 &mut out,
                 0,
                 rows[4 * i],
@@ -88,7 +88,7 @@ fn print_rows(rows: &[u64], span: Span) {
 
 fn print_table(name: &[u8], t: Table, rows: &[u64]) {
     let mut out = io::buffer();
-    let n = dumped::table_line(&mut out, 0, name, t);
+    let n = modelled::table_line(&mut out, 0, name, t);
     put_out(&out, n);
     print_rows(rows, t.rows);
 }
@@ -98,7 +98,7 @@ fn print_waveforms(waveforms: [Waveform; 1024], span: Span, rows: &[u64]) {
         if holds(span, i) {
             let w = waveforms[i];
             let mut out = io::buffer();
-            let n = dumped::waveform_lines(&mut out, 0, w);
+            let n = modelled::waveform_lines(&mut out, 0, w);
             put_out(&out, n);
             print_rows(rows, w.rows);
         }
@@ -107,15 +107,15 @@ fn print_waveforms(waveforms: [Waveform; 1024], span: Span, rows: &[u64]) {
 
 fn print_model(i: usize, m: Model, waveforms: [Waveform; 1024], rows: &[u64]) {
     let mut out = io::buffer();
-    let n = dumped::model_lines(&mut out, 0, i, m);
+    let n = modelled::model_lines(&mut out, 0, i, m);
     put_out(&out, n);
     print_table(b"Pulldown", m.pulldown, rows);
     print_table(b"Pullup", m.pullup, rows);
     print_table(b"GND_Clamp", m.ground, rows);
     print_table(b"POWER_Clamp", m.power, rows);
-    let k = dumped::ramp_lines(&mut out, 0, m.ramp);
+    let k = modelled::ramp_lines(&mut out, 0, m.ramp);
     put_out(&out, k);
-    let j = dumped::waveforms_line(&mut out, 0, m);
+    let j = modelled::waveforms_line(&mut out, 0, m);
     put_out(&out, j);
     print_waveforms(waveforms, m.waveforms, rows);
 }

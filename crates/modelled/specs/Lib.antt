@@ -1,0 +1,2 @@
+-- The dump's lines of a model.
+pub mod Models
