@@ -14,7 +14,7 @@ use Rattle.answers.specs.Answered.{answerFor, answerOf}
 use Rattle.answers.specs.Sorted.{upTo, Sorted, SortedFor, Outlines}
 use Rattle.answers.specs.declared.Answer.{Answer}
 use Rattle.reader.proofs.Tables.{file, fit, components-made, pins-made, selectors-made, choices-made, models-made, waveforms-made, rows-made, rows-fit}
-use Rattle.packed.specs.Records.{componentWords, pinWords, selectorWords, choiceWords, modelWords, waveformWords}
+use Rattle.worded.specs.Records.{componentWords, pinWords, selectorWords, choiceWords, modelWords, waveformWords}
 use Rattle.packed.specs.Packed.{wordsTo, faultNumber, answerWords, Lent, Room, filled}
 use Rattle.exported.specs.Exported.{lengthsIn, left, Exports}
 

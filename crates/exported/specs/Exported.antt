@@ -8,7 +8,7 @@ use Rattle.laid.specs.Laid.{Laid, laid, stored, over}
 use Rattle.rules.specs.Whole.{Outcome, passed, refused, outcome, textsOf}
 use Rattle.rules.specs.declared.Lengths.{Lengths}
 use Rattle.answers.specs.Answered.{answerOf}
-use Rattle.packed.specs.Records.{componentWords, pinWords, selectorWords, choiceWords, modelWords, waveformWords}
+use Rattle.worded.specs.Records.{componentWords, pinWords, selectorWords, choiceWords, modelWords, waveformWords}
 use Rattle.packed.specs.Packed.{faultNumber, answerWords, Lent}
 
 abbrev pub lengthsOf : ℕ → ℕ → ℕ → ℕ → ℕ → ℕ → ℕ → Lengths

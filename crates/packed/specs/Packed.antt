@@ -9,7 +9,7 @@ use Rattle.made.specs.Made.{componentAt, pinAt, selectorAt, choiceAt, modelAt, 
 use Rattle.answers.specs.declared.Verdict.{Verdict}
 use Rattle.answers.specs.declared.Verdict.the-variants.{Accepted, Refused}
 use Rattle.answers.specs.declared.Answer.{Answer}
-use Rattle.packed.specs.Records.{textWords, componentWords, pinWords, selectorWords, choiceWords, modelWords, waveformWords}
+use Rattle.worded.specs.Records.{textWords, componentWords, pinWords, selectorWords, choiceWords, modelWords, waveformWords}
 
 -- the words of the first n records
 unfoldable pub wordsTo : (ℕ → List ℕ) → ℕ → List ℕ

@@ -5,17 +5,17 @@ ghost use lib.ListN.{length};
 ghost use lib.Seq.{sets};
 ghost use Rattle.laid.specs.Laid.{over};
 ghost use Rattle.made.specs.Made.{componentAt, pinAt, selectorAt, choiceAt, modelAt, waveformAt};
-ghost use Rattle.packed.specs.Records.{componentWords, pinWords, selectorWords, choiceWords, modelWords, waveformWords};
+ghost use Rattle.worded.specs.Records.{componentWords, pinWords, selectorWords, choiceWords, modelWords, waveformWords};
 ghost use Rattle.packed.specs.Packed.{wordsTo};
-use crate::records::choice_words;
-use crate::records::component_words;
-use crate::records::model_first;
-use crate::records::model_ramp;
-use crate::records::model_tables;
-use crate::records::pin_words;
-use crate::records::selector_words;
-use crate::records::waveform_words;
 use rules::Model;
+use worded::records::choice_words;
+use worded::records::component_words;
+use worded::records::model_first;
+use worded::records::model_ramp;
+use worded::records::model_tables;
+use worded::records::pin_words;
+use worded::records::selector_words;
+use worded::records::waveform_words;
 
 pub(crate) fn put(out: &mut [u64], at: usize, words: &[u64])
     requires { ⌜ at + length (now words) ≤ length (now out) ⌝ }

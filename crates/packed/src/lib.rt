@@ -5,8 +5,6 @@ use answers::Answer;
 use answers::Verdict;
 use noted::Counts;
 
-pub mod values; // values.rt: values as words
-pub mod records; // records.rt: records as words
 pub mod fills; // fills.rt: tables as words
 
 pub fn fault_number(v: Verdict) -> u8
@@ -47,8 +45,8 @@ pub fn put_answer(answer: &mut [u64; 40], a: Answer)
 {
     let v = a.verdict;
     let head = count_words(fault_line(v), a.counts);
-    let name = records::text_words(a.header.name);
-    let revision = records::text_words(a.header.revision);
+    let name = worded::records::text_words(a.header.name);
+    let revision = worded::records::text_words(a.header.revision);
     fills::put(answer, 0, &head);
     fills::put(answer, 8, &name);
     fills::put(answer, 24, &revision);

@@ -5,7 +5,7 @@ use lib.ListN.{length}
 use borrow.Author.Needs.{needs}
 use denote.Ref.{now}
 use Rattle.packed.specs.Packed.{countWords, faultLine}
-use Rattle.packed.specs.Records.{textWords}
+use Rattle.worded.specs.Records.{textWords}
 use Rattle.packed.proofs.Laws.{sets-three, sets-all}
 use Rattle.packed.proofs.put_answer.Statement.{statement}
 use Rattle.packed.proofs.put_answer.Tie as tie
@@ -14,7 +14,7 @@ use Rattle.packed.proofs.put_answer.Lts as lts
 use Rattle.packed.proofs.count_words.Reads as count-words-reads
 use Rattle.packed.proofs.fault_line.Reads as fault-line-reads
 use Rattle.packed.proofs.fills.put.Reads as put-reads
-use Rattle.packed.proofs.records.text_words.Reads as text-words-reads
+use Rattle.worded.proofs.records.text_words.Reads as text-words-reads
 
 fault-line-requires : tie.Need-fault-line-requires
 fault-line-requires c κs = search needs

@@ -7,7 +7,7 @@ use borrow.Author.Needs.{needs}
 use denote.Ref.{now}
 use Rattle.laid.specs.Laid.{over}
 use Rattle.made.specs.Made.{choiceAt}
-use Rattle.packed.specs.Records.{choiceWords}
+use Rattle.worded.specs.Records.{choiceWords}
 use Rattle.packed.specs.Packed.{wordsTo}
 use Rattle.packed.proofs.Laws.{words-none, words-keep, words-room, words-turn}
 use Rattle.packed.proofs.fills.fill_choices.Statement.{statement}
@@ -15,7 +15,7 @@ use Rattle.packed.proofs.fills.fill_choices.Tie as tie
 use Rattle.packed.proofs.fills.fill_choices.Reads as reads
 use Rattle.packed.proofs.fills.fill_choices.Lts as lts
 use Rattle.packed.proofs.fills.put.Reads as put-reads
-use Rattle.packed.proofs.records.choice_words.Reads as choice-words-reads
+use Rattle.worded.proofs.records.choice_words.Reads as choice-words-reads
 use Rattle.made.proofs.choice_at.Reads as choice-at-reads
 
 abbrev Inv-loop : tie.InvT-loop

@@ -7,7 +7,7 @@ use borrow.Author.Needs.{needs}
 use denote.Ref.{now}
 use Rattle.laid.specs.Laid.{over}
 use Rattle.made.specs.Made.{componentAt}
-use Rattle.packed.specs.Records.{componentWords}
+use Rattle.worded.specs.Records.{componentWords}
 use Rattle.packed.specs.Packed.{wordsTo}
 use Rattle.packed.proofs.Laws.{words-none, words-keep, words-room, words-turn}
 use Rattle.packed.proofs.fills.fill_components.Statement.{statement}
@@ -15,7 +15,7 @@ use Rattle.packed.proofs.fills.fill_components.Tie as tie
 use Rattle.packed.proofs.fills.fill_components.Reads as reads
 use Rattle.packed.proofs.fills.fill_components.Lts as lts
 use Rattle.packed.proofs.fills.put.Reads as put-reads
-use Rattle.packed.proofs.records.component_words.Reads as component-words-reads
+use Rattle.worded.proofs.records.component_words.Reads as component-words-reads
 use Rattle.made.proofs.component_at.Reads as component-at-reads
 
 abbrev Inv-loop : tie.InvT-loop

@@ -6,7 +6,7 @@ use borrow.Author.Needs.{needs}
 use denote.Ref.{now}
 use Rattle.laid.specs.Laid.{over}
 use Rattle.made.specs.Made.{modelAt}
-use Rattle.packed.specs.Records.{modelWords}
+use Rattle.worded.specs.Records.{modelWords}
 use Rattle.packed.specs.Packed.{wordsTo}
 use Rattle.packed.proofs.Laws.{words-none, words-keep, words-room, words-turn}
 use Rattle.packed.proofs.fills.fill_models.Statement.{statement}

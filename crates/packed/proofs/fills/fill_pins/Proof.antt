@@ -7,7 +7,7 @@ use borrow.Author.Needs.{needs}
 use denote.Ref.{now}
 use Rattle.laid.specs.Laid.{over}
 use Rattle.made.specs.Made.{pinAt}
-use Rattle.packed.specs.Records.{pinWords}
+use Rattle.worded.specs.Records.{pinWords}
 use Rattle.packed.specs.Packed.{wordsTo}
 use Rattle.packed.proofs.Laws.{words-none, words-keep, words-room, words-turn}
 use Rattle.packed.proofs.fills.fill_pins.Statement.{statement}
@@ -15,7 +15,7 @@ use Rattle.packed.proofs.fills.fill_pins.Tie as tie
 use Rattle.packed.proofs.fills.fill_pins.Reads as reads
 use Rattle.packed.proofs.fills.fill_pins.Lts as lts
 use Rattle.packed.proofs.fills.put.Reads as put-reads
-use Rattle.packed.proofs.records.pin_words.Reads as pin-words-reads
+use Rattle.worded.proofs.records.pin_words.Reads as pin-words-reads
 use Rattle.made.proofs.pin_at.Reads as pin-at-reads
 
 abbrev Inv-loop : tie.InvT-loop

@@ -7,7 +7,7 @@ use borrow.Author.Needs.{needs}
 use denote.Ref.{now}
 use Rattle.laid.specs.Laid.{over}
 use Rattle.made.specs.Made.{selectorAt}
-use Rattle.packed.specs.Records.{selectorWords}
+use Rattle.worded.specs.Records.{selectorWords}
 use Rattle.packed.specs.Packed.{wordsTo}
 use Rattle.packed.proofs.Laws.{words-none, words-keep, words-room, words-turn}
 use Rattle.packed.proofs.fills.fill_selectors.Statement.{statement}
@@ -15,7 +15,7 @@ use Rattle.packed.proofs.fills.fill_selectors.Tie as tie
 use Rattle.packed.proofs.fills.fill_selectors.Reads as reads
 use Rattle.packed.proofs.fills.fill_selectors.Lts as lts
 use Rattle.packed.proofs.fills.put.Reads as put-reads
-use Rattle.packed.proofs.records.selector_words.Reads as selector-words-reads
+use Rattle.worded.proofs.records.selector_words.Reads as selector-words-reads
 use Rattle.made.proofs.selector_at.Reads as selector-at-reads
 
 abbrev Inv-loop : tie.InvT-loop

@@ -7,7 +7,7 @@ use borrow.Author.Needs.{needs}
 use denote.Ref.{now}
 use Rattle.laid.specs.Laid.{over}
 use Rattle.made.specs.Made.{waveformAt}
-use Rattle.packed.specs.Records.{waveformWords}
+use Rattle.worded.specs.Records.{waveformWords}
 use Rattle.packed.specs.Packed.{wordsTo}
 use Rattle.packed.proofs.Laws.{words-none, words-keep, words-room, words-turn}
 use Rattle.packed.proofs.fills.fill_waveforms.Statement.{statement}
@@ -15,7 +15,7 @@ use Rattle.packed.proofs.fills.fill_waveforms.Tie as tie
 use Rattle.packed.proofs.fills.fill_waveforms.Reads as reads
 use Rattle.packed.proofs.fills.fill_waveforms.Lts as lts
 use Rattle.packed.proofs.fills.put.Reads as put-reads
-use Rattle.packed.proofs.records.waveform_words.Reads as waveform-words-reads
+use Rattle.worded.proofs.records.waveform_words.Reads as waveform-words-reads
 use Rattle.made.proofs.waveform_at.Reads as waveform-at-reads
 
 abbrev Inv-loop : tie.InvT-loop

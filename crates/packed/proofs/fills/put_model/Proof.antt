@@ -2,16 +2,16 @@
 use mathlib.Core.Path.{refl}
 use borrow.Author.Needs.{needs}
 use denote.Ref.{now}
-use Rattle.packed.specs.Records.{modelFirst, modelTables, modelRamp}
+use Rattle.worded.specs.Records.{modelFirst, modelTables, modelRamp}
 use Rattle.packed.proofs.Laws.{sets-three}
 use Rattle.packed.proofs.fills.put_model.Statement.{statement}
 use Rattle.packed.proofs.fills.put_model.Tie as tie
 use Rattle.packed.proofs.fills.put_model.Reads as reads
 use Rattle.packed.proofs.fills.put_model.Lts as lts
 use Rattle.packed.proofs.fills.put.Reads as put-reads
-use Rattle.packed.proofs.records.model_first.Reads as model-first-reads
-use Rattle.packed.proofs.records.model_ramp.Reads as model-ramp-reads
-use Rattle.packed.proofs.records.model_tables.Reads as model-tables-reads
+use Rattle.worded.proofs.records.model_first.Reads as model-first-reads
+use Rattle.worded.proofs.records.model_ramp.Reads as model-ramp-reads
+use Rattle.worded.proofs.records.model_tables.Reads as model-tables-reads
 
 model-first-requires : tie.Need-model-first-requires
 model-first-requires c κs = search needs

@@ -1,0 +1,3 @@
+-- How values and records lie in words.
+pub mod Values
+pub mod Records
