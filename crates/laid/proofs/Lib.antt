@@ -1,0 +1,2 @@
+-- What the layout must keep.
+pub mod Sanity
