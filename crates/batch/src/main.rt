@@ -3,9 +3,9 @@
 ghost use mathlib.Core.Path.{_≡_};
 ghost use Prim.Native.Nat.{_≤_, _<_};
 ghost use lib.ListN.{length};
-use printed::files::Form;
-use printed::files::print_file;
-use rules::Lengths;
+use program_output::files::Form;
+use program_output::files::print_file;
+use records::Lengths;
 
 // A byte of the head; what is past the end counts as 0.
 fn byte_at(head: &[u8], at: usize) -> usize

@@ -12,17 +12,17 @@ use Rattle.laws.specs.Lists.{front, after, keep, trim, all, among, other, eqs}
 use Rattle.decimal.specs.Decimal.{isMinus, afterSign, pointPlaces, afterPoint, places, figures, afterFigures, numeralFrom, numeral, isZero, significant, zerosCut, afterE, exponentDigits, plusExponent, minusExponent, letters, scaleUp, scaleDown, ranged, resultOf, unsigned, numberOf, isMissing, cellOf, lessThan, aboveZero, cellIn}
 use Rattle.words.specs.Words.{isInk, grown, words}
 use Rattle.lines.specs.Lines.{isReturn, linesOf, isAllowed, lineFault, faultFrom, bytesFault, cut}
-use Rattle.names.specs.Names.{meaning, namesOf, placeFrom, meaningAt, meaningOf}
-use Rattle.keyword.specs.Form.{inside, closing, isJoint, inParts, isClosed, isFormed, plain, spelled, argument}
-use Rattle.keyword.specs.Carried.{carried, keyOf}
-use Rattle.texts.specs.Change.{begins, isChange, noneOr, isRemark, changeTo, changeOf}
-use Rattle.texts.specs.Texts.{textsFrom, rest, past}
-use Rattle.rules.specs.Fields.{isSized, isBracketed, oneOf, needsNoModel, isNoModel, isModelName, isPinModel, isPinName, oneWord, isFileByte, isFileName, firstWord, otherWords, nameOf, lineAt, isNameAlone, wordFrom, namedWord, afterName, soleNumber, behindEquals, assignedNumber, threeCells, namedCells, rowOf, slopeFrom, slopeOf, slopeOrMissing, upward, threeSlopes, namedSlopes, wordFault}
-use Rattle.rules.specs.Tables.{locations, modelTypes, polarities, enables}
-use Rattle.rules.specs.Given.{has, with}
+use Rattle.name_table.specs.Names.{meaning, namesOf, placeFrom, meaningAt, meaningOf}
+use Rattle.keywords.specs.Form.{inside, closing, isJoint, inParts, isClosed, isFormed, plain, spelled, argument}
+use Rattle.keywords.specs.Carried.{carried, keyOf}
+use Rattle.cut_lines.specs.Change.{begins, isChange, noneOr, isRemark, changeTo, changeOf}
+use Rattle.cut_lines.specs.Texts.{textsFrom, rest, past}
+use Rattle.line_rules.specs.Fields.{isSized, isBracketed, oneOf, needsNoModel, isNoModel, isModelName, isPinModel, isPinName, oneWord, isFileByte, isFileName, firstWord, otherWords, nameOf, lineAt, isNameAlone, wordFrom, namedWord, afterName, soleNumber, behindEquals, assignedNumber, threeCells, namedCells, rowOf, slopeFrom, slopeOf, slopeOrMissing, upward, threeSlopes, namedSlopes, wordFault, heading}
+use Rattle.line_rules.specs.Tables.{locations, modelTypes, polarities, enables}
+use Rattle.given.specs.Given.{has, with}
 use Rattle.rules.specs.Going.{unless, refuse, firstOf}
 use Rattle.rules.specs.Header.{version, headerPart, headerLine, headerDone}
-use Rattle.rules.specs.Component.{heading, pinNames, cellsFault, pinRow, componentPart, componentDone}
+use Rattle.rules.specs.Component.{pinNames, cellsFault, pinRow, componentPart, componentDone}
 use Rattle.rules.specs.Selector.{selectorLine, selectorShut}
 use Rattle.rules.specs.Model.{firstFault, isInput, isDriven, withFirst, rises, rampLineFault, beginsLetter, waveformLine, singlePart, waveformPart, tableFault, modelDone}
 use Rattle.rules.specs.Steps.{onBegun}
@@ -35,7 +35,7 @@ use Rattle.decimal.specs.declared.CellRead.{CellRead}
 use Rattle.decimal.specs.declared.CellRead.the-variants.{Read, Bad}
 use Rattle.lines.specs.declared.Bytes.{Bytes}
 use Rattle.lines.specs.declared.Bytes.the-variants.{Clean, Faulty}
-use Rattle.rules.specs.declared.Lengths.{Lengths}
+use Rattle.records.specs.declared.Lengths.{Lengths}
 
 -- accepted, or refused with this fault at this line
 pub data Verdict : Type 0 where
@@ -125,5 +125,5 @@ starred =
     ∷ []
 
 pub examples : map answered starred ≡ starred
-unfolding answered starred isBlank isDigit isCapital isSmall isLetter capital small front after keep trim all among other eqs isMinus afterSign pointPlaces afterPoint places figures afterFigures numeralFrom numeral isZero significant zerosCut afterE exponentDigits plusExponent minusExponent letters scaleUp scaleDown ranged resultOf unsigned numberOf isMissing cellOf lessThan aboveZero cellIn isInk Rattle.words.specs.Words.onto grown words isReturn Rattle.lines.specs.Lines.onto linesOf isAllowed lineFault faultFrom bytesFault cut meaning namesOf placeFrom meaningAt meaningOf inside closing isJoint inParts isClosed isFormed plain spelled argument carried keyOf begins isChange noneOr isRemark changeTo changeOf Rattle.texts.specs.Texts.onto textsFrom rest past isSized isBracketed oneOf needsNoModel isNoModel isModelName isPinModel isPinName oneWord isFileByte isFileName firstWord otherWords nameOf lineAt isNameAlone wordFrom namedWord afterName soleNumber behindEquals assignedNumber threeCells namedCells rowOf slopeFrom slopeOf slopeOrMissing upward threeSlopes namedSlopes wordFault locations modelTypes polarities enables has with unless refuse firstOf version headerPart headerLine headerDone heading pinNames cellsFault pinRow componentPart componentDone selectorLine selectorShut firstFault isInput isDriven withFirst rises rampLineFault beginsLetter waveformLine singlePart waveformPart tableFault modelDone onBegun named lists count firstFailing admitEntry thirdWord runs lastChecks textsOf outcome
+unfolding answered starred isBlank isDigit isCapital isSmall isLetter capital small front after keep trim all among other eqs isMinus afterSign pointPlaces afterPoint places figures afterFigures numeralFrom numeral isZero significant zerosCut afterE exponentDigits plusExponent minusExponent letters scaleUp scaleDown ranged resultOf unsigned numberOf isMissing cellOf lessThan aboveZero cellIn isInk Rattle.words.specs.Words.onto grown words isReturn Rattle.lines.specs.Lines.onto linesOf isAllowed lineFault faultFrom bytesFault cut meaning namesOf placeFrom meaningAt meaningOf inside closing isJoint inParts isClosed isFormed plain spelled argument carried keyOf begins isChange noneOr isRemark changeTo changeOf Rattle.cut_lines.specs.Texts.onto textsFrom rest past isSized isBracketed oneOf needsNoModel isNoModel isModelName isPinModel isPinName oneWord isFileByte isFileName firstWord otherWords nameOf lineAt isNameAlone wordFrom namedWord afterName soleNumber behindEquals assignedNumber threeCells namedCells rowOf slopeFrom slopeOf slopeOrMissing upward threeSlopes namedSlopes wordFault locations modelTypes polarities enables has with unless refuse firstOf version headerPart headerLine headerDone heading pinNames cellsFault pinRow componentPart componentDone selectorLine selectorShut firstFault isInput isDriven withFirst rises rampLineFault beginsLetter waveformLine singlePart waveformPart tableFault modelDone onBegun named lists count firstFailing admitEntry thirdWord runs lastChecks textsOf outcome
 examples = refl

@@ -2,18 +2,18 @@
 // The first argument is the file's name.
 mod summary; // summary.rt: the summary of a shelf
 
-use answers::Verdict;
-use lines::Fault;
+use records::Fault;
+use records::Verdict;
 
 fn print_refusal(name: &[u8], src: &[u8], fault: Fault) {
     let mut out = io::large_buffer();
-    let n = explained::put_refusal(&mut out, 0, name, src, fault);
-    printed::put_out(&out, n);
+    let n = explain_text::put_refusal(&mut out, 0, name, src, fault);
+    program_output::put_out(&out, n);
 }
 
 fn print_file(name: &[u8], src: &[u8]) {
-    match answers::check(src, printed::files::lent_lengths(8192)) {
-        Verdict::Accepted => summary::print_summary(name, shelf::loaded(src)),
+    match file_answer::check(src, program_output::files::lent_lengths(8192)) {
+        Verdict::Accepted => summary::print_summary(name, program_tables::loaded(src)),
         Verdict::Refused(f) => print_refusal(name, src, f),
     }
 }
@@ -21,7 +21,7 @@ fn print_file(name: &[u8], src: &[u8]) {
 fn main() {
     let mut name = io::buffer();
     let n = os::arg(1, &mut name);
-    let mut src = printed::files::file_buffer();
+    let mut src = program_output::files::file_buffer();
     let m = io::read_full(0, &mut src);
     if n == 0 {
         print_file(b"standard input", &src[..m]);

@@ -1,16 +1,16 @@
 // The summary of a shelf on standard output: the file, and each component with its pins in columns as wide as their names.
-use chosen::Chosen;
-use explained::Widths;
-use noted::Counts;
-use printed::put_out;
-use rules::Choice;
-use rules::Component;
-use rules::Model;
-use rules::Name;
-use rules::Pin;
-use rules::Selector;
-use rules::Span;
-use shelf::Shelf;
+use explain_text::Widths;
+use program_output::put_out;
+use program_tables::Shelf;
+use questions::Chosen;
+use records::Choice;
+use records::Component;
+use records::Counts;
+use records::Model;
+use records::Name;
+use records::Pin;
+use records::Selector;
+use records::Span;
 
 // ---- how wide the columns are: as their headings, or as the longest name
 
@@ -51,7 +51,7 @@ fn widths_of(pins: [Pin; 512], used: usize, model: usize) -> Widths {
 
 fn print_bare_pin(w: Widths, p: Pin) {
     let mut out = io::buffer();
-    let n = explained::put_bare_pin(&mut out, 0, w, p);
+    let n = explain_text::put_bare_pin(&mut out, 0, w, p);
     put_out(&out, n);
 }
 
@@ -60,7 +60,7 @@ fn print_pin(w: Widths, p: Pin, models: [Model; 64], choice: Chosen) {
         Chosen::Model(k) => {
             if k < 64 {
                 let mut out = io::buffer();
-                let n = explained::put_pin(&mut out, 0, w, p, models[k]);
+                let n = explain_text::put_pin(&mut out, 0, w, p, models[k]);
                 put_out(&out, n);
             }
         }
@@ -79,8 +79,8 @@ fn print_pins(
 ) {
     for i in 0..512 {
         let p = pins[i];
-        if printed::holds(span, i) {
-            let choice = chosen::tables::model_for(selectors, choices, models, counts, p);
+        if program_output::holds(span, i) {
+            let choice = questions::tables::model_for(selectors, choices, models, counts, p);
             print_pin(w, p, models, choice);
         }
     }
@@ -88,8 +88,8 @@ fn print_pins(
 
 fn print_component(c: Component, w: Widths) {
     let mut out = io::buffer();
-    let n = explained::put_component(&mut out, 0, c);
-    let m = explained::put_heading(&mut out, n, w);
+    let n = explain_text::put_component(&mut out, 0, c);
+    let m = explain_text::put_heading(&mut out, n, w);
     put_out(&out, m);
 }
 
@@ -121,8 +121,8 @@ pub(crate) fn print_summary(name: &[u8], t: Shelf) {
     let choices = t.choices;
     let models = t.models;
     let mut out = io::large_buffer();
-    let n = explained::put_header(&mut out, 0, name, a.header);
-    let m = explained::put_counts(&mut out, n, counts);
+    let n = explain_text::put_header(&mut out, 0, name, a.header);
+    let m = explain_text::put_counts(&mut out, n, counts);
     put_out(&out, m);
     let w = widths_of(pins, counts.pins, model_width(models, counts.models));
     print_components(w, components, pins, selectors, choices, models, counts);

@@ -1,12 +1,26 @@
--- Laws of `rules/specs/Given.antt`: past the tenth nothing is given, and nothing changes.
-use Prim.Native.Nat.{ℕ, _≤_}
-use mathlib.Core.Path.{_≡_}
-use mathlib.Core.Bool.{false}
+-- Laws of `specs/Given.antt`: what is given is given; past the tenth nothing is given, and nothing changes.
+use Prim.Native.Nat.{ℕ, zero, suc, _≤_, _<_}
+use mathlib.Core.Path.{_≡_, refl}
+use mathlib.Core.Bool.{true, false}
 use native.Mathlib.Omega.{arith}
 use lib.ListN.{List·getD-eq-default}
 use borrow.Author.Tests.{ne-eqb}
-use Rattle.rules.specs.Given.{flags, has, with}
-use Rattle.rules.specs.declared.Given.{Given}
+use Rattle.given.specs.Given.{flags, has, with}
+use Rattle.given.specs.declared.Given.{Given}
+
+pub has-with : (x : Given) (k : ℕ) → k < 10 → has (with x k) k ≡ true
+unfolding has with
+has-with x zero h = refl
+has-with x (suc zero) h = refl
+has-with x (suc (suc zero)) h = refl
+has-with x (suc (suc (suc zero))) h = refl
+has-with x (suc (suc (suc (suc zero)))) h = refl
+has-with x (suc (suc (suc (suc (suc zero))))) h = refl
+has-with x (suc (suc (suc (suc (suc (suc zero)))))) h = refl
+has-with x (suc (suc (suc (suc (suc (suc (suc zero))))))) h = refl
+has-with x (suc (suc (suc (suc (suc (suc (suc (suc zero)))))))) h = refl
+has-with x (suc (suc (suc (suc (suc (suc (suc (suc (suc zero))))))))) h = refl
+has-with x (suc (suc (suc (suc (suc (suc (suc (suc (suc (suc k)))))))))) h = absurd (omega arith)
 
 pub has-past : (x : Given) (k : ℕ) → 10 ≤ k → has x k ≡ false
 unfolding has

@@ -1,10 +1,20 @@
-// What was given so far, of up to ten things; and a fault as a step's answer.
+// What was given so far, of up to ten things: lines of a list, or keywords of a section.
 ghost use mathlib.Core.Path.{_≡_};
-ghost use Rattle.rules.specs.Given.{noneGiven, has, with};
-ghost use Rattle.rules.specs.Going.{stop};
-use lines::Fault;
-use rules::Given;
-use rules::Went;
+ghost use Rattle.given.specs.Given.{noneGiven, has, with};
+
+// Which of up to ten things were given, by their places in document 01's list of them.
+pub struct Given {
+    pub a: bool,
+    pub b: bool,
+    pub c: bool,
+    pub d: bool,
+    pub e: bool,
+    pub f: bool,
+    pub g: bool,
+    pub h: bool,
+    pub i: bool,
+    pub j: bool,
+}
 
 pub fn none_given() -> Given
     ensures { λ r. ⌜ r ≡ noneGiven ⌝ }
@@ -81,11 +91,4 @@ pub fn also(x: Given, k: usize) -> Given
         _ => {}
     }
     y
-}
-
-// Fault n, told at line k.
-pub fn stopped(n: u8, k: u64) -> Went
-    ensures { λ r. ⌜ r ≡ stop n k ⌝ }
-{
-    Went::Stop(Fault { number: n, line: k })
 }

@@ -1,7 +1,7 @@
 -- `front` and `after`: what a scan's place says of them. Three laws over any test prove every scanner.
 use Prim.Native.Nat.{ℕ, suc, _+_, _-_, _≤_, _<_}
 use mathlib.Core.Path.{_≡_, refl, sym, ap, _∙_}
-use mathlib.Core.List.{List, [], _∷_, _++_}
+use mathlib.Core.List.{List, [], _∷_, _++_, map}
 use mathlib.Core.Bool.{Bool, true, false, cond, not, _&&_}
 use native.Mathlib.Omega.{arith}
 use lib.ListN.{length, take, drop, getD, drop-of-length-le}
@@ -9,7 +9,7 @@ use lib.Seq.{take-take, drop-drop}
 use lib.Dec.{eqb, ltb}
 use borrow.Author.Tests.{eq-eqb, ne-eqb, eqb-true, eqb-false, lt-ltb, le-ltb, not-false}
 use Rattle.laws.specs.Lists.{front, after, all, among, other, part}
-use Rattle.laws.proofs.Tests.{by-test, by-order, and-right, and-both, and-first, and-second}
+use Rattle.laws.proofs.Tests.{by-test, by-order, cond-map, and-right, and-both, and-first, and-second}
 use Rattle.laws.proofs.Lists.{from-cons}
 
 module _ {A : Type 0} (p : A → Bool) where
@@ -181,3 +181,12 @@ unfolding all
 all-append p [] m h k = k
 all-append p (b ∷ bs) m h k =
     and-both (p b) (all p (bs ++ m)) (and-first (p b) (all p bs) h) (all-append p bs m (and-second (p b) (all p bs) h) k)
+
+-- of a list whose elements were changed, where the test does not look at the change
+pub front-map : {A B : Type 0} (p : B → Bool) (q : A → Bool) (g : A → B) → ((a : A) → p (g a) ≡ q a) → (l : List A) → front p (map g l) ≡ map g (front q l)
+unfolding front
+front-map p q g e [] = refl
+front-map p q g e (a ∷ l) =
+    ap (λ (t : Bool). cond t (g a ∷ front p (map g l)) []) (e a)
+    ∙ ap (λ (m : List _). cond (q a) (g a ∷ m) []) (front-map p q g e l)
+    ∙ sym (cond-map (map g) (q a) (a ∷ front q l) [])

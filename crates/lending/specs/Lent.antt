@@ -3,16 +3,16 @@ use Prim.Native.Nat.{ℕ}
 use mathlib.Core.List.{List, []}
 use lib.ListN.{replicate}
 use Rattle.decimal.specs.declared.Cell.the-variants.{Missing}
-use Rattle.laid.specs.Laid.{nameLaid}
-use Rattle.rules.specs.declared.Component.{Component}
-use Rattle.rules.specs.declared.Pin.{Pin}
-use Rattle.rules.specs.declared.Selector.{Selector}
-use Rattle.rules.specs.declared.Choice.{Choice}
-use Rattle.rules.specs.declared.Model.{Model}
-use Rattle.rules.specs.declared.Waveform.{Waveform}
-use Rattle.answers.specs.declared.Answer.{Answer}
+use Rattle.records.specs.Stored.{nameLaid}
+use Rattle.records.specs.declared.Component.{Component}
+use Rattle.records.specs.declared.Pin.{Pin}
+use Rattle.records.specs.declared.Selector.{Selector}
+use Rattle.records.specs.declared.Choice.{Choice}
+use Rattle.records.specs.declared.Model.{Model}
+use Rattle.records.specs.declared.Waveform.{Waveform}
+use Rattle.records.specs.declared.Answer.{Answer}
 use Rattle.reader.specs.Promise.{Read}
-use Rattle.shelf.specs.Shelved.{blankComponent, blankSelector, blankChoice, blankModel, blankWaveform}
+use Rattle.program_tables.specs.Shelved.{blankComponent, blankSelector, blankChoice, blankModel, blankWaveform}
 use Rattle.lending.specs.declared.Enough.{Enough}
 use Rattle.lending.specs.declared.Scant.{Scant}
 

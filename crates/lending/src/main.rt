@@ -2,17 +2,17 @@
 // for one pin. Printed are the verdict, every pin record, and the words past the rows that are used: what is not used keeps what it held.
 ghost use mathlib.Core.Path.{_≡_};
 ghost use Rattle.lending.specs.Lent.{sparePin, oneComponent, threePins, noSelectors, noChoices, twoModels, oneWaveform, manyWords, fewWords, enoughOf, scantOf, ReadEnough, ReadScant};
-use answers::Answer;
-use answers::Verdict;
-use noted::Counts;
-use rules::Choice;
-use rules::Component;
-use rules::Lengths;
-use rules::Model;
-use rules::Name;
-use rules::Pin;
-use rules::Selector;
-use rules::Waveform;
+use records::Answer;
+use records::Choice;
+use records::Component;
+use records::Counts;
+use records::Lengths;
+use records::Model;
+use records::Name;
+use records::Pin;
+use records::Selector;
+use records::Verdict;
+use records::Waveform;
 
 // An answer and the tables as they are left: seven rows, and three words that hold no row.
 struct Enough {
@@ -43,7 +43,7 @@ struct Scant {
 fn one_component() -> [Component; 1]
     ensures { λ r. ⌜ r ≡ oneComponent ⌝ }
 {
-    let component = shelf::blank_component();
+    let component = program_tables::blank_component();
     [component; 1]
 }
 
@@ -55,7 +55,7 @@ fn spare_pin() -> Pin
         bytes: [b'x'; 40],
         len: 5,
     };
-    let mut pin = shelf::blank_pin();
+    let mut pin = program_tables::blank_pin();
     pin.name = name;
     pin
 }
@@ -70,28 +70,28 @@ fn three_pins() -> [Pin; 3]
 fn no_selectors() -> [Selector; 0]
     ensures { λ r. ⌜ r ≡ noSelectors ⌝ }
 {
-    let selector = shelf::blank_selector();
+    let selector = program_tables::blank_selector();
     [selector; 0]
 }
 
 fn no_choices() -> [Choice; 0]
     ensures { λ r. ⌜ r ≡ noChoices ⌝ }
 {
-    let choice = shelf::blank_choice();
+    let choice = program_tables::blank_choice();
     [choice; 0]
 }
 
 fn two_models() -> [Model; 2]
     ensures { λ r. ⌜ r ≡ twoModels ⌝ }
 {
-    let model = shelf::blank_model();
+    let model = program_tables::blank_model();
     [model; 2]
 }
 
 fn one_waveform() -> [Waveform; 1]
     ensures { λ r. ⌜ r ≡ oneWaveform ⌝ }
 {
-    let waveform = shelf::blank_waveform();
+    let waveform = program_tables::blank_waveform();
     [waveform; 1]
 }
 
@@ -227,12 +227,12 @@ fn print_verdict(verdict: Verdict, counts: Counts) {
     let mut out = io::buffer();
     match verdict {
         Verdict::Accepted => {
-            let n = dumped::accepted_line(&mut out, 0, counts);
-            printed::put_out(&out, n);
+            let n = dump_text::accepted_line(&mut out, 0, counts);
+            program_output::put_out(&out, n);
         }
         Verdict::Refused(f) => {
-            let n = shown::refused_line(&mut out, 0, f);
-            printed::put_out(&out, n);
+            let n = text_buffer::refused_line(&mut out, 0, f);
+            program_output::put_out(&out, n);
         }
     }
 }
@@ -245,8 +245,8 @@ fn print_answer(a: Answer) {
 fn print_pins(pins: [Pin; 3]) {
     for i in 0..3 {
         let mut out = io::buffer();
-        let n = dumped::pin_line(&mut out, 0, pins[i]);
-        printed::put_out(&out, n);
+        let n = dump_text::pin_line(&mut out, 0, pins[i]);
+        program_output::put_out(&out, n);
     }
 }
 
@@ -256,10 +256,10 @@ fn print_words(rows: &[u64], used: usize) {
     for i in 0..words {
         if used <= i / 4 {
             let mut out = io::buffer();
-            let n = shown::put_bytes(&mut out, 0, b"WORD ");
-            let m = shown::put_number(&mut out, n, rows[i]);
-            let k = shown::put_byte(&mut out, m, b'\n');
-            printed::put_out(&out, k);
+            let n = text_buffer::put_bytes(&mut out, 0, b"WORD ");
+            let m = text_buffer::put_number(&mut out, n, rows[i]);
+            let k = text_buffer::put_byte(&mut out, m, b'\n');
+            program_output::put_out(&out, k);
         }
     }
 }
@@ -291,7 +291,7 @@ fn print_readings(src: &[u8]) {
 }
 
 fn main() {
-    let mut src = printed::files::file_buffer();
+    let mut src = program_output::files::file_buffer();
     let n = io::read_full(0, &mut src);
     print_readings(&src[..n]);
 }

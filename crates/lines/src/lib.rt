@@ -6,17 +6,12 @@ ghost use Rattle.laws.specs.Lists.{front};
 ghost use Rattle.lines.specs.Lines.{isAllowed, linesOf, faultFrom, bytesFault, cut};
 ghost use Rattle.lines.specs.Places.{checked, Goes, lineAt, passed};
 ghost use Rattle.lines.specs.Breaks.{breakOf};
+use records::Fault;
 
 // The bytes of a file and the characters of a line at the most.
 const FILE: usize = 65536;
 
 const LINE: usize = 120;
-
-// A fault of document 01: its number and the line told.
-pub struct Fault {
-    pub number: u8,
-    pub line: u64,
-}
 
 // What the bytes of a file say before anything else is looked at.
 pub enum Bytes {

@@ -1,7 +1,7 @@
--- An answer as plain data for the walks of `slices`.
-use Rattle.slices.proofs.Elem.{Data, Elem, of-struct, struct-elem}
-use Rattle.answers.proofs.Answer as Answer
-use Rattle.answers.proofs.Answer.Laws as Answer′
+-- An answer as plain data for the walks of `table_walks`.
+use Rattle.table_walks.proofs.Elem.{Data, Elem, of-struct, struct-elem}
+use Rattle.records.proofs.Answer as Answer
+use Rattle.records.proofs.Answer.Laws as Answer′
 
 abbrev pub answer : Data
 answer = of-struct Answer.the-type Answer′.the-laws

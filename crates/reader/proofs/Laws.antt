@@ -5,25 +5,26 @@ use mathlib.Core.List.{List, []}
 use native.Mathlib.Omega.{arith}
 use native.Mathlib.Nat.{le-refl}
 use lib.ListN.{length, replicate, length-replicate}
-use Rattle.slices.specs.Filled.{filledTo}
+use Rattle.table_walks.specs.Filled.{filledTo}
 use Rattle.rules.specs.Reading.{fileIn}
-use Rattle.laid.specs.Laid.{laid, stored, over}
+use Rattle.layout.specs.Laid.{laid}
+use Rattle.records.specs.Stored.{stored, over}
 use Rattle.rules.specs.Whole.{Outcome, passed, refused, outcome, textsOf}
-use Rattle.rules.specs.declared.Lengths.{Lengths}
-use Rattle.rules.specs.declared.Component.{Component}
-use Rattle.rules.specs.declared.Pin.{Pin}
-use Rattle.rules.specs.declared.Selector.{Selector}
-use Rattle.rules.specs.declared.Choice.{Choice}
-use Rattle.rules.specs.declared.Model.{Model}
-use Rattle.rules.specs.declared.Waveform.{Waveform}
-use Rattle.noted.specs.declared.Counts.{Counts}
-use Rattle.noted.specs.Noted.{nothingUsed}
-use Rattle.store.specs.Store.{storeLength}
-use Rattle.laying.specs.Lies.{countsOf}
-use Rattle.made.specs.Made.{componentAt, pinAt, selectorAt, choiceAt, modelAt, waveformAt, rowsAt}
-use Rattle.answers.specs.Answered.{answerFor, answerOf}
-use Rattle.answers.specs.Sorted.{Sorted, SortedFor, Outlines}
-use Rattle.answers.specs.declared.Answer.{Answer}
+use Rattle.records.specs.declared.Lengths.{Lengths}
+use Rattle.records.specs.declared.Component.{Component}
+use Rattle.records.specs.declared.Pin.{Pin}
+use Rattle.records.specs.declared.Selector.{Selector}
+use Rattle.records.specs.declared.Choice.{Choice}
+use Rattle.records.specs.declared.Model.{Model}
+use Rattle.records.specs.declared.Waveform.{Waveform}
+use Rattle.records.specs.declared.Counts.{Counts}
+use Rattle.notes.specs.Noted.{nothingUsed}
+use Rattle.note_words.specs.Store.{storeLength}
+use Rattle.layout_by_notes.specs.Lies.{countsOf}
+use Rattle.from_notes.specs.Made.{componentAt, pinAt, selectorAt, choiceAt, modelAt, waveformAt, rowsAt}
+use Rattle.file_answer.specs.Answered.{answerFor, answerOf}
+use Rattle.file_answer.specs.Sorted.{Sorted, SortedFor, Outlines}
+use Rattle.records.specs.declared.Answer.{Answer}
 use Rattle.reader.specs.Promise.{lent, lengthsIn, left, Read}
 use Rattle.reader.specs.Filling.{rowsFit, rowsFilled, blankNotes}
 use Rattle.reader.proofs.Tables.{file, fit, over-filled, components-made, pins-made, selectors-made, choices-made, models-made, waveforms-made, rows-made, rows-fit}

@@ -4,12 +4,13 @@ use mathlib.Core.Path.{_≡_, refl, sym, ap, _∙_}
 use mathlib.Core.List.{List, [], _∷_, _++_}
 use lib.ListN.{length, drop}
 use Rattle.rules.specs.Reading.{fileIn}
-use Rattle.laid.specs.Laid.{Laid, laid, over}
+use Rattle.layout.specs.Laid.{Laid, laid}
+use Rattle.records.specs.Stored.{over}
 use Rattle.rules.specs.Whole.{Held, passed, refused, outcome, textsOf}
-use Rattle.rules.specs.declared.Model.{Model}
-use Rattle.answers.specs.Answered.{answerFor, answerOf}
-use Rattle.answers.specs.declared.Answer.{Answer}
-use Rattle.answers.specs.declared.Verdict.the-variants.{Accepted, Refused}
+use Rattle.records.specs.declared.Model.{Model}
+use Rattle.file_answer.specs.Answered.{answerFor, answerOf}
+use Rattle.records.specs.declared.Answer.{Answer}
+use Rattle.records.specs.declared.Verdict.the-variants.{Accepted, Refused}
 use Rattle.reader.specs.Promise.{Lent, lengthsIn, left, Reads}
 
 pub one-answer : (s : List ℕ) (t : Lent) (r p : Answer) (u v : Lent) → Reads s t r u → Reads s t p v → r ≡ p

@@ -4,22 +4,23 @@ use mathlib.Core.Path.{_≡_, refl, sym, ap, _∙_, subst}
 use mathlib.Core.List.{List, [], _∷_, _++_, map, reverse, flatMap, append-assoc, append-nil}
 use native.Mathlib.Omega.{arith}
 use lib.ListN.{length, drop, length-append, length-map, length-reverse}
-use Rattle.slices.specs.Filled.{filledTo}
+use Rattle.table_walks.specs.Filled.{filledTo}
 use Rattle.rules.specs.Reading.{fileIn}
-use Rattle.laid.specs.Laid.{Laid, laid, stored, rowWords, over}
+use Rattle.layout.specs.Laid.{Laid, laid}
+use Rattle.records.specs.Stored.{stored, rowWords, over}
 use Rattle.rules.specs.Whole.{Outcome, passed, refused, outcome, textsOf}
-use Rattle.rules.specs.declared.Lengths.{Lengths}
-use Rattle.rules.specs.declared.Row.{Row}
-use Rattle.rules.specs.declared.Kind.the-variants.{OfComponent, OfPin, OfSelector, OfChoice, OfModel}
-use Rattle.noted.specs.Noted.{Note}
-use Rattle.noted.specs.declared.Counts.{Counts}
-use Rattle.store.specs.Store.{waveAt}
-use Rattle.laying.specs.Lies.{noted, componentNoted, pinNoted, selectorNoted, choiceNoted, modelNoted, waveNoted, rowsNoted, countsOf, Lies, Fits}
-use Rattle.laying.proofs.Lists.{flat-append}
-use Rattle.laying.proofs.Tables.{lies, fits}
-use Rattle.made.specs.Made.{noteBy, componentAt, pinAt, selectorAt, choiceAt, modelAt, waveformAt, rowsAt}
-use Rattle.answers.specs.Sorted.{upTo, Sorted}
-use Rattle.answers.proofs.UpTo.{upTo-length, map-upTo, filled-upTo}
+use Rattle.records.specs.declared.Lengths.{Lengths}
+use Rattle.records.specs.declared.Row.{Row}
+use Rattle.records.specs.declared.Kind.the-variants.{OfComponent, OfPin, OfSelector, OfChoice, OfModel}
+use Rattle.notes.specs.Noted.{Note}
+use Rattle.records.specs.declared.Counts.{Counts}
+use Rattle.note_words.specs.Store.{waveAt}
+use Rattle.layout_by_notes.specs.Lies.{noted, componentNoted, pinNoted, selectorNoted, choiceNoted, modelNoted, waveNoted, rowsNoted, countsOf, Lies, Fits}
+use Rattle.layout_by_notes.proofs.Lists.{flat-append}
+use Rattle.layout_by_notes.proofs.Tables.{lies, fits}
+use Rattle.from_notes.specs.Made.{noteBy, componentAt, pinAt, selectorAt, choiceAt, modelAt, waveformAt, rowsAt}
+use Rattle.file_answer.specs.Sorted.{upTo, Sorted}
+use Rattle.file_answer.proofs.UpTo.{upTo-length, map-upTo, filled-upTo}
 
 -- ---- over any table
 

@@ -2,9 +2,9 @@
 use Prim.Native.Nat.{ℕ, _≤_}
 use mathlib.Core.List.{List}
 use lib.ListN.{length, replicate}
-use Rattle.laid.specs.Laid.{stored, over}
-use Rattle.noted.specs.declared.Counts.{Counts}
-use Rattle.made.specs.Made.{rowsAt}
+use Rattle.records.specs.Stored.{stored, over}
+use Rattle.records.specs.declared.Counts.{Counts}
+use Rattle.from_notes.specs.Made.{rowsAt}
 
 -- the rows of all models, one after the other, over what the row store held
 unfoldable pub rowsFit : List ℕ → List ℕ → Counts → List ℕ → Type 0

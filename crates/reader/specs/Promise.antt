@@ -4,17 +4,18 @@ use mathlib.Core.Path.{_≡_}
 use mathlib.Core.List.{List}
 use lib.ListN.{length}
 use Rattle.rules.specs.Reading.{fileIn}
-use Rattle.laid.specs.Laid.{Laid, laid, stored, over}
+use Rattle.layout.specs.Laid.{Laid, laid}
+use Rattle.records.specs.Stored.{stored, over}
 use Rattle.rules.specs.Whole.{Outcome, passed, refused, outcome, textsOf}
-use Rattle.rules.specs.declared.Lengths.{Lengths}
-use Rattle.rules.specs.declared.Component.{Component}
-use Rattle.rules.specs.declared.Pin.{Pin}
-use Rattle.rules.specs.declared.Selector.{Selector}
-use Rattle.rules.specs.declared.Choice.{Choice}
-use Rattle.rules.specs.declared.Model.{Model}
-use Rattle.rules.specs.declared.Waveform.{Waveform}
-use Rattle.answers.specs.Answered.{answerOf}
-use Rattle.answers.specs.declared.Answer.{Answer}
+use Rattle.records.specs.declared.Lengths.{Lengths}
+use Rattle.records.specs.declared.Component.{Component}
+use Rattle.records.specs.declared.Pin.{Pin}
+use Rattle.records.specs.declared.Selector.{Selector}
+use Rattle.records.specs.declared.Choice.{Choice}
+use Rattle.records.specs.declared.Model.{Model}
+use Rattle.records.specs.declared.Waveform.{Waveform}
+use Rattle.file_answer.specs.Answered.{answerOf}
+use Rattle.records.specs.declared.Answer.{Answer}
 
 -- the lent tables, with all that lies in them
 pub record Lent : Type 0 where

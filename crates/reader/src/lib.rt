@@ -2,20 +2,20 @@
 ghost use mathlib.Core.Path.{_≡_};
 ghost use Prim.Native.Nat.{_<_, _≤_};
 ghost use lib.ListN.{length, set};
-ghost use Rattle.slices.specs.Filled.{filledTo};
-ghost use Rattle.made.specs.Made.{componentAt, pinAt, selectorAt, choiceAt, modelAt, waveformAt};
+ghost use Rattle.table_walks.specs.Filled.{filledTo};
+ghost use Rattle.from_notes.specs.Made.{componentAt, pinAt, selectorAt, choiceAt, modelAt, waveformAt};
 ghost use Rattle.reader.specs.Filling.{rowsFit, rowsFilled};
 ghost use Rattle.reader.specs.Promise.{lengthsOf, Read};
-use answers::Answer;
-pub use answers::check;
-use noted::Counts;
-use rules::Choice;
-use rules::Component;
-use rules::Lengths;
-use rules::Model;
-use rules::Pin;
-use rules::Selector;
-use rules::Waveform;
+pub use file_answer::check;
+use records::Answer;
+use records::Choice;
+use records::Component;
+use records::Counts;
+use records::Lengths;
+use records::Model;
+use records::Pin;
+use records::Selector;
+use records::Waveform;
 
 fn lengths_of(
     components: usize,
@@ -134,7 +134,7 @@ fn fill_components(components: &mut [Component], src: &[u8], notes: &[u32], o: C
     let n = component_count(o);
     let mut i = 0;
     while i < n {
-        let component = made::component_at(src, notes, i);
+        let component = from_notes::component_at(src, notes, i);
         put_component(components, i, component);
         i += 1;
     }
@@ -147,7 +147,7 @@ fn fill_pins(pins: &mut [Pin], src: &[u8], notes: &[u32], o: Counts)
     let n = pin_count(o);
     let mut i = 0;
     while i < n {
-        let pin = made::pin_at(src, notes, i);
+        let pin = from_notes::pin_at(src, notes, i);
         put_pin(pins, i, pin);
         i += 1;
     }
@@ -160,7 +160,7 @@ fn fill_selectors(selectors: &mut [Selector], src: &[u8], notes: &[u32], o: Coun
     let n = selector_count(o);
     let mut i = 0;
     while i < n {
-        let selector = made::selector_at(src, notes, i);
+        let selector = from_notes::selector_at(src, notes, i);
         put_selector(selectors, i, selector);
         i += 1;
     }
@@ -173,7 +173,7 @@ fn fill_choices(choices: &mut [Choice], src: &[u8], notes: &[u32], o: Counts)
     let n = choice_count(o);
     let mut i = 0;
     while i < n {
-        let choice = made::choice_at(src, notes, i);
+        let choice = from_notes::choice_at(src, notes, i);
         put_choice(choices, i, choice);
         i += 1;
     }
@@ -186,7 +186,7 @@ fn fill_models(models: &mut [Model], src: &[u8], notes: &[u32], o: Counts)
     let n = model_count(o);
     let mut i = 0;
     while i < n {
-        let model = made::model_at(src, notes, i);
+        let model = from_notes::model_at(src, notes, i);
         put_model(models, i, model);
         i += 1;
     }
@@ -199,7 +199,7 @@ fn fill_waveforms(waveforms: &mut [Waveform], src: &[u8], notes: &[u32], o: Coun
     let n = waveform_count(o);
     let mut i = 0;
     while i < n {
-        let waveform = made::waveform_at(src, notes, i);
+        let waveform = from_notes::waveform_at(src, notes, i);
         put_waveform(waveforms, i, waveform);
         i += 1;
     }
@@ -210,7 +210,7 @@ fn fill_rows(rows: &mut [u64], src: &[u8], notes: &[u32], o: Counts)
     requires { ⌜ rowsFit (now src) (now notes) o (now rows) ⌝ }
     ensures { λ _. ⌜ now (rows .exit) ≡ rowsFilled (now (src .entry)) (now (notes .entry)) o (now (rows .entry)) ⌝ }
 {
-    made::fill_rows(rows, src, notes, o.models);
+    from_notes::fill_rows(rows, src, notes, o.models);
 }
 
 // Reads a file into the lent tables.
@@ -236,7 +236,7 @@ pub fn read(
         waveforms.len(),
         rows.len(),
     );
-    let a = answers::outlined(src, l, &mut notes);
+    let a = file_answer::outlined(src, l, &mut notes);
     let o = counts_of(a);
     fill_components(components, src, &notes, o);
     fill_pins(pins, src, &notes, o);

@@ -1,2 +1,2 @@
--- The records of the tables, for the walks.
-pub mod Tables
+-- What the definitions must keep.
+pub mod Sanity

@@ -1,1 +1,241 @@
-// The records of the tables, as the elements of lent slices that the walks of `slices` ask for. No code.
+// The types that everybody needs: the records of the tables, the counts, what is named in a file, and a fault with its line. No code.
+use decimal::Cell;
+use decimal::Decimal;
+
+// ---- faults and answers
+
+// A fault of document 01: its number and the line told.
+pub struct Fault {
+    pub number: u8,
+    pub line: u64,
+}
+
+pub enum Verdict {
+    Accepted,
+    Refused(Fault),
+}
+
+// How much of each table a file uses.
+pub struct Counts {
+    pub components: usize,
+    pub pins: usize,
+    pub selectors: usize,
+    pub choices: usize,
+    pub models: usize,
+    pub waveforms: usize,
+    pub rows: usize,
+}
+
+// The lengths of the lent tables; of the rows, whole rows of four words.
+pub struct Lengths {
+    pub components: usize,
+    pub pins: usize,
+    pub selectors: usize,
+    pub choices: usize,
+    pub models: usize,
+    pub waveforms: usize,
+    pub rows: usize,
+}
+
+pub struct Header {
+    pub name: Words,
+    pub revision: Words,
+}
+
+// On refusal all counts are 0 and the texts are empty.
+pub struct Answer {
+    pub verdict: Verdict,
+    pub counts: Counts,
+    pub header: Header,
+}
+
+// ---- texts and numbers in records
+
+// A name of 1 to 40 bytes, then zeros.
+pub struct Name {
+    pub bytes: [u8; 40],
+    pub len: u8,
+}
+
+// The file's name, its revision or a description: up to 120 bytes, then zeros.
+pub struct Words {
+    pub bytes: [u8; 120],
+    pub len: u8,
+}
+
+// Three cells: typ, min, max.
+pub struct Triple {
+    pub typ: Cell,
+    pub min: Cell,
+    pub max: Cell,
+}
+
+// A row of a table: a number and three cells.
+pub struct Row {
+    pub number: Decimal,
+    pub cells: Triple,
+}
+
+// A cell of a ramp: two numbers with `/` between, each exact, or missing.
+pub enum RampCell {
+    Ratio { dividend: Decimal, divisor: Decimal },
+    Absent,
+}
+
+pub struct RampTriple {
+    pub typ: RampCell,
+    pub min: RampCell,
+    pub max: RampCell,
+}
+
+// The records of a section that lie in another table: the first one's place, and how many.
+pub struct Span {
+    pub start: usize,
+    pub count: usize,
+}
+
+// ---- words that have one of a few meanings
+
+pub enum Location {
+    AtPin,
+    AtDie,
+}
+
+pub enum ModelType {
+    Input,
+    Output,
+    InputOutput,
+    ThreeState,
+    OpenDrain,
+    InputOutputOpenDrain,
+    OpenSink,
+    InputOutputOpenSink,
+    OpenSource,
+    InputOutputOpenSource,
+    InputEcl,
+    OutputEcl,
+    InputOutputEcl,
+    ThreeStateEcl,
+    Terminator,
+}
+
+// Polarity and Enable may be left out.
+pub enum Polarity {
+    NoPolarity,
+    Inverting,
+    NonInverting,
+}
+
+pub enum Enable {
+    NoEnable,
+    ActiveHigh,
+    ActiveLow,
+}
+
+pub enum Edge {
+    Rising,
+    Falling,
+}
+
+// ---- what is named in a file
+
+// What is named in a file.
+pub enum Kind {
+    OfComponent,
+    OfPin,
+    OfSelector,
+    OfChoice,
+    OfModel,
+}
+
+// ---- the records of the lent tables
+
+// section is the place among all sections of the file, from 0.
+pub struct Component {
+    pub section: usize,
+    pub name: Name,
+    pub si: Location,
+    pub timing: Location,
+    pub manufacturer: Name,
+    pub resistance: Triple,
+    pub inductance: Triple,
+    pub capacitance: Triple,
+    pub pins: Span,
+}
+
+// model in capitals where it is a reserved word.
+pub struct Pin {
+    pub name: Name,
+    pub signal: Name,
+    pub model: Name,
+    pub resistance: Cell,
+    pub inductance: Cell,
+    pub capacitance: Cell,
+}
+
+pub struct Selector {
+    pub section: usize,
+    pub name: Name,
+    pub choices: Span,
+}
+
+pub struct Choice {
+    pub model: Name,
+    pub description: Words,
+}
+
+// A table's rows in the row store, if the table is given.
+pub struct Table {
+    pub given: bool,
+    pub rows: Span,
+}
+
+// Three cells, if they are given.
+pub struct Range {
+    pub given: bool,
+    pub cells: Triple,
+}
+
+pub struct RampTable {
+    pub given: bool,
+    pub rise: RampTriple,
+    pub fall: RampTriple,
+    pub load: Cell,
+}
+
+pub struct Model {
+    pub section: usize,
+    pub name: Name,
+    pub kind: ModelType,
+    pub polarity: Polarity,
+    pub enable: Enable,
+    pub comp: Triple,
+    pub vinl: Cell,
+    pub vinh: Cell,
+    pub vmeas: Cell,
+    pub cref: Cell,
+    pub rref: Cell,
+    pub vref: Cell,
+    pub voltage: Triple,
+    pub temperature: Range,
+    pub pulldown: Table,
+    pub pullup: Table,
+    pub ground: Table,
+    pub power: Table,
+    pub ramp: RampTable,
+    pub waveforms: Span,
+}
+
+pub struct Waveform {
+    pub edge: Edge,
+    pub rfixture: Cell,
+    pub vfixture: Cell,
+    pub vmin: Cell,
+    pub vmax: Cell,
+    pub cfixture: Cell,
+    pub lfixture: Cell,
+    pub rdut: Cell,
+    pub ldut: Cell,
+    pub cdut: Cell,
+    pub rows: Span,
+}

@@ -5,19 +5,17 @@ use mathlib.Core.Bool.{Bool, true, false, cond, not, _&&_}
 use mathlib.Core.Option.{Option, none, some}
 use lib.ListN.{length}
 use lib.Dec.{eqb}
-use Rattle.laws.specs.Bytes.{bytes}
-use Rattle.laws.specs.Lists.{eqs}
 use Rattle.decimal.specs.Decimal.{cellOf}
 use Rattle.words.specs.Words.{words}
-use Rattle.names.specs.declared.Found.{Found}
-use Rattle.names.specs.declared.Found.the-variants.{At, Nothing}
-use Rattle.keyword.specs.declared.ComponentPart.{ComponentPart}
-use Rattle.keyword.specs.declared.ComponentPart.the-variants.{Manufacturer, Package, Pin}
-use Rattle.rules.specs.Fields.{isSized, isPinName, isPinModel, isSome, lineAt, wordFault, namedCells, tripleFault, cellFault}
-use Rattle.rules.specs.Given.{noneGiven, has, with}
-use Rattle.rules.specs.Tables.{componentLines, locations, packageLines}
+use Rattle.name_table.specs.declared.Found.{Found}
+use Rattle.name_table.specs.declared.Found.the-variants.{At, Nothing}
+use Rattle.keywords.specs.declared.ComponentPart.{ComponentPart}
+use Rattle.keywords.specs.declared.ComponentPart.the-variants.{Manufacturer, Package, Pin}
+use Rattle.line_rules.specs.Fields.{isSized, isPinName, isPinModel, isSome, lineAt, wordFault, namedCells, heading, tripleFault, cellFault}
+use Rattle.given.specs.Given.{noneGiven, has, with}
+use Rattle.line_rules.specs.Tables.{componentLines, locations, packageLines}
 use Rattle.rules.specs.Going.{stop, unless, refuse, firstOf, quietly}
-use Rattle.rules.specs.declared.Given.{Given}
+use Rattle.given.specs.declared.Given.{Given}
 use Rattle.rules.specs.declared.ComponentList.{ComponentList}
 use Rattle.rules.specs.declared.ComponentList.the-variants.{ComponentFirst, ComponentShut, PackageLines, PinRows}
 use Rattle.rules.specs.declared.ComponentState.{ComponentState}
@@ -51,18 +49,7 @@ packageLine c o g k w (At n) =
     (unless (tripleFault (namedCells w)) k
     (quietly (InComponent (withList c (PackageLines o (with g n))))))
 
--- ---- [Pin]: "`signal_name model_name`, or those and `R_pin L_pin C_pin`"
-
--- the heading: short is false, long is true
-unfoldable pub heading : List (List ℕ) → Option Bool
-heading [] = none
-heading (a ∷ []) = none
-heading (a ∷ b ∷ []) = cond (eqs a (bytes "signal_name") && eqs b (bytes "model_name")) (some false) none
-heading (a ∷ b ∷ c ∷ []) = none
-heading (a ∷ b ∷ c ∷ d ∷ []) = none
-heading (a ∷ b ∷ c ∷ d ∷ e ∷ []) =
-    cond (eqs a (bytes "signal_name") && (eqs b (bytes "model_name") && (eqs c (bytes "R_pin") && (eqs d (bytes "L_pin") && eqs e (bytes "C_pin"))))) (some true) none
-heading (a ∷ b ∷ c ∷ d ∷ e ∷ f ∷ ws) = none
+-- ---- [Pin]
 
 -- "pin (1 to 8 characters), signal (1 to 40), model (1 to 40)"
 unfoldable pub pinNames : List ℕ → List ℕ → List ℕ → ℕ

@@ -7,12 +7,12 @@ use lib.Dec.{eqb}
 use Rattle.laws.specs.Bytes.{bytes}
 use Rattle.laws.specs.Lists.{eqs}
 use Rattle.words.specs.Words.{words}
-use Rattle.keyword.specs.declared.HeaderPart.{HeaderPart}
-use Rattle.keyword.specs.declared.HeaderPart.the-variants.{FileName, FileRev, FreeText}
-use Rattle.keyword.specs.declared.HeaderText.{HeaderText}
-use Rattle.keyword.specs.declared.HeaderText.the-variants.{Date, Source, Notes, Disclaimer, Copyright}
-use Rattle.rules.specs.Fields.{isFileName, oneWord}
-use Rattle.rules.specs.Given.{noneGiven, has, with}
+use Rattle.keywords.specs.declared.HeaderPart.{HeaderPart}
+use Rattle.keywords.specs.declared.HeaderPart.the-variants.{FileName, FileRev, FreeText}
+use Rattle.keywords.specs.declared.HeaderText.{HeaderText}
+use Rattle.keywords.specs.declared.HeaderText.the-variants.{Date, Source, Notes, Disclaimer, Copyright}
+use Rattle.line_rules.specs.Fields.{isFileName, oneWord}
+use Rattle.given.specs.Given.{noneGiven, has, with}
 use Rattle.rules.specs.Going.{stop, refuse, unless, quietly}
 use Rattle.rules.specs.declared.HeaderState.{HeaderState}
 use Rattle.rules.specs.declared.Stage.the-variants.{InHeader}

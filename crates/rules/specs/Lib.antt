@@ -1,7 +1,4 @@
--- Document 01 from "Numbers" on, as definitions, in its order and words.
-pub mod Fields
-pub mod Tables
-pub mod Given
+-- Document 01 from "Sections" on, as definitions, in its order and words.
 pub mod Going
 pub mod Header
 pub mod Component

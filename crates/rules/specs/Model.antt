@@ -14,20 +14,20 @@ use Rattle.decimal.specs.declared.Cell.the-variants.{Number, Missing}
 use Rattle.decimal.specs.declared.NumberRead.{NumberRead}
 use Rattle.decimal.specs.declared.NumberRead.the-variants.{Value, Wrong}
 use Rattle.words.specs.Words.{words}
-use Rattle.names.specs.declared.Found.{Found}
-use Rattle.names.specs.declared.Found.the-variants.{At, Nothing}
-use Rattle.keyword.specs.declared.ModelPart.{ModelPart}
-use Rattle.keyword.specs.declared.ModelPart.the-variants.{VoltageRange, TemperatureRange, Current, Ramp, Waveform}
-use Rattle.keyword.specs.declared.CurrentTable.{CurrentTable}
-use Rattle.keyword.specs.declared.CurrentTable.the-variants.{Pulldown, Pullup, GndClamp, PowerClamp}
-use Rattle.keyword.specs.declared.Edge.{Edge}
-use Rattle.rules.specs.Fields.{oneOf, firstWord, lineAt, namedWord, wordFault, namedCells, threeCells, namedSlopes, assignedNumber, rowOf, numberFault, tripleFault, rampFault}
-use Rattle.rules.specs.Given.{noneGiven, has, with}
-use Rattle.rules.specs.Tables.{modelLines, modelTypes, polarities, enables, rampLines, fixtures}
+use Rattle.name_table.specs.declared.Found.{Found}
+use Rattle.name_table.specs.declared.Found.the-variants.{At, Nothing}
+use Rattle.keywords.specs.declared.ModelPart.{ModelPart}
+use Rattle.keywords.specs.declared.ModelPart.the-variants.{VoltageRange, TemperatureRange, Current, Ramp, Waveform}
+use Rattle.keywords.specs.declared.CurrentTable.{CurrentTable}
+use Rattle.keywords.specs.declared.CurrentTable.the-variants.{Pulldown, Pullup, GndClamp, PowerClamp}
+use Rattle.records.specs.declared.Edge.{Edge}
+use Rattle.line_rules.specs.Fields.{oneOf, firstWord, lineAt, namedWord, wordFault, namedCells, threeCells, namedSlopes, assignedNumber, rowOf, numberFault, tripleFault, rampFault}
+use Rattle.given.specs.Given.{noneGiven, has, with}
+use Rattle.line_rules.specs.Tables.{modelLines, modelTypes, polarities, enables, rampLines, fixtures}
 use Rattle.rules.specs.Going.{stop, unless, refuse, quietly}
-use Rattle.rules.specs.declared.Given.{Given}
-use Rattle.rules.specs.declared.RowRead.{RowRead}
-use Rattle.rules.specs.declared.RowRead.the-variants.{Line, Amiss}
+use Rattle.given.specs.declared.Given.{Given}
+use Rattle.line_rules.specs.declared.RowRead.{RowRead}
+use Rattle.line_rules.specs.declared.RowRead.the-variants.{Line, Amiss}
 use Rattle.rules.specs.declared.RowsSeen.{RowsSeen}
 use Rattle.rules.specs.declared.ModelList.{ModelList}
 use Rattle.rules.specs.declared.ModelList.the-variants.{ModelFirst, ModelShut, CurrentRows, RampLines, WaveformRows}

@@ -13,40 +13,44 @@ use Rattle.decimal.specs.declared.Cell.the-variants.{Number, Missing}
 use Rattle.decimal.specs.declared.CellRead.{CellRead}
 use Rattle.decimal.specs.declared.CellRead.the-variants.{Read, Bad}
 use Rattle.words.specs.Words.{words}
-use Rattle.names.specs.declared.Found.{Found}
-use Rattle.names.specs.declared.Found.the-variants.{At, Nothing}
-use Rattle.keyword.specs.Form.{argument}
-use Rattle.keyword.specs.Carried.{keyOf}
-use Rattle.keyword.specs.declared.Keyword.{Keyword}
-use Rattle.keyword.specs.declared.Keyword.the-variants as key
-use Rattle.keyword.specs.declared.HeaderPart.{HeaderPart}
-use Rattle.keyword.specs.declared.Section.{Section}
-use Rattle.keyword.specs.declared.Section.the-variants.{Component, Selector, Model}
-use Rattle.keyword.specs.declared.ComponentPart.{ComponentPart}
-use Rattle.keyword.specs.declared.ComponentPart.the-variants.{Manufacturer, Package, Pin}
-use Rattle.keyword.specs.declared.ModelPart.{ModelPart}
-use Rattle.keyword.specs.declared.ModelPart.the-variants.{VoltageRange, TemperatureRange, Current, Ramp, Waveform}
-use Rattle.keyword.specs.declared.CurrentTable.{CurrentTable}
-use Rattle.keyword.specs.declared.Edge.{Edge}
-use Rattle.keyword.specs.declared.KeyRead.{KeyRead}
-use Rattle.keyword.specs.declared.KeyRead.the-variants.{Known, Unknown, Malformed}
-use Rattle.texts.specs.Texts.{Text, plain, change}
-use Rattle.rules.specs.Fields.{isBracketed, needsNoModel, firstWord, otherWords, lineAt, namedWord, wordMeaning, namedCells, threeCells, namedSlopes, assignedNumber, rowOf}
-use Rattle.rules.specs.Tables.{componentLines, locations, packageLines, modelLines, polarities, enables, rampLines, fixtures}
+use Rattle.name_table.specs.declared.Found.{Found}
+use Rattle.name_table.specs.declared.Found.the-variants.{At, Nothing}
+use Rattle.keywords.specs.Form.{argument}
+use Rattle.keywords.specs.Carried.{keyOf}
+use Rattle.keywords.specs.declared.Keyword.{Keyword}
+use Rattle.keywords.specs.declared.Keyword.the-variants as key
+use Rattle.keywords.specs.declared.HeaderPart.{HeaderPart}
+use Rattle.keywords.specs.declared.Section.{Section}
+use Rattle.keywords.specs.declared.Section.the-variants.{Component, Selector, Model}
+use Rattle.keywords.specs.declared.ComponentPart.{ComponentPart}
+use Rattle.keywords.specs.declared.ComponentPart.the-variants.{Manufacturer, Package, Pin}
+use Rattle.keywords.specs.declared.ModelPart.{ModelPart}
+use Rattle.keywords.specs.declared.ModelPart.the-variants.{VoltageRange, TemperatureRange, Current, Ramp, Waveform}
+use Rattle.keywords.specs.declared.CurrentTable.{CurrentTable}
+use Rattle.records.specs.declared.Edge.{Edge}
+use Rattle.keywords.specs.declared.KeyRead.{KeyRead}
+use Rattle.keywords.specs.declared.KeyRead.the-variants.{Known, Unknown, Malformed}
+use Rattle.cut_lines.specs.Texts.{Text, plain, change}
+use Rattle.line_rules.specs.Fields.{isBracketed, needsNoModel, firstWord, otherWords, lineAt, namedWord, wordMeaning, orGiven, namedCells, threeCells, namedSlopes, assignedNumber, rowOf}
+use Rattle.line_rules.specs.Tables.{componentLines, locations, packageLines, modelLines, polarities, enables, rampLines, fixtures}
 use Rattle.rules.specs.Header.{headerPlace}
 use Rattle.rules.specs.Model.{orNothing, isInput, numberIs, beginsLetter, orElse, defaultVinl, defaultVinh}
-use Rattle.rules.specs.declared.Triple.{Triple}
-use Rattle.rules.specs.declared.TripleRead.{TripleRead}
-use Rattle.rules.specs.declared.TripleRead.the-variants.{Cells, Flawed}
-use Rattle.rules.specs.declared.Row.{Row}
-use Rattle.rules.specs.declared.RowRead.{RowRead}
-use Rattle.rules.specs.declared.RowRead.the-variants.{Line, Amiss}
-use Rattle.rules.specs.declared.RampCell.the-variants.{Absent}
-use Rattle.rules.specs.declared.RampTriple.{RampTriple}
-use Rattle.rules.specs.declared.RampRead.{RampRead}
-use Rattle.rules.specs.declared.RampRead.the-variants.{Slopes, Refused}
-use Rattle.rules.specs.declared.Location.{Location}
-use Rattle.rules.specs.declared.Location.the-variants.{AtPin}
+use Rattle.records.specs.declared.Triple.{Triple}
+use Rattle.line_rules.specs.declared.TripleRead.{TripleRead}
+use Rattle.line_rules.specs.declared.TripleRead.the-variants.{Cells, Flawed}
+use Rattle.records.specs.declared.Row.{Row}
+use Rattle.line_rules.specs.declared.RowRead.{RowRead}
+use Rattle.line_rules.specs.declared.RowRead.the-variants.{Line, Amiss}
+use Rattle.records.specs.declared.RampCell.the-variants.{Absent}
+use Rattle.records.specs.declared.RampTriple.{RampTriple}
+use Rattle.line_rules.specs.declared.RampRead.{RampRead}
+use Rattle.line_rules.specs.declared.RampRead.the-variants.{Slopes, Refused}
+use Rattle.records.specs.declared.Location.{Location}
+use Rattle.records.specs.declared.Location.the-variants.{AtPin}
+use Rattle.records.specs.declared.Polarity.{Polarity}
+use Rattle.records.specs.declared.Polarity.the-variants.{NoPolarity}
+use Rattle.records.specs.declared.Enable.{Enable}
+use Rattle.records.specs.declared.Enable.the-variants.{NoEnable}
 
 -- ---- values, where a line has passed its checks; missing stays missing
 
@@ -67,10 +71,6 @@ noSlopes = record { typ = Absent; min = Absent; max = Absent }
 abbrev pub slopesAre : RampRead → RampTriple
 slopesAre (Slopes t) = t
 slopesAre (Refused n) = noSlopes
-
-abbrev pub orGiven : {A : Type 0} → Option A → A → A
-orGiven none a = a
-orGiven (some b) a = b
 
 -- the value of a named line goes to its place in the list of such lines
 abbrev pub atPlace : {A : Type 0} → List A → A → Found → List A
@@ -215,8 +215,8 @@ pub record SelectorIs : Type 0 where
 
 pub record FirstIs : Type 0 where
   pub kind : List ℕ
-  pub polarity : Option Bool
-  pub enable : Option Bool
+  pub polarity : Polarity
+  pub enable : Enable
   pub comp : Triple
   pub numbers : List Cell
 
@@ -225,8 +225,8 @@ onFirstLine f w Nothing = f
 onFirstLine f w (At n) =
     record {
       kind = cond (eqb n 0) (orNothing (namedWord w)) (f .kind);
-      polarity = cond (eqb n 1) (wordMeaning polarities w) (f .polarity);
-      enable = cond (eqb n 2) (wordMeaning enables w) (f .enable);
+      polarity = cond (eqb n 1) (orGiven (wordMeaning polarities w) NoPolarity) (f .polarity);
+      enable = cond (eqb n 2) (orGiven (wordMeaning enables w) NoEnable) (f .enable);
       comp = cond (eqb n 3) (tripleIs (namedCells w)) (f .comp);
       numbers = cond (leb 4 n) (set (f .numbers) (n - 4) (numberIs (assignedNumber w))) (f .numbers);
     }
@@ -325,7 +325,7 @@ withModelKeys m [] = m
 withModelKeys m (t ∷ ts) = withModelKeys (onModelKey m (argumentAt t) (under ts) (keyAt t)) ts
 
 abbrev pub bareFirst : FirstIs
-bareFirst = record { kind = []; polarity = none; enable = none; comp = noCells; numbers = replicate 6 Missing }
+bareFirst = record { kind = []; polarity = NoPolarity; enable = NoEnable; comp = noCells; numbers = replicate 6 Missing }
 
 unfoldable pub modelIn : List ℕ → List Text → ModelIs
 modelIn n ts =

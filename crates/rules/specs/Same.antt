@@ -5,11 +5,11 @@ use mathlib.Core.Bool.{cond}
 use mathlib.Core.Option.{Option, none, some}
 use mathlib.Core.Path.{_≡_}
 use lib.Dec.{eqb}
-use Rattle.keyword.specs.declared.CurrentTable.{CurrentTable}
-use Rattle.keyword.specs.declared.CurrentTable.the-variants.{Pulldown, Pullup, GndClamp, PowerClamp}
+use Rattle.keywords.specs.declared.CurrentTable.{CurrentTable}
+use Rattle.keywords.specs.declared.CurrentTable.the-variants.{Pulldown, Pullup, GndClamp, PowerClamp}
 use Rattle.rules.specs.Model.{tablePlace}
 use Rattle.rules.specs.Reading.{WaveformIs, TableIs, current, waveform, ModelIs, SectionIs, component, selector, model, FileIs}
-use Rattle.rules.specs.declared.Row.{Row}
+use Rattle.records.specs.declared.Row.{Row}
 
 -- ---- "Kept is all that is read, the order of sections and of waveforms included, but not .. the order of other parts within a section"
 

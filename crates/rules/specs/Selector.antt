@@ -3,7 +3,7 @@ use Prim.Native.Nat.{ℕ}
 use mathlib.Core.List.{List, [], _∷_}
 use mathlib.Core.Bool.{Bool, true, false, not}
 use Rattle.words.specs.Words.{words}
-use Rattle.rules.specs.Fields.{isModelName, firstWord}
+use Rattle.line_rules.specs.Fields.{isModelName, firstWord}
 use Rattle.rules.specs.Going.{refuse, quietly}
 use Rattle.rules.specs.declared.SelectorState.{SelectorState}
 use Rattle.rules.specs.declared.Stage.the-variants.{InSelector}

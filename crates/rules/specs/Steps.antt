@@ -6,19 +6,19 @@ use mathlib.Core.Bool.{Bool, true, false, cond, not}
 use lib.ListN.{length}
 use lib.Dec.{eqb}
 use Rattle.words.specs.Words.{words}
-use Rattle.keyword.specs.Form.{argument}
-use Rattle.keyword.specs.Carried.{keyOf}
-use Rattle.keyword.specs.declared.Keyword.{Keyword}
-use Rattle.keyword.specs.declared.Keyword.the-variants as key
-use Rattle.keyword.specs.declared.Section.{Section}
-use Rattle.keyword.specs.declared.Section.the-variants.{Component, Selector, Model}
-use Rattle.keyword.specs.declared.HeaderPart.{HeaderPart}
-use Rattle.keyword.specs.declared.ComponentPart.{ComponentPart}
-use Rattle.keyword.specs.declared.ModelPart.{ModelPart}
-use Rattle.keyword.specs.declared.KeyRead.{KeyRead}
-use Rattle.keyword.specs.declared.KeyRead.the-variants.{Known, Unknown, Malformed}
-use Rattle.texts.specs.Texts.{Text, plain, change}
-use Rattle.rules.specs.Fields.{isSized, isModelName, isBracketed, oneWord}
+use Rattle.keywords.specs.Form.{argument}
+use Rattle.keywords.specs.Carried.{keyOf}
+use Rattle.keywords.specs.declared.Keyword.{Keyword}
+use Rattle.keywords.specs.declared.Keyword.the-variants as key
+use Rattle.keywords.specs.declared.Section.{Section}
+use Rattle.keywords.specs.declared.Section.the-variants.{Component, Selector, Model}
+use Rattle.keywords.specs.declared.HeaderPart.{HeaderPart}
+use Rattle.keywords.specs.declared.ComponentPart.{ComponentPart}
+use Rattle.keywords.specs.declared.ModelPart.{ModelPart}
+use Rattle.keywords.specs.declared.KeyRead.{KeyRead}
+use Rattle.keywords.specs.declared.KeyRead.the-variants.{Known, Unknown, Malformed}
+use Rattle.cut_lines.specs.Texts.{Text, plain, change}
+use Rattle.line_rules.specs.Fields.{isSized, isModelName, isBracketed, oneWord}
 use Rattle.rules.specs.Going.{stop, unless, refuse, andThen, quietly}
 use Rattle.rules.specs.Header.{version, headerPart, headerLine, headerShut, headerDone}
 use Rattle.rules.specs.Component.{newComponent, componentPart, componentLine, componentShut, componentDone}

@@ -7,19 +7,19 @@ use lib.ListN.{length}
 use lib.Dec.{eqb, leb}
 use Rattle.words.specs.Words.{words}
 use Rattle.lines.specs.Lines.{linesOf, bytesFault}
-use Rattle.lines.specs.declared.Fault.{Fault}
+use Rattle.records.specs.declared.Fault.{Fault}
 use Rattle.lines.specs.declared.Bytes.{Bytes}
 use Rattle.lines.specs.declared.Bytes.the-variants.{Clean, Faulty}
-use Rattle.keyword.specs.Form.{argument}
-use Rattle.keyword.specs.declared.Section.{Section}
-use Rattle.keyword.specs.declared.Section.the-variants.{Component, Selector, Model}
-use Rattle.texts.specs.Texts.{Text, plain, change, textsFrom}
-use Rattle.rules.specs.Fields.{firstWord, otherWords}
+use Rattle.keywords.specs.Form.{argument}
+use Rattle.keywords.specs.declared.Section.{Section}
+use Rattle.keywords.specs.declared.Section.the-variants.{Component, Selector, Model}
+use Rattle.cut_lines.specs.Texts.{Text, plain, change, textsFrom}
+use Rattle.line_rules.specs.Fields.{firstWord, otherWords}
 use Rattle.rules.specs.Steps.{byStage, onText}
 use Rattle.rules.specs.Outline.{Entry, is, count, isUsed, isFound, isListed, firstFailing}
-use Rattle.rules.specs.declared.Kind.{Kind}
-use Rattle.rules.specs.declared.Kind.the-variants.{OfComponent, OfPin, OfSelector, OfChoice, OfModel}
-use Rattle.rules.specs.declared.Lengths.{Lengths}
+use Rattle.records.specs.declared.Kind.{Kind}
+use Rattle.records.specs.declared.Kind.the-variants.{OfComponent, OfPin, OfSelector, OfChoice, OfModel}
+use Rattle.records.specs.declared.Lengths.{Lengths}
 use Rattle.rules.specs.declared.Stage.{Stage}
 use Rattle.rules.specs.declared.Stage.the-variants.{BeforeVersion}
 use Rattle.rules.specs.declared.Event.{Event}

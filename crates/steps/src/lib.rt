@@ -8,13 +8,13 @@ ghost use Rattle.rules.specs.declared.Stage.{Stage};
 ghost use Rattle.rules.specs.declared.Stage.the-variants.{AfterEnd};
 ghost use Rattle.rules.specs.declared.Event.the-variants.{Ended};
 ghost use Rattle.rules.specs.declared.Went.the-variants.{On};
-ghost use Rattle.keyword.specs.Carried.{keyOf};
-use keyword::ComponentPart;
-use keyword::HeaderPart;
-use keyword::KeyRead;
-use keyword::Keyword;
-use keyword::ModelPart;
-use keyword::Section;
+ghost use Rattle.keywords.specs.Carried.{keyOf};
+use keywords::ComponentPart;
+use keywords::HeaderPart;
+use keywords::KeyRead;
+use keywords::Keyword;
+use keywords::ModelPart;
+use keywords::Section;
 use rules::Event;
 use rules::Stage;
 use rules::Went;
@@ -33,7 +33,7 @@ fn quiet_unless(n: u8, k: u64, s: Stage) -> Went
     if n == 0 {
         return quiet(s);
     }
-    given::stopped(n, k)
+    rules::stopped(n, k)
 }
 
 // Closes the table or list above a keyword line.
@@ -42,10 +42,10 @@ fn shut_list(s: Stage) -> Went
 {
     match s {
         Stage::BeforeVersion => quiet(Stage::BeforeVersion),
-        Stage::InHeader(h) => header::header_shut(h),
-        Stage::InComponent(c) => component::component_shut(c),
-        Stage::InSelector(c) => component::selector_shut(c),
-        Stage::InModel(m) => model::model_shut(m),
+        Stage::InHeader(h) => header_steps::header_shut(h),
+        Stage::InComponent(c) => component_steps::component_shut(c),
+        Stage::InSelector(c) => component_steps::selector_shut(c),
+        Stage::InModel(m) => model_steps::model_shut(m),
         Stage::AfterEnd => quiet(Stage::AfterEnd),
     }
 }
@@ -58,16 +58,20 @@ fn close_section(s: Stage) -> Went
         Stage::BeforeVersion => quiet(Stage::BeforeVersion),
         Stage::InHeader(h) => {
             let line = h.line;
-            quiet_unless(header::header_done(h), line, Stage::InHeader(h))
+            quiet_unless(header_steps::header_done(h), line, Stage::InHeader(h))
         }
         Stage::InComponent(c) => {
             let line = c.line;
-            quiet_unless(component::component_done(c), line, Stage::InComponent(c))
+            quiet_unless(
+                component_steps::component_done(c),
+                line,
+                Stage::InComponent(c),
+            )
         }
         Stage::InSelector(c) => quiet(Stage::InSelector(c)),
         Stage::InModel(m) => {
             let line = m.line;
-            quiet_unless(model::model_done(m), line, Stage::InModel(m))
+            quiet_unless(model_steps::model_done(m), line, Stage::InModel(m))
         }
         Stage::AfterEnd => quiet(Stage::AfterEnd),
     }
@@ -79,33 +83,33 @@ fn open_section(k: u64, argument: &[u8], o: Section) -> Went
 {
     match o {
         Section::Component => {
-            if fields::sized(argument, 40) {
+            if named_lines::sized(argument, 40) {
                 Went::On(
-                    Stage::InComponent(component::new_component(k)),
+                    Stage::InComponent(component_steps::new_component(k)),
                     Event::Opened(Section::Component),
                 )
             } else {
-                given::stopped(10, k)
+                rules::stopped(10, k)
             }
         }
         Section::Selector => {
-            if fields::one_model_name(argument) {
+            if named_lines::one_model_name(argument) {
                 Went::On(
-                    Stage::InSelector(component::new_selector(k)),
+                    Stage::InSelector(component_steps::new_selector(k)),
                     Event::Opened(Section::Selector),
                 )
             } else {
-                given::stopped(10, k)
+                rules::stopped(10, k)
             }
         }
         Section::Model => {
-            if fields::one_model_name(argument) {
+            if named_lines::one_model_name(argument) {
                 Went::On(
-                    Stage::InModel(model::new_model(k)),
+                    Stage::InModel(model_steps::new_model(k)),
                     Event::Opened(Section::Model),
                 )
             } else {
-                given::stopped(10, k)
+                rules::stopped(10, k)
             }
         }
     }
@@ -116,12 +120,12 @@ fn version_again(s: Stage, k: u64) -> Went
     ensures { λ r. ⌜ r ≡ secondVersion s k ⌝ }
 {
     match s {
-        Stage::BeforeVersion => given::stopped(7, k),
-        Stage::InHeader(_) => given::stopped(8, k),
-        Stage::InComponent(_) => given::stopped(7, k),
-        Stage::InSelector(_) => given::stopped(7, k),
-        Stage::InModel(_) => given::stopped(7, k),
-        Stage::AfterEnd => given::stopped(7, k),
+        Stage::BeforeVersion => rules::stopped(7, k),
+        Stage::InHeader(_) => rules::stopped(8, k),
+        Stage::InComponent(_) => rules::stopped(7, k),
+        Stage::InSelector(_) => rules::stopped(7, k),
+        Stage::InModel(_) => rules::stopped(7, k),
+        Stage::AfterEnd => rules::stopped(7, k),
     }
 }
 
@@ -130,12 +134,12 @@ fn header_key(s: Stage, k: u64, argument: &[u8], p: HeaderPart) -> Went
     ensures { λ r. ⌜ r ≡ inHeader s k (now (argument .entry)) p ⌝ }
 {
     match s {
-        Stage::BeforeVersion => given::stopped(7, k),
-        Stage::InHeader(h) => header::header_part(h, k, argument, p),
-        Stage::InComponent(_) => given::stopped(7, k),
-        Stage::InSelector(_) => given::stopped(7, k),
-        Stage::InModel(_) => given::stopped(7, k),
-        Stage::AfterEnd => given::stopped(7, k),
+        Stage::BeforeVersion => rules::stopped(7, k),
+        Stage::InHeader(h) => header_steps::header_part(h, k, argument, p),
+        Stage::InComponent(_) => rules::stopped(7, k),
+        Stage::InSelector(_) => rules::stopped(7, k),
+        Stage::InModel(_) => rules::stopped(7, k),
+        Stage::AfterEnd => rules::stopped(7, k),
     }
 }
 
@@ -143,12 +147,12 @@ fn component_key(s: Stage, k: u64, argument: &[u8], p: ComponentPart) -> Went
     ensures { λ r. ⌜ r ≡ inComponent s k (now (argument .entry)) p ⌝ }
 {
     match s {
-        Stage::BeforeVersion => given::stopped(7, k),
-        Stage::InHeader(_) => given::stopped(7, k),
-        Stage::InComponent(c) => component::component_part(c, k, argument, p),
-        Stage::InSelector(_) => given::stopped(7, k),
-        Stage::InModel(_) => given::stopped(7, k),
-        Stage::AfterEnd => given::stopped(7, k),
+        Stage::BeforeVersion => rules::stopped(7, k),
+        Stage::InHeader(_) => rules::stopped(7, k),
+        Stage::InComponent(c) => component_steps::component_part(c, k, argument, p),
+        Stage::InSelector(_) => rules::stopped(7, k),
+        Stage::InModel(_) => rules::stopped(7, k),
+        Stage::AfterEnd => rules::stopped(7, k),
     }
 }
 
@@ -156,12 +160,12 @@ fn model_key(s: Stage, k: u64, argument: &[u8], p: ModelPart) -> Went
     ensures { λ r. ⌜ r ≡ inModel s k (now (argument .entry)) p ⌝ }
 {
     match s {
-        Stage::BeforeVersion => given::stopped(7, k),
-        Stage::InHeader(_) => given::stopped(7, k),
-        Stage::InComponent(_) => given::stopped(7, k),
-        Stage::InSelector(_) => given::stopped(7, k),
-        Stage::InModel(m) => model::model_part(m, k, argument, p),
-        Stage::AfterEnd => given::stopped(7, k),
+        Stage::BeforeVersion => rules::stopped(7, k),
+        Stage::InHeader(_) => rules::stopped(7, k),
+        Stage::InComponent(_) => rules::stopped(7, k),
+        Stage::InSelector(_) => rules::stopped(7, k),
+        Stage::InModel(m) => model_steps::model_part(m, k, argument, p),
+        Stage::AfterEnd => rules::stopped(7, k),
     }
 }
 
@@ -181,7 +185,7 @@ fn end_key(s: Stage, argument: &[u8]) -> Went
 {
     match close_section(s) {
         Went::On(_, _) => Went::On(Stage::AfterEnd, Event::Ended(argument.len() == 0)),
-        Went::Stop(f) => Went::Stop(f),
+        Went::Stop(fault) => Went::Stop(fault),
     }
 }
 
@@ -202,10 +206,10 @@ fn on_keyword(s: Stage, k: u64, argument: &[u8], key: Keyword) -> Went
 fn keyword_line(s: Stage, k: u64, w: &[u8]) -> Went
     ensures { λ r. ⌜ r ≡ keyed s k (now (w .entry)) (keyOf (now (w .entry))) ⌝ }
 {
-    match keyword::key_of(w) {
+    match keywords::key_of(w) {
         KeyRead::Known { keyword, argument } => on_keyword(s, k, &w[argument..], keyword),
-        KeyRead::Unknown => given::stopped(6, k),
-        KeyRead::Malformed => given::stopped(5, k),
+        KeyRead::Unknown => rules::stopped(6, k),
+        KeyRead::Malformed => rules::stopped(5, k),
     }
 }
 
@@ -213,12 +217,12 @@ fn first_key(k: u64, argument: &[u8], key: Keyword) -> Went
     ensures { λ r. ⌜ r ≡ firstKeyword k (now (argument .entry)) key ⌝ }
 {
     match key {
-        Keyword::IbisVer => header::open_header(k, argument),
-        Keyword::InHeader(_) => given::stopped(7, k),
-        Keyword::Opens(_) => given::stopped(7, k),
-        Keyword::InComponent(_) => given::stopped(7, k),
-        Keyword::InModel(_) => given::stopped(7, k),
-        Keyword::End => given::stopped(7, k),
+        Keyword::IbisVer => header_steps::open_header(k, argument),
+        Keyword::InHeader(_) => rules::stopped(7, k),
+        Keyword::Opens(_) => rules::stopped(7, k),
+        Keyword::InComponent(_) => rules::stopped(7, k),
+        Keyword::InModel(_) => rules::stopped(7, k),
+        Keyword::End => rules::stopped(7, k),
     }
 }
 
@@ -226,10 +230,10 @@ fn first_key(k: u64, argument: &[u8], key: Keyword) -> Went
 fn first_keyword_line(k: u64, w: &[u8]) -> Went
     ensures { λ r. ⌜ r ≡ firstKeyed k (now (w .entry)) (keyOf (now (w .entry))) ⌝ }
 {
-    match keyword::key_of(w) {
+    match keywords::key_of(w) {
         KeyRead::Known { keyword, argument } => first_key(k, &w[argument..], keyword),
-        KeyRead::Unknown => given::stopped(6, k),
-        KeyRead::Malformed => given::stopped(5, k),
+        KeyRead::Unknown => rules::stopped(6, k),
+        KeyRead::Malformed => rules::stopped(5, k),
     }
 }
 
@@ -238,12 +242,12 @@ fn on_line(s: Stage, k: u64, w: &[u8]) -> Went
     ensures { λ r. ⌜ r ≡ onLine s k (now (w .entry)) ⌝ }
 {
     match s {
-        Stage::BeforeVersion => given::stopped(7, k),
-        Stage::InHeader(h) => header::header_line(h, k),
-        Stage::InComponent(c) => component::component_line(c, k, w),
-        Stage::InSelector(c) => component::selector_line(c, k, w),
-        Stage::InModel(m) => model::model_line(m, k, w),
-        Stage::AfterEnd => given::stopped(7, k),
+        Stage::BeforeVersion => rules::stopped(7, k),
+        Stage::InHeader(h) => header_steps::header_line(h, k),
+        Stage::InComponent(c) => component_steps::component_line(c, k, w),
+        Stage::InSelector(c) => component_steps::selector_line(c, k, w),
+        Stage::InModel(m) => model_steps::model_line(m, k, w),
+        Stage::AfterEnd => rules::stopped(7, k),
     }
 }
 
@@ -251,12 +255,12 @@ fn on_line(s: Stage, k: u64, w: &[u8]) -> Went
 fn on_begun(s: Stage, k: u64, w: &[u8]) -> Went
     ensures { λ r. ⌜ r ≡ onBegun s k (now (w .entry)) ⌝ }
 {
-    if !fields::bracketed(w) {
+    if !named_lines::bracketed(w) {
         return on_line(s, k, w);
     }
     match shut_list(s) {
         Went::On(t, _) => keyword_line(t, k, w),
-        Went::Stop(f) => Went::Stop(f),
+        Went::Stop(fault) => Went::Stop(fault),
     }
 }
 
@@ -266,17 +270,17 @@ pub fn on_plain(s: Stage, k: u64, w: &[u8]) -> Went
 {
     match s {
         Stage::BeforeVersion => {
-            if fields::bracketed(w) {
+            if named_lines::bracketed(w) {
                 first_keyword_line(k, w)
             } else {
-                given::stopped(7, k)
+                rules::stopped(7, k)
             }
         }
         Stage::InHeader(_) => on_begun(s, k, w),
         Stage::InComponent(_) => on_begun(s, k, w),
         Stage::InSelector(_) => on_begun(s, k, w),
         Stage::InModel(_) => on_begun(s, k, w),
-        Stage::AfterEnd => given::stopped(7, k),
+        Stage::AfterEnd => rules::stopped(7, k),
     }
 }
 
@@ -287,15 +291,15 @@ pub fn on_change(s: Stage, k: u64, n: u8) -> Went
     match s {
         Stage::BeforeVersion => {
             if n == 5 {
-                given::stopped(5, k)
+                rules::stopped(5, k)
             } else {
-                given::stopped(7, k)
+                rules::stopped(7, k)
             }
         }
         Stage::InHeader(_) => quiet_unless(n, k, s),
         Stage::InComponent(_) => quiet_unless(n, k, s),
         Stage::InSelector(_) => quiet_unless(n, k, s),
         Stage::InModel(_) => quiet_unless(n, k, s),
-        Stage::AfterEnd => given::stopped(7, k),
+        Stage::AfterEnd => rules::stopped(7, k),
     }
 }

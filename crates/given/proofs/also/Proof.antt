@@ -1,7 +1,7 @@
 -- Each arm by computing at its number; past them by the law.
 use mathlib.Core.Path.{sym}
 use Rattle.laws.proofs.Numbers.{apart-le}
-use Rattle.rules.specs.Given.{with}
+use Rattle.given.specs.Given.{with}
 use Rattle.given.proofs.Laws.{with-past}
 use Rattle.given.proofs.also.Statement.{statement}
 use Rattle.given.proofs.also.Tie as tie

@@ -1,7 +1,7 @@
 -- Each arm by computing at its number; past them by the law.
 use mathlib.Core.Path.{sym}
 use Rattle.laws.proofs.Numbers.{apart-le}
-use Rattle.rules.specs.Given.{has}
+use Rattle.given.specs.Given.{has}
 use Rattle.given.proofs.Laws.{has-past}
 use Rattle.given.proofs.is_given.Statement.{statement}
 use Rattle.given.proofs.is_given.Tie as tie

@@ -2,7 +2,7 @@
 use mathlib.Core.Path.{ap}
 use lib.ListN.{replicate}
 use borrow.Author.Needs.{needs}
-use Rattle.rules.specs.declared.Choice.{Choice}
+use Rattle.records.specs.declared.Choice.{Choice}
 use Rattle.lending.specs.Lent.{noChoices}
 use Rattle.lending.proofs.no_choices.Statement.{statement}
 use Rattle.lending.proofs.no_choices.Tie as tie

@@ -2,7 +2,7 @@
 use mathlib.Core.Path.{ap}
 use lib.ListN.{replicate}
 use borrow.Author.Needs.{needs}
-use Rattle.rules.specs.declared.Selector.{Selector}
+use Rattle.records.specs.declared.Selector.{Selector}
 use Rattle.lending.specs.Lent.{noSelectors}
 use Rattle.lending.proofs.no_selectors.Statement.{statement}
 use Rattle.lending.proofs.no_selectors.Tie as tie

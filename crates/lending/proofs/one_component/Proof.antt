@@ -2,7 +2,7 @@
 use mathlib.Core.Path.{ap}
 use lib.ListN.{replicate}
 use borrow.Author.Needs.{needs}
-use Rattle.rules.specs.declared.Component.{Component}
+use Rattle.records.specs.declared.Component.{Component}
 use Rattle.lending.specs.Lent.{oneComponent}
 use Rattle.lending.proofs.one_component.Statement.{statement}
 use Rattle.lending.proofs.one_component.Tie as tie

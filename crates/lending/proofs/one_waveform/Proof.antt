@@ -2,7 +2,7 @@
 use mathlib.Core.Path.{ap}
 use lib.ListN.{replicate}
 use borrow.Author.Needs.{needs}
-use Rattle.rules.specs.declared.Waveform.{Waveform}
+use Rattle.records.specs.declared.Waveform.{Waveform}
 use Rattle.lending.specs.Lent.{oneWaveform}
 use Rattle.lending.proofs.one_waveform.Statement.{statement}
 use Rattle.lending.proofs.one_waveform.Tie as tie

@@ -3,10 +3,10 @@ use lib.Dec.{lit<}
 use contract.Running.{givenOf, tables, tablesOf}
 use denote.Triple.Spec.{tripleOf}
 use denote.Triple.Table.{entered, cited}
-use Rattle.slices.proofs.Elem.{Data, Elem, of-struct, struct-elem}
-use Rattle.slices.proofs.Reading.{Reading}
-use Rattle.slices.proofs.Loaded.{Blank, Shelving, loaded-meets}
-use Rattle.records.proofs.Tables.{components, components-elem, pins, pins-elem, selectors, selectors-elem, choices, choices-elem, models, models-elem, waveforms, waveforms-elem, rows, rows-elem}
+use Rattle.table_walks.proofs.Elem.{Data, Elem, of-struct, struct-elem}
+use Rattle.table_walks.proofs.Reading.{Reading}
+use Rattle.table_walks.proofs.Loaded.{Blank, Shelving, loaded-meets}
+use Rattle.walked_records.proofs.Tables.{components, components-elem, pins, pins-elem, selectors, selectors-elem, choices, choices-elem, models, models-elem, waveforms, waveforms-elem, rows, rows-elem}
 use Rattle.reader.specs.Promise.{Read}
 use Rattle.lending.specs.Lent.{oneComponent, threePins, noSelectors, noChoices, twoModels, oneWaveform, manyWords, enoughOf, ReadEnough}
 use Rattle.reader.proofs.Answered.{answer, answer-elem}

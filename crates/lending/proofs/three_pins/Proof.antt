@@ -2,7 +2,7 @@
 use mathlib.Core.Path.{ap}
 use lib.ListN.{replicate}
 use borrow.Author.Needs.{needs}
-use Rattle.rules.specs.declared.Pin.{Pin}
+use Rattle.records.specs.declared.Pin.{Pin}
 use Rattle.lending.specs.Lent.{threePins}
 use Rattle.lending.proofs.three_pins.Statement.{statement}
 use Rattle.lending.proofs.three_pins.Tie as tie

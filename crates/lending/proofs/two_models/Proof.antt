@@ -2,7 +2,7 @@
 use mathlib.Core.Path.{ap}
 use lib.ListN.{replicate}
 use borrow.Author.Needs.{needs}
-use Rattle.rules.specs.declared.Model.{Model}
+use Rattle.records.specs.declared.Model.{Model}
 use Rattle.lending.specs.Lent.{twoModels}
 use Rattle.lending.proofs.two_models.Statement.{statement}
 use Rattle.lending.proofs.two_models.Tie as tie

@@ -7,21 +7,21 @@ use base.Logic.{SProp, emp, id⊢}
 use contract.Running.{givenOf, tables, tablesOf}
 use denote.Triple.Spec.{tripleOf}
 use denote.Triple.Table.{entered, cited}
-use Rattle.slices.proofs.Elem.{Data, of-struct, struct-elem}
-use Rattle.slices.proofs.Fill.{Count, Made, Put, fill-meets}
-use Rattle.rules.specs.declared.Choice.{Choice}
-use Rattle.noted.specs.declared.Counts.{Counts}
-use Rattle.made.specs.Made.{choiceAt}
-use Rattle.rules.proofs.Choice as T
-use Rattle.rules.proofs.Choice.Laws as T′
-use Rattle.noted.proofs.Counts as O
-use Rattle.noted.proofs.Counts.Laws as O′
+use Rattle.table_walks.proofs.Elem.{Data, of-struct, struct-elem}
+use Rattle.table_walks.proofs.Fill.{Count, Made, Put, fill-meets}
+use Rattle.records.specs.declared.Choice.{Choice}
+use Rattle.records.specs.declared.Counts.{Counts}
+use Rattle.from_notes.specs.Made.{choiceAt}
+use Rattle.records.proofs.Choice as T
+use Rattle.records.proofs.Choice.Laws as T′
+use Rattle.records.proofs.Counts as O
+use Rattle.records.proofs.Counts.Laws as O′
 use Rattle.reader.proofs.choice_count.Symbol as count-def
 use Rattle.reader.proofs.choice_count.Symbol.{name as #count}
 use Rattle.reader.proofs.choice_count.Met as count-thm
-use Rattle.made.proofs.records.choice_at.Symbol as made-def
-use Rattle.made.proofs.records.choice_at.Symbol.{name as #made}
-use Rattle.made.proofs.records.choice_at.Met as made-thm
+use Rattle.from_notes.proofs.tables.choice_at.Symbol as made-def
+use Rattle.from_notes.proofs.tables.choice_at.Symbol.{name as #made}
+use Rattle.from_notes.proofs.tables.choice_at.Met as made-thm
 use Rattle.reader.proofs.put_choice.Symbol as put-def
 use Rattle.reader.proofs.put_choice.Symbol.{name as #put}
 use Rattle.reader.proofs.put_choice.Met as put-thm
@@ -54,5 +54,5 @@ fill-choices-spec 𝓤 H 𝓜 𝓖 𝓡 =
     (fill-meets elem counts many choiceAt asks wants #count #made #put (struct-elem T.the-type T′.the-laws T′.the-copy T′.the-plain) (struct-elem O.the-type O′.the-laws O′.the-copy O′.the-plain)
     (λ s ns o ys asked. asked) (λ M 𝓤 s ns o ys asked k below. id⊢ 𝓤 _) 𝓤 H (𝓖 .A) (givenOf 𝓤 H 𝓜 𝓖) (tablesOf 𝓤 H 𝓜 (tables 𝓤 H 𝓜 𝓡 code.env))
     (cited 𝓤 H (Count elem counts many choiceAt asks wants #count #made #put 𝓤 H (𝓖 .A)) 𝓜 𝓡 code.env #count count-def.routine code.calls-reader·choice-count (count-thm.met 𝓤 H 𝓜 𝓖 𝓡))
-    (cited 𝓤 H (Made elem counts many choiceAt asks wants #count #made #put 𝓤 H (𝓖 .A)) 𝓜 𝓡 code.env #made made-def.routine code.calls-made·records·choice-at (made-thm.met 𝓤 H 𝓜 𝓖 𝓡))
+    (cited 𝓤 H (Made elem counts many choiceAt asks wants #count #made #put 𝓤 H (𝓖 .A)) 𝓜 𝓡 code.env #made made-def.routine code.calls-from-notes·tables·choice-at (made-thm.met 𝓤 H 𝓜 𝓖 𝓡))
     (cited 𝓤 H (Put elem counts many choiceAt asks wants #count #made #put 𝓤 H (𝓖 .A)) 𝓜 𝓡 code.env #put put-def.routine code.calls-reader·put-choice (put-thm.met 𝓤 H 𝓜 𝓖 𝓡)))

@@ -2,10 +2,10 @@
 use contract.Running.{givenOf, tables, tablesOf}
 use denote.Triple.Spec.{tripleOf}
 use denote.Triple.Table.{entered}
-use Rattle.slices.proofs.Elem.{of-struct, struct-elem}
-use Rattle.slices.proofs.Put.{put-meets}
-use Rattle.rules.proofs.Model as T
-use Rattle.rules.proofs.Model.Laws as T′
+use Rattle.table_walks.proofs.Elem.{of-struct, struct-elem}
+use Rattle.table_walks.proofs.Put.{put-meets}
+use Rattle.records.proofs.Model as T
+use Rattle.records.proofs.Model.Laws as T′
 use Rattle.reader.proofs.put_model.Key.{name as #reader·put-model}
 use Rattle.reader.proofs.put_model as put-model
 use Rattle.reader.proofs.put_model.Statement as stated

@@ -2,10 +2,10 @@
 use contract.Running.{givenOf, tables, tablesOf}
 use denote.Triple.Spec.{tripleOf}
 use denote.Triple.Table.{entered}
-use Rattle.slices.proofs.Elem.{of-struct, struct-elem}
-use Rattle.slices.proofs.Put.{put-meets}
-use Rattle.rules.proofs.Selector as T
-use Rattle.rules.proofs.Selector.Laws as T′
+use Rattle.table_walks.proofs.Elem.{of-struct, struct-elem}
+use Rattle.table_walks.proofs.Put.{put-meets}
+use Rattle.records.proofs.Selector as T
+use Rattle.records.proofs.Selector.Laws as T′
 use Rattle.reader.proofs.put_selector.Key.{name as #reader·put-selector}
 use Rattle.reader.proofs.put_selector as put-selector
 use Rattle.reader.proofs.put_selector.Statement as stated

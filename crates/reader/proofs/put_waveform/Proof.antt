@@ -2,10 +2,10 @@
 use contract.Running.{givenOf, tables, tablesOf}
 use denote.Triple.Spec.{tripleOf}
 use denote.Triple.Table.{entered}
-use Rattle.slices.proofs.Elem.{of-struct, struct-elem}
-use Rattle.slices.proofs.Put.{put-meets}
-use Rattle.rules.proofs.Waveform as T
-use Rattle.rules.proofs.Waveform.Laws as T′
+use Rattle.table_walks.proofs.Elem.{of-struct, struct-elem}
+use Rattle.table_walks.proofs.Put.{put-meets}
+use Rattle.records.proofs.Waveform as T
+use Rattle.records.proofs.Waveform.Laws as T′
 use Rattle.reader.proofs.put_waveform.Key.{name as #reader·put-waveform}
 use Rattle.reader.proofs.put_waveform as put-waveform
 use Rattle.reader.proofs.put_waveform.Statement as stated

@@ -2,7 +2,7 @@
 use mathlib.Core.Path.{sym, _∙_}
 use borrow.Author.Needs.{needs}
 use denote.Ref.{now}
-use Rattle.keyword.proofs.Arguments.{key-within, key-argument}
+use Rattle.keywords.proofs.Arguments.{key-within, key-argument}
 use Rattle.steps.proofs.keyword_line.Statement.{statement}
 use Rattle.steps.proofs.keyword_line.Tie as tie
 

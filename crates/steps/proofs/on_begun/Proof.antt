@@ -26,8 +26,8 @@ enum-known-t c = search needs
 keyword-line-requires : tie.Need-keyword-line-requires
 keyword-line-requires c κs = search needs
 
-enum-known-f : tie.Need-enum-known-f
-enum-known-f c = search needs
+enum-known-fault : tie.Need-enum-known-fault
+enum-known-fault c = search needs
 
 returns-2 : tie.Need-returns-2
 unfolding onBegun
@@ -35,7 +35,7 @@ returns-2 c = rw (sym (c .before .before .before .before .before .before .bracke
 
 returns-3 : tie.Need-returns-3
 unfolding onBegun
-returns-3 c = rw (sym (c .before .before .before .before .before .bracketed .ensures) ∙ not-false (c .before .before .before .before .before .bracketed .result) (c .before .before .before .before .if1 .left), sym (c .before .before .before .shut-list .ensures), c .before .f .given .1) refl
+returns-3 c = rw (sym (c .before .before .before .before .before .bracketed .ensures) ∙ not-false (c .before .before .before .before .before .bracketed .result) (c .before .before .before .before .if1 .left), sym (c .before .before .before .shut-list .ensures), c .before .fault .given .1) refl
 
 pub on-begun-spec : {M : Type 1} → statement M
 on-begun-spec =
@@ -47,6 +47,6 @@ on-begun-spec =
     shut-list-requires
     enum-known-t
     keyword-line-requires
-    enum-known-f
+    enum-known-fault
     returns-2
     returns-3)

@@ -2,7 +2,7 @@
 use mathlib.Core.Path.{sym, ap, _∙_}
 use borrow.Author.Needs.{needs}
 use mathlib.Core.Bool.{not}
-use Rattle.given.proofs.Going.{refused, passed}
+use Rattle.rules.proofs.Going.{refused, passed}
 use Rattle.steps.proofs.open_section.Statement.{statement}
 use Rattle.steps.proofs.open_section.Tie as tie
 

@@ -1,7 +1,7 @@
 -- The fault is none, or not: `clean`, `faulted`.
 use mathlib.Core.Path.{refl, _∙_}
 use borrow.Author.Needs.{needs}
-use Rattle.given.proofs.Going.{faulted, clean}
+use Rattle.rules.proofs.Going.{faulted, clean}
 use Rattle.steps.proofs.quiet_unless.Statement.{statement}
 use Rattle.steps.proofs.quiet_unless.Tie as tie
 

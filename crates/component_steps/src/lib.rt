@@ -1,0 +1,371 @@
+// The steps of [Component] and [Model Selector].
+ghost use mathlib.Core.Path.{_≡_};
+ghost use mathlib.Core.Bool.{_&&_};
+ghost use lib.ListN.{drop};
+ghost use Rattle.decimal.specs.Decimal.{cellOf};
+ghost use Rattle.words.specs.Words.{words};
+ghost use Rattle.line_rules.specs.Fields.{cellFault, lineAt, isPinName, isSized, isPinModel, heading};
+ghost use Rattle.line_rules.specs.Tables.{componentLines, packageLines};
+ghost use Rattle.rules.specs.Component.{newComponent, withList, locationLine, packageLine, cellsFault, pinRow, componentLine, componentPlace, isLong, componentOpens, componentPart, componentShut, componentDone};
+ghost use Rattle.rules.specs.Selector.{newSelector, selectorLine, selectorShut};
+ghost use Rattle.line_cells.specs.Threes.{bytesOf, Within};
+ghost use Rattle.component_steps.specs.Steps.{cellsFrom, rowsLine, allThree, shutIf};
+use given::Given;
+use keywords::ComponentPart;
+use line_cells::HeadingRead;
+use name_table::Found;
+use rules::ComponentList;
+use rules::ComponentState;
+use rules::Event;
+use rules::SelectorState;
+use rules::Stage;
+use rules::Went;
+use words::Word;
+
+// [Component] at line k.
+pub fn new_component(k: u64) -> ComponentState
+    ensures { λ r. ⌜ r ≡ newComponent k ⌝ }
+{
+    ComponentState {
+        line: k,
+        first: given::none_given(),
+        parts: given::none_given(),
+        list: ComponentList::ComponentFirst,
+    }
+}
+
+// ---- a pin row: each word is searched once
+
+fn fault_at(w: &[u8], r: Word) -> u8
+    requires { ⌜ Within (now w) r ⌝ }
+    ensures { λ n. ⌜ n ≡ cellFault (cellOf (bytesOf (now (w .entry)) r)) ⌝ }
+{
+    let start = r.start;
+    let end = r.end;
+    line_cells::cell_fault(decimal::cell_of(&w[start..end]))
+}
+
+// Three cells: the leftmost fault counts.
+fn cells_fault(w: &[u8], r: Word, l: Word, c: Word) -> u8
+    requires { ⌜ Within (now w) r ⌝ }
+    requires { ⌜ Within (now w) l ⌝ }
+    requires { ⌜ Within (now w) c ⌝ }
+    ensures { λ n. ⌜ n ≡ cellsFault (bytesOf (now (w .entry)) r) (bytesOf (now (w .entry)) l) (bytesOf (now (w .entry)) c) ⌝ }
+{
+    let first = fault_at(w, r);
+    if first != 0 {
+        return first;
+    }
+    let second = fault_at(w, l);
+    if second != 0 {
+        return second;
+    }
+    fault_at(w, c)
+}
+
+// The cells of a row, of which the first is r: two more and nothing behind them.
+fn cells_from(w: &[u8], r: Word) -> u8
+    requires { ⌜ Within (now w) r ⌝ }
+    ensures { λ n. ⌜ n ≡ cellsFrom (bytesOf (now (w .entry)) r) (words (drop (r .end) (now (w .entry)))) ⌝ }
+{
+    let l = words::word_at(w, r.end);
+    let c = words::word_at(w, l.end);
+    if w.len() <= c.start {
+        return 10;
+    }
+    let fourth = words::word_at(w, c.end);
+    if fourth.start < w.len() {
+        return 10;
+    }
+    cells_fault(w, r, l, c)
+}
+
+// The forms of a row's three names.
+fn names_pass(w: &[u8], pin: Word, signal: Word, model: Word) -> bool
+    requires { ⌜ Within (now w) pin ⌝ }
+    requires { ⌜ Within (now w) signal ⌝ }
+    requires { ⌜ Within (now w) model ⌝ }
+    ensures { λ r. ⌜ r ≡ (isPinName (bytesOf (now (w .entry)) pin) && (isSized 40 (bytesOf (now (w .entry)) signal) && isPinModel (bytesOf (now (w .entry)) model))) ⌝ }
+{
+    let pin_start = pin.start;
+    let pin_end = pin.end;
+    if !named_lines::pin_name(&w[pin_start..pin_end]) {
+        return false;
+    }
+    let signal_start = signal.start;
+    let signal_end = signal.end;
+    if !named_lines::sized(&w[signal_start..signal_end], 40) {
+        return false;
+    }
+    let model_start = model.start;
+    let model_end = model.end;
+    named_lines::pin_model(&w[model_start..model_end])
+}
+
+// A wrong number of words is 10 as a wrong name is, so the names are asked before the words behind them are searched.
+pub fn pin_row(w: &[u8], long: bool) -> u8
+    ensures { λ r. ⌜ r ≡ pinRow long (words (now (w .entry))) ⌝ }
+{
+    let pin = words::word_at(w, 0);
+    let signal = words::word_at(w, pin.end);
+    let model = words::word_at(w, signal.end);
+    if w.len() <= model.start {
+        return 10;
+    }
+    if !names_pass(w, pin, signal, model) {
+        return 10;
+    }
+    let cell = words::word_at(w, model.end);
+    if w.len() <= cell.start {
+        return 0;
+    }
+    if !long {
+        return 10;
+    }
+    cells_from(w, cell)
+}
+
+// ---- a line that is no keyword line, by the list that is open
+
+fn location_line(c: ComponentState, k: u64, w: &[u8]) -> Went
+    ensures { λ r. ⌜ r ≡ locationLine c k (now (w .entry)) (lineAt componentLines (now (w .entry))) ⌝ }
+{
+    let found = named_lines::component_line(w);
+    let Found::At(n) = found else {
+        return rules::stopped(10, k);
+    };
+    let first = c.first;
+    if given::is_given(first, n) {
+        return rules::stopped(8, k);
+    }
+    let fault = line_faults::location_fault(w);
+    if fault != 0 {
+        return rules::stopped(fault, k);
+    }
+    let parts = c.parts;
+    let list = c.list;
+    let next = ComponentState {
+        line: c.line,
+        first: given::also(first, n),
+        parts: parts,
+        list: list,
+    };
+    Went::On(Stage::InComponent(next), Event::Quiet)
+}
+
+// The component with another list open, or none.
+fn with_list(c: ComponentState, list: ComponentList) -> ComponentState
+    ensures { λ r. ⌜ r ≡ withList c list ⌝ }
+{
+    let first = c.first;
+    let parts = c.parts;
+    ComponentState {
+        line: c.line,
+        first: first,
+        parts: parts,
+        list: list,
+    }
+}
+
+// A line of [Package], which stands at line o.
+fn package_line(c: ComponentState, o: u64, g: Given, k: u64, w: &[u8]) -> Went
+    ensures { λ r. ⌜ r ≡ packageLine c o g k (now (w .entry)) (lineAt packageLines (now (w .entry))) ⌝ }
+{
+    let found = named_lines::package_line(w);
+    let Found::At(n) = found else {
+        return rules::stopped(10, k);
+    };
+    if given::is_given(g, n) {
+        return rules::stopped(8, k);
+    }
+    let fault = line_cells::triple_fault(line_faults::named_cells(w));
+    if fault != 0 {
+        return rules::stopped(fault, k);
+    }
+    let list = ComponentList::PackageLines {
+        line: o,
+        given: given::also(g, n),
+    };
+    Went::On(Stage::InComponent(with_list(c, list)), Event::Quiet)
+}
+
+// A row of [Pin], which stands at line o.
+fn rows_line(c: ComponentState, o: u64, long: bool, k: u64, w: &[u8]) -> Went
+    ensures { λ r. ⌜ r ≡ rowsLine c o long k (now (w .entry)) ⌝ }
+{
+    let fault = pin_row(w, long);
+    if fault != 0 {
+        return rules::stopped(fault, k);
+    }
+    let list = ComponentList::PinRows {
+        line: o,
+        long: long,
+        any: true,
+    };
+    Went::On(Stage::InComponent(with_list(c, list)), Event::PinRow)
+}
+
+// A line of a component that is no keyword line.
+pub fn component_line(c: ComponentState, k: u64, w: &[u8]) -> Went
+    ensures { λ r. ⌜ r ≡ componentLine c k (now (w .entry)) (c .list) ⌝ }
+{
+    let list = c.list;
+    match list {
+        ComponentList::ComponentFirst => location_line(c, k, w),
+        ComponentList::ComponentShut => rules::stopped(7, k),
+        ComponentList::PackageLines { line, given } => package_line(c, line, given, k, w),
+        ComponentList::PinRows { line, long, any } => rows_line(c, line, long, k, w),
+    }
+}
+
+// ---- [Manufacturer], [Package], [Pin]
+
+fn part_place(p: ComponentPart) -> usize
+    ensures { λ r. ⌜ r ≡ componentPlace p ⌝ }
+{
+    match p {
+        ComponentPart::Manufacturer => 0,
+        ComponentPart::Package => 1,
+        ComponentPart::Pin => 2,
+    }
+}
+
+// The list that a keyword at line k opens.
+fn part_opens(k: u64, argument: &[u8], p: ComponentPart) -> ComponentList
+    ensures { λ r. ⌜ r ≡ componentOpens k (now (argument .entry)) p ⌝ }
+{
+    match p {
+        ComponentPart::Manufacturer => ComponentList::ComponentShut,
+        ComponentPart::Package => ComponentList::PackageLines {
+            line: k,
+            given: given::none_given(),
+        },
+        ComponentPart::Pin => ComponentList::PinRows {
+            line: k,
+            long: is_long(argument),
+            any: false,
+        },
+    }
+}
+
+// The heading of the pins is the long one.
+fn is_long(argument: &[u8]) -> bool
+    ensures { λ r. ⌜ r ≡ isLong (heading (words (now (argument .entry)))) ⌝ }
+{
+    match line_cells::heading_of(argument) {
+        HeadingRead::Short => false,
+        HeadingRead::Long => true,
+        HeadingRead::NoHeading => false,
+    }
+}
+
+// A keyword of a component at line k.
+pub fn component_part(c: ComponentState, k: u64, argument: &[u8], p: ComponentPart) -> Went
+    ensures { λ r. ⌜ r ≡ componentPart c k (now (argument .entry)) p ⌝ }
+{
+    let place = part_place(p);
+    let parts = c.parts;
+    if given::is_given(parts, place) {
+        return rules::stopped(8, k);
+    }
+    let fault = line_faults::component_fault(argument, p);
+    if fault != 0 {
+        return rules::stopped(fault, k);
+    }
+    let first = c.first;
+    let next = ComponentState {
+        line: c.line,
+        first: first,
+        parts: given::also(parts, place),
+        list: part_opens(k, argument, p),
+    };
+    Went::On(Stage::InComponent(next), Event::Quiet)
+}
+
+// ---- closing
+
+// Of three things, all were given.
+fn all_three(g: Given) -> bool
+    ensures { λ r. ⌜ r ≡ allThree g ⌝ }
+{
+    if !given::is_given(g, 0) {
+        return false;
+    }
+    if !given::is_given(g, 1) {
+        return false;
+    }
+    given::is_given(g, 2)
+}
+
+// The list that is open is whole, or 9 is told at line o.
+fn shut(c: ComponentState, whole: bool, o: u64) -> Went
+    ensures { λ r. ⌜ r ≡ shutIf c whole o ⌝ }
+{
+    if !whole {
+        return rules::stopped(9, o);
+    }
+    Went::On(
+        Stage::InComponent(with_list(c, ComponentList::ComponentShut)),
+        Event::Quiet,
+    )
+}
+
+// What a keyword line closes of a component.
+pub fn component_shut(c: ComponentState) -> Went
+    ensures { λ r. ⌜ r ≡ componentShut c (c .list) ⌝ }
+{
+    let list = c.list;
+    match list {
+        ComponentList::ComponentFirst => shut(c, true, 0),
+        ComponentList::ComponentShut => shut(c, true, 0),
+        ComponentList::PackageLines { line, given } => shut(c, all_three(given), line),
+        ComponentList::PinRows { line, long, any } => shut(c, any, line),
+    }
+}
+
+// What a component lacks.
+pub fn component_done(c: ComponentState) -> u8
+    ensures { λ r. ⌜ r ≡ componentDone c ⌝ }
+{
+    let parts = c.parts;
+    if all_three(parts) { 0 } else { 9 }
+}
+
+// ---- [Model Selector]
+
+// [Model Selector] at line k.
+pub fn new_selector(k: u64) -> SelectorState
+    ensures { λ r. ⌜ r ≡ newSelector k ⌝ }
+{
+    SelectorState {
+        line: k,
+        any: false,
+    }
+}
+
+// A row of a selector.
+pub fn selector_line(s: SelectorState, k: u64, w: &[u8]) -> Went
+    ensures { λ r. ⌜ r ≡ selectorLine s k (now (w .entry)) ⌝ }
+{
+    let name = named_lines::first_word(w);
+    let start = name.start;
+    let end = name.end;
+    if !named_lines::model_name(&w[start..end]) {
+        return rules::stopped(10, k);
+    }
+    let next = SelectorState {
+        line: s.line,
+        any: true,
+    };
+    Went::On(Stage::InSelector(next), Event::ChoiceRow)
+}
+
+// The rows of a selector end.
+pub fn selector_shut(s: SelectorState) -> Went
+    ensures { λ r. ⌜ r ≡ selectorShut s ⌝ }
+{
+    if !s.any {
+        return rules::stopped(9, s.line);
+    }
+    Went::On(Stage::InSelector(s), Event::Quiet)
+}

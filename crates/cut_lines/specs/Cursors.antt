@@ -1,0 +1,78 @@
+-- What the cursors and places that the code answers say of the texts.
+use Prim.Native.Nat.{ℕ, _+_, _≤_, _<_}
+use mathlib.Core.Path.{_≡_}
+use mathlib.Core.List.{List, [], _∷_}
+use mathlib.Core.Bool.{true, false}
+use lib.ListN.{length, drop}
+use Rattle.laws.specs.Lists.{part}
+use Rattle.lines.specs.Lines.{Physical, linesOf, cut}
+use Rattle.cut_lines.specs.Change.{isChange, changeOf}
+use Rattle.cut_lines.specs.Texts.{plain, change, faultOf, charAfter, rest, past}
+use Rattle.cut_lines.specs.declared.Cursor.{Cursor}
+use Rattle.cut_lines.specs.declared.OneLine.{OneLine}
+use Rattle.cut_lines.specs.declared.OneLine.the-variants.{Cut, Changed}
+use Rattle.cut_lines.specs.declared.Next.{Next}
+use Rattle.cut_lines.specs.declared.Next.the-variants.{Text, Change, Out}
+
+-- a cursor that stands in a file: every line before it has at least one byte
+pub record Placed (s : List ℕ) (c : Cursor) : Type 0 where
+  pub within : c .at ≤ length s
+  pub lines : c .line ≤ c .at + 1
+
+-- the line at a cursor is l, and n stands behind it
+pub record Steps (s : List ℕ) (c : Cursor) (l : Physical) (n : Cursor) : Type 0 where
+  pub more : linesOf (drop (c .at) s) ≡ l ∷ linesOf (drop (n .at) s)
+  pub line : n .line ≡ c .line + 1
+  pub rises : c .at < n .at
+  pub within : n .at ≤ length s
+
+pub record CutIs (s : List ℕ) (c : Cursor) (e : ℕ) (n : Cursor) : Type 0 where
+  pub physical : Physical
+  pub steps : Steps s c physical n
+  pub kind : isChange (physical .bytes) ≡ false
+  pub text : part (c .at) e s ≡ cut (c .comment) (physical .bytes)
+  pub char : n .comment ≡ c .comment
+  pub starts : c .at ≤ e
+  pub ends : e ≤ length s
+
+pub record ChangedIs (s : List ℕ) (c : Cursor) (f : ℕ) (n : Cursor) : Type 0 where
+  pub physical : Physical
+  pub steps : Steps s c physical n
+  pub kind : isChange (physical .bytes) ≡ true
+  pub fault : f ≡ faultOf (changeOf (physical .bytes))
+  pub char : n .comment ≡ charAfter (c .comment) (changeOf (physical .bytes))
+
+abbrev pub OneIs : List ℕ → Cursor → OneLine → Type 0
+OneIs s c (Cut e n) = CutIs s c e n
+OneIs s c (Changed f n) = ChangedIs s c f n
+
+-- a text's cursor: the next one stands behind it, and the file ends at the same line
+pub record Goes (s : List ℕ) (c n : Cursor) : Type 0 where
+  pub placed : Placed s n
+  pub rises : c .at < n .at
+  pub ends : past s c ≡ past s n
+
+pub record TextIs (s : List ℕ) (c : Cursor) (k a e : ℕ) (n : Cursor) : Type 0 where
+  pub more : rest s c ≡ plain k (part a e s) ∷ rest s n
+  -- the same texts from the line's own place on
+  pub here : rest s (record { at = a; line = k; comment = n .comment }) ≡ plain k (part a e s) ∷ rest s n
+  pub goes : Goes s c n
+  pub line : n .line ≡ k + 1
+  pub from : c .at ≤ a
+  pub lines : k ≤ a + 1
+  pub starts : a < e
+  pub fits : e ≤ length s
+
+pub record ChangeIs (s : List ℕ) (c : Cursor) (k f : ℕ) (n : Cursor) : Type 0 where
+  pub more : rest s c ≡ change k f ∷ rest s n
+  pub goes : Goes s c n
+
+pub record OutIs (s : List ℕ) (c : Cursor) (k : ℕ) : Type 0 where
+  pub more : rest s c ≡ []
+  pub ends : k ≡ past s c
+
+-- either the list of texts is empty, or it is the text handed out and then the texts from the next cursor on
+abbrev pub NextIs : List ℕ → Cursor → Next → Type 0
+NextIs s c (Text k a e n) = TextIs s c k a e n
+NextIs s c (Change k f n) = ChangeIs s c k f n
+NextIs s c (Out k) = OutIs s c k

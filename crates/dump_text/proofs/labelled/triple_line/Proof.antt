@@ -1,0 +1,29 @@
+-- One text behind another.
+use borrow.Author.Needs.{needs}
+use Rattle.dump_text.specs.Labelled.{tripleLine}
+use Rattle.text_buffer.proofs.Laws.{put-then, put-kept}
+use Rattle.dump_text.proofs.labelled.triple_line.Statement.{statement}
+use Rattle.dump_text.proofs.labelled.triple_line.Tie as tie
+
+put-bytes-requires : tie.Need-put-bytes-requires
+put-bytes-requires c κs = search needs
+
+put-triple-requires : tie.Need-put-triple-requires
+put-triple-requires c κs = search needs
+
+put-byte-requires : tie.Need-put-byte-requires
+put-byte-requires c κs = search needs
+
+returns : tie.Need-returns
+unfolding tripleLine
+returns c =
+    let a = c .before .before in
+    let b = a .before .before .before .before in
+    let d = b .before .before .before .before in
+    put-then (put-then (d .put-bytes .ensures) (b .put-triple .ensures)) (a .put-byte .ensures)
+
+same-length : tie.Need-same-length
+same-length c = put-kept (returns c)
+
+pub triple-line-spec : {M : Type 1} → statement M
+triple-line-spec = tie.close (tie.spec put-bytes-requires put-triple-requires put-byte-requires same-length returns)

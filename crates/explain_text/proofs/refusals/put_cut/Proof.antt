@@ -1,0 +1,62 @@
+-- By whether the line is too long.
+use borrow.Author.Needs.{needs}
+use mathlib.Core.Path.{sym}
+use lib.ListN.{length}
+use borrow.Author.Tests.{lt-ltb, le-ltb}
+use denote.Ref.{now}
+use Rattle.laws.proofs.Tests.{cond-yes, cond-no}
+use Rattle.explain_text.specs.Refusals.{visibleText}
+use Rattle.text_buffer.proofs.Laws.{put-then, put-as, put-kept}
+use Rattle.explain_text.proofs.refusals.put_cut.Statement.{statement}
+use Rattle.explain_text.proofs.refusals.put_cut.Tie as tie
+
+sub-put-visible : tie.Need-sub-put-visible
+sub-put-visible c = search needs
+
+part-put-visible-start : tie.Need-part-put-visible-start
+part-put-visible-start c = search needs
+
+part-put-visible-end : tie.Need-part-put-visible-end
+part-put-visible-end c = search needs
+
+put-visible-requires : tie.Need-put-visible-requires
+put-visible-requires c κs = search needs
+
+slice-aggregate-put-bytes : tie.Need-slice-aggregate-put-bytes
+slice-aggregate-put-bytes c = search needs
+
+put-bytes-requires : tie.Need-put-bytes-requires
+put-bytes-requires c κs = search needs
+
+returns : tie.Need-returns
+unfolding visibleText
+returns c = put-as (sym (cond-yes _ _ (lt-ltb 120 (length (now (c .before .before .before .before .before .before .before .before .before .before .before .before .before .args .line))) (c .before .before .before .before .before .before .before .before .before .before .if1 .taken)))) (put-then (c .before .before .before .before .before .before .before .put-visible .ensures) (c .before .before .put-bytes .ensures))
+
+put-visible-requires-2 : tie.Need-put-visible-requires-2
+put-visible-requires-2 c κs = search needs
+
+returns-2 : tie.Need-returns-2
+unfolding visibleText
+returns-2 c = put-as (sym (cond-no _ _ (le-ltb 120 (length (now (c .before .before .before .before .before .before .before .args .line))) (c .before .before .before .before .if1 .left)))) (c .before .before .put-visible2 .ensures)
+
+same-length : tie.Need-same-length
+same-length c = put-kept (returns c)
+
+same-length-2 : tie.Need-same-length-2
+same-length-2 c = put-kept (returns-2 c)
+
+pub put-cut-spec : {M : Type 1} → statement M
+put-cut-spec =
+    tie.close
+    (tie.spec
+    sub-put-visible
+    part-put-visible-start
+    part-put-visible-end
+    put-visible-requires
+    slice-aggregate-put-bytes
+    put-bytes-requires
+    same-length
+    returns
+    put-visible-requires-2
+    same-length-2
+    returns-2)

@@ -1,0 +1,78 @@
+-- The bytes so far are put, one more each turn.
+use Prim.Native.Nat.{_-_, _≤_}
+use mathlib.Core.Path.{_≡_, refl, sym, _∙_}
+use lib.ListN.{length, take, length-map}
+use native.Mathlib.Omega.{arith}
+use borrow.Author.Needs.{needs}
+use mathlib.Core.List.{map}
+use lib.Seq.{take-all}
+use denote.Ref.{now}
+use Rattle.text_buffer.specs.Put.{Put}
+use Rattle.text_buffer.proofs.Laws.{put-none, put-then, put-kept}
+use Rattle.explain_text.specs.Refusals.{visible}
+use Rattle.explain_text.proofs.Laws.{put-mapped}
+use Rattle.explain_text.proofs.refusals.put_visible.Statement.{statement}
+use Rattle.explain_text.proofs.refusals.put_visible.Tie as tie
+
+abbrev Inv-loop : tie.InvT-loop
+Inv-loop out₀ at text next₀ i₀ out next i = (i ≤ length text) × (length out ≡ length out₀) × Put out₀ out next₀ (take i (map visible text)) next
+
+abbrev μ-loop : tie.MeasureT-loop
+μ-loop out₀ at text next₀ i₀ out next i = length text - i
+
+slice-aggregate-put-bytes : tie.Need-slice-aggregate-put-bytes Inv-loop μ-loop
+slice-aggregate-put-bytes c = search needs
+
+put-bytes-requires : tie.Need-put-bytes-requires Inv-loop μ-loop
+put-bytes-requires c κs = search needs
+
+loop-holds : tie.Need-loop-holds Inv-loop μ-loop
+loop-holds c = (omega arith, refl, put-none _ _ _ (omega (arith, c .before .before .put-bytes .ensures .within)))
+
+shared-slice-read-visible-byte : tie.Need-shared-slice-read-visible-byte Inv-loop μ-loop
+shared-slice-read-visible-byte c = search needs
+
+visible-byte-requires : tie.Need-visible-byte-requires Inv-loop μ-loop
+visible-byte-requires c κs = search needs
+
+put-byte-requires : tie.Need-put-byte-requires Inv-loop μ-loop
+put-byte-requires c κs = search needs
+
+add-i : tie.Need-add-i Inv-loop μ-loop
+add-i c = search needs
+
+loop-less : tie.Need-loop-less Inv-loop μ-loop
+loop-less c = search needs
+
+loop-again : tie.Need-loop-again Inv-loop μ-loop
+loop-again c =
+    let l = c .before .before .before .before .before .before .before .loop in
+    let a = c .before .before .before .before .before .before .before .before .before .before .before .before .before .before .before .args in
+    (omega (arith, c .before .before .before .before .before .before .loop-test .taken), c .before .before .put-byte .kept .0 ∙ l .inv .1, put-mapped visible _ _ _ (c .before .before .before .before .before .before .before .before .before .before .put-bytes .result) _ _ (l .i) _ (now (a .text)) (c .before .before .before .before .before .before .loop-test .taken) (c .before .before .before .visible-byte .ensures) (l .inv .2) (c .before .before .put-byte .ensures))
+
+same-length : tie.Need-same-length Inv-loop μ-loop
+same-length c = c .before .loop .inv .1 ∙ put-kept (c .before .before .before .before .put-bytes .ensures)
+
+returns : tie.Need-returns Inv-loop μ-loop
+returns c =
+    let t = now (c .before .before .before .before .before .before .before .before .before .args .text) in
+    let n : length (map visible t) ≡ length t = length-map t visible in
+    rw (sym (take-all (c .before .loop .i) (map visible t) (omega (arith, n, c .loop-test .left)))) (put-then (c .before .before .before .before .put-bytes .ensures) (c .before .loop .inv .2))
+
+pub put-visible-spec : {M : Type 1} → statement M
+put-visible-spec =
+    tie.close
+    (tie.spec
+    Inv-loop
+    μ-loop
+    slice-aggregate-put-bytes
+    put-bytes-requires
+    loop-holds
+    shared-slice-read-visible-byte
+    visible-byte-requires
+    put-byte-requires
+    add-i
+    loop-less
+    loop-again
+    same-length
+    returns)

@@ -1,0 +1,22 @@
+-- What stands behind the text depends on where it ends.
+use borrow.Author.Needs.{needs}
+use Rattle.explain_text.specs.Summaries.{gapText, column}
+use Rattle.text_buffer.proofs.Laws.{put-filled, put-kept}
+use Rattle.explain_text.proofs.summaries.put_type_column.Statement.{statement}
+use Rattle.explain_text.proofs.summaries.put_type_column.Tie as tie
+
+put-type-requires : tie.Need-put-type-requires
+put-type-requires c κs = search needs
+
+put-gap-requires : tie.Need-put-gap-requires
+put-gap-requires c κs = search needs
+
+returns : tie.Need-returns
+unfolding column
+returns c = put-filled (gapText 15) (c .before .before .before .before .before .before .put-type .ensures) (c .before .before .put-gap .ensures)
+
+same-length : tie.Need-same-length
+same-length c = put-kept (returns c)
+
+pub put-type-column-spec : {M : Type 1} → statement M
+put-type-column-spec = tie.close (tie.spec put-type-requires put-gap-requires same-length returns)

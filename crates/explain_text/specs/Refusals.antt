@@ -1,0 +1,47 @@
+-- A refusal as a person reads it: where, which fault and what it means; then the line itself; then what to look at.
+use Prim.Native.Nat.{ℕ, zero, suc}
+use Prim.Native.Char.{code}
+use mathlib.Core.List.{List, [], _∷_, _++_, map}
+use mathlib.Core.Bool.{cond}
+use lib.Dec.{eqb, ltb}
+use lib.ListN.{length, take, drop}
+use Rattle.laws.specs.Bytes.{bytes}
+use Rattle.lines.specs.Lines.{Physical, linesOf, isAllowed}
+use Rattle.records.specs.declared.Fault.{Fault}
+use Rattle.text_buffer.specs.Numerals.{numeralOf}
+use Rattle.fault_texts.specs.Sentences.{sentenceOf}
+use Rattle.fault_texts.specs.Hints.{hintOf}
+
+-- ---- NAME:LINE: fault N: what it means
+
+-- line 0 is none
+unfoldable pub placeText : ℕ → List ℕ
+placeText n = cond (eqb n 0) [] (bytes ":" ++ numeralOf n)
+
+unfoldable pub faultText : List ℕ → Fault → List ℕ
+faultText name f =
+    name ++ placeText (f .line) ++ bytes ": fault " ++ numeralOf (f .number) ++ bytes ": " ++ sentenceOf (f .number) ++ bytes "\n"
+
+-- ---- the line, safe for a screen
+
+-- a byte that document 01 forbids is a question mark
+unfoldable pub visible : ℕ → ℕ
+visible b = cond (isAllowed b) b (code "?")
+
+-- what stands past the 120th character is two points
+unfoldable pub visibleText : List ℕ → List ℕ
+visibleText l = cond (ltb 120 (length l)) (map visible (take 120 l) ++ bytes "..") (map visible l)
+
+abbrev pub firstText : List Physical → List ℕ
+firstText [] = []
+firstText (l ∷ ls) = bytes "> " ++ visibleText (l .bytes) ++ bytes "\n"
+
+-- line n of a file, from 1 on; nothing where there is none
+abbrev pub sourceText : List ℕ → ℕ → List ℕ
+sourceText s zero = []
+sourceText s (suc n) = firstText (drop n (linesOf s))
+
+-- ---- all of it
+
+unfoldable pub refusalText : List ℕ → List ℕ → Fault → List ℕ
+refusalText name s f = faultText name f ++ sourceText s (f .line) ++ hintOf (f .number) ++ bytes "\n"

@@ -1,0 +1,83 @@
+-- By whether a name is used twice, and how far the lines are read.
+use mathlib.Core.Path.{sym, ap, _∙_}
+use native.Mathlib.Omega.{arith}
+use borrow.Author.Needs.{needs}
+use denote.Ref.{now}
+use Rattle.name_checks.specs.Lookup.{clashIs}
+use Rattle.file_answer.proofs.Laws.{small}
+use Rattle.file_answer.proofs.Accepts.{refuses, twice, broken, all-read}
+use Rattle.file_answer.proofs.settling.settle.Statement.{statement}
+use Rattle.file_answer.proofs.settling.settle.Tie as tie
+
+scan-requires : tie.Need-scan-requires
+scan-requires c κs = (small (c .before .before .before .args .l) (now (c .before .before .before .args .src)) (c .before .before .before .pre .0), c .before .before .before .pre .1)
+
+first-clash-requires : tie.Need-first-clash-requires
+first-clash-requires c κs = c .before .before .before .before .scan .ensures .1 .0
+
+enum-known-k : tie.Need-enum-known-k
+enum-known-k c = search needs
+
+refused-requires : tie.Need-refused-requires
+refused-requires c κs = search needs
+
+enum-told : tie.Need-enum-told
+enum-told c = search needs
+
+enum-told-2 : tie.Need-enum-told-2
+enum-told-2 c = search needs
+
+last-checks-requires : tie.Need-last-checks-requires
+last-checks-requires c κs =
+    let a = c .before .before .before .before .before .before .before .before .before .before .before .before .before .before .args in
+    all-read (a .l) (now (a .src)) (c .before .before .before .before .before .before .before .before .before .before .scan .last .0) (c .before .before .before .before .before .before .before .before .before .before .scan .result) (c .before .before .before .before .before .before .before .before .before .before .before .before .before .before .pre .0) (c .before .before .before .before .before .before .before .before .before .before .scan .ensures .0) (sym (c .before .before .before .before .before .first-clash .ensures) ∙ ap clashIs (c .before .before .before .enum-told .given .1)) (c .before .enum-told2 .given .1) (c .before .before .before .before .before .before .before .before .before .before .scan .ensures .1 .1) (omega (arith, c .before .before .before .before .before .before .before .before .before .notes .given, c .before .before .before .before .before .before .before .before .before .before .before .before .before .before .pre .1))
+
+enum-known-ending : tie.Need-enum-known-ending
+enum-known-ending c = search needs
+
+refused-requires-2 : tie.Need-refused-requires-2
+refused-requires-2 c κs = search needs
+
+same-length : tie.Need-same-length
+same-length c = search needs
+
+returns : tie.Need-returns
+returns c =
+    let a = c .before .before .before .before .before .before .before .before .before .before .before .before .before .args in
+    let s = now (a .src) in
+    refuses (a .l) s _ _ 14 _ (twice (a .l) s (c .before .before .before .before .before .before .before .before .before .scan .last .0) (c .before .before .before .before .before .before .before .before .before .scan .result) (c .before .before .before .before .before .before .before .before .before .before .before .before .before .pre .0) (c .before .before .before .before .before .before .before .before .before .scan .ensures .0) _ (sym (c .before .before .before .before .first-clash .ensures) ∙ ap clashIs (c .before .before .k .given .1))) (c .refused .ensures)
+
+same-length-2 : tie.Need-same-length-2
+same-length-2 c = search needs
+
+returns-2 : tie.Need-returns-2
+returns-2 c = c .before .before .last-checks .ensures
+
+same-length-3 : tie.Need-same-length-3
+same-length-3 c = search needs
+
+returns-3 : tie.Need-returns-3
+returns-3 c =
+    let a = c .before .before .before .before .before .before .before .before .before .before .before .before .before .before .before .args in
+    let s = now (a .src) in
+    refuses (a .l) s _ _ _ _ (broken (a .l) s (c .before .before .before .before .before .before .before .before .before .before .before .scan .last .0) (c .before .before .before .before .before .before .before .before .before .before .before .scan .result) (c .before .before .before .before .before .before .before .before .before .before .before .before .before .before .before .pre .0) (c .before .before .before .before .before .before .before .before .before .before .before .scan .ensures .0) _ (sym (c .before .before .before .before .before .before .first-clash .ensures) ∙ ap clashIs (c .before .before .before .before .enum-told .given .1)) (c .before .before .ending .given .1)) (c .refused2 .ensures)
+
+pub settle-spec : {M : Type 1} → statement M
+settle-spec =
+    tie.close
+    (tie.spec
+    scan-requires
+    first-clash-requires
+    enum-known-k
+    refused-requires
+    enum-told
+    enum-told-2
+    last-checks-requires
+    enum-known-ending
+    refused-requires-2
+    same-length
+    returns
+    same-length-2
+    returns-2
+    same-length-3
+    returns-3)

@@ -1,0 +1,32 @@
+-- What is answered to a file: that it is accepted, how much of each table is used, and its header; or the fault that document 01 puts first.
+use Prim.Native.Nat.{ℕ}
+use mathlib.Core.List.{List, []}
+use Rattle.rules.specs.Reading.{FileIs, fileIn}
+use Rattle.layout.specs.Laid.{laid}
+use Rattle.records.specs.Stored.{wordsLaid}
+use Rattle.rules.specs.Whole.{Outcome, passed, refused, outcome, textsOf}
+use Rattle.records.specs.declared.Lengths.{Lengths}
+use Rattle.notes.specs.Noted.{nothingUsed}
+use Rattle.layout_by_notes.specs.Lies.{countsOf}
+use Rattle.records.specs.declared.Verdict.{Verdict}
+use Rattle.records.specs.declared.Verdict.the-variants.{Accepted, Refused}
+use Rattle.records.specs.declared.Answer.{Answer}
+
+abbrev pub verdictOf : Outcome → Verdict
+verdictOf (passed h) = Accepted
+verdictOf (refused n k) = Refused (record { number = n; line = k })
+
+-- of a refused file nothing is told but the fault
+abbrev pub refusal : ℕ → ℕ → Answer
+refusal n k = record { verdict = Refused (record { number = n; line = k }); counts = nothingUsed; header = record { name = wordsLaid []; revision = wordsLaid [] } }
+
+abbrev pub acceptance : FileIs → Answer
+acceptance f = record { verdict = Accepted; counts = countsOf (laid f); header = record { name = wordsLaid (f .name); revision = wordsLaid (f .revision) } }
+
+abbrev pub answerFor : FileIs → Outcome → Answer
+answerFor f (passed h) = acceptance f
+answerFor f (refused n k) = refusal n k
+
+-- l are the lengths of the lent tables
+unfoldable pub answerOf : Lengths → List ℕ → Answer
+answerOf l s = answerFor (fileIn (textsOf s)) (outcome l s)

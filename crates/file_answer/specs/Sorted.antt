@@ -1,0 +1,50 @@
+-- What is noted of an accepted file, for those who fill the tables: its names by kind, and its waveforms.
+use Prim.Native.Nat.{ℕ, zero, suc, _≤_}
+use mathlib.Core.Path.{_≡_}
+use mathlib.Core.List.{List, [], _∷_, _++_, map, reverse}
+use mathlib.Core.Option.{none}
+use lib.ListN.{length}
+use Rattle.lines.specs.Lines.{bytesFault}
+use Rattle.lines.specs.declared.Bytes.the-variants.{Clean}
+use Rattle.cut_lines.specs.Texts.{rest, past, firstCursor}
+use Rattle.rules.specs.Whole.{Outcome, passed, refused, outcome, textsOf}
+use Rattle.records.specs.declared.Kind.{Kind}
+use Rattle.records.specs.declared.Lengths.{Lengths}
+use Rattle.rules.specs.declared.Stage.the-variants.{BeforeVersion}
+use Rattle.notes.specs.Noted.{Log, entryOf, runLog, emptyLog, whole, clash}
+use Rattle.note_words.specs.Store.{waveAt, notesTo, storeLength}
+use Rattle.scan.specs.Events.{logOf, Within}
+use Rattle.scan.specs.declared.Tally.{Tally}
+use Rattle.layout_by_notes.specs.Lies.{noted}
+use Rattle.from_notes.specs.Made.{noteBy}
+use Rattle.file_answer.specs.Answered.{answerOf}
+use Rattle.records.specs.declared.Answer.{Answer}
+
+-- f at 0, 1, .. below n
+unfoldable pub upTo : {A : Type 0} → (ℕ → A) → ℕ → List A
+upTo f zero = []
+upTo f (suc n) = upTo f n ++ (f n ∷ [])
+
+-- the store holds the file's names by kind, in file order, and its waveforms
+pub record Sorted (l : Lengths) (s xs : List ℕ) : Type 0 where
+  pub past : ℕ
+  pub log : Log
+  pub run : runLog l past BeforeVersion emptyLog (textsOf s) ≡ whole log
+  pub names : (k : Kind) → noted k log ≡ upTo (noteBy s xs k) (length (noted k log))
+  pub waves : reverse (log .waves) ≡ upTo (waveAt s xs) (length (log .waves))
+
+abbrev pub SortedFor : Lengths → List ℕ → List ℕ → Outcome → Type 0
+SortedFor l s xs (passed h) = Sorted l s xs
+SortedFor l s xs (refused n k) = Unit {0}
+
+pub record Outlines (l : Lengths) (s : List ℕ) (r : Answer) (xs : List ℕ) : Type 0 where
+  pub answer : r ≡ answerOf l s
+  pub sorted : SortedFor l s xs (outcome l s)
+
+-- all lines are read, without fault and with no name used twice
+pub record ReadWhole (l : Lengths) (s xs : List ℕ) (t : Tally) : Type 0 where
+  pub clean : bytesFault s ≡ Clean
+  pub read : runLog l (past s firstCursor) BeforeVersion emptyLog (rest s firstCursor) ≡ whole (logOf s xs t)
+  pub names : clash (map entryOf (notesTo s xs (t .names))) ≡ none
+  pub within : Within t
+  pub store : storeLength ≤ length xs

@@ -1,0 +1,118 @@
+// Bytes, lines, names, last checks, one after the other: the first fault ends the reading.
+ghost use mathlib.Core.Path.{_≡_};
+ghost use Prim.Native.Nat.{_≤_};
+ghost use lib.ListN.{length};
+ghost use Rattle.lines.specs.Lines.{bytesFault};
+ghost use Rattle.lines.specs.declared.Bytes.the-variants.{Clean};
+ghost use Rattle.cut_lines.specs.Texts.{rest, firstCursor};
+ghost use Rattle.rules.specs.Whole.{outcome};
+ghost use Rattle.note_words.specs.Store.{storeLength};
+ghost use Rattle.component_records.specs.Views.{headerLaid};
+ghost use Rattle.file_answer.specs.Answered.{refusal, verdictOf};
+ghost use Rattle.file_answer.specs.Sorted.{Outlines, ReadWhole};
+ghost use Rattle.records.specs.declared.Verdict.the-variants.{Accepted};
+use cut_lines::Cursor;
+use lines::Bytes;
+use name_checks::Clash;
+use name_checks::Last;
+use records::Answer;
+use records::Counts;
+use records::Fault;
+use records::Header;
+use records::Lengths;
+use records::Verdict;
+use scan::Ending;
+use scan::Tally;
+
+fn refused(f: Fault) -> Answer
+    ensures { λ r. ⌜ r ≡ refusal (f .number) (f .line) ⌝ }
+{
+    Answer {
+        verdict: Verdict::Refused(f),
+        counts: Counts {
+            components: 0,
+            pins: 0,
+            selectors: 0,
+            choices: 0,
+            models: 0,
+            waveforms: 0,
+            rows: 0,
+        },
+        header: Header {
+            name: component_records::words_of(b""),
+            revision: component_records::words_of(b""),
+        },
+    }
+}
+
+fn accepted(src: &[u8], c: Counts) -> Answer
+    ensures { λ r. ⌜ r ≡ record { verdict = Accepted; counts = c; header = headerLaid (rest (now (src .entry)) firstCursor) } ⌝ }
+{
+    Answer {
+        verdict: Verdict::Accepted,
+        counts: c,
+        header: component_records::header_of(src, Cursor::first()),
+    }
+}
+
+// The last checks, once all lines are read and no name is used twice; an accepted file's names are then sorted by kind.
+fn last_checks(src: &[u8], l: Lengths, t: Tally, notes: &mut [u32]) -> Answer
+    requires { ⌜ ReadWhole l (now src) (now notes) t ⌝ }
+    ensures { λ r. ⌜ Outlines l (now (src .entry)) r (now (notes .exit)) ⌝ }
+{
+    let names = t.names;
+    match name_checks::last_fault(src, notes, names) {
+        Last::Fine => {
+            name_checks::sort_by_kind(notes, names);
+            accepted(src, t.counts)
+        }
+        Last::Missing(k) => refused(Fault {
+            number: 15,
+            line: k,
+        }),
+        Last::Unlisted(k) => refused(Fault {
+            number: 16,
+            line: k,
+        }),
+    }
+}
+
+// The lines of a file whose bytes are clean.
+fn settle(src: &[u8], l: Lengths, notes: &mut [u32]) -> Answer
+    requires { ⌜ (bytesFault (now src) ≡ Clean) × (storeLength ≤ length (now notes)) ⌝ }
+    ensures { λ r. ⌜ Outlines l (now (src .entry)) r (now (notes .exit)) ⌝ }
+{
+    let z = scan::scan(notes, src, l);
+    let t = z.tally;
+    let ending = z.ending;
+    match name_checks::first_clash(src, notes, t.names) {
+        Clash::At(k) => refused(Fault {
+            number: 14,
+            line: k,
+        }),
+        Clash::NoClash => match ending {
+            Ending::Whole => last_checks(src, l, t, notes),
+            Ending::Broken(f) => refused(f),
+        },
+    }
+}
+
+// The answer to a file, and its notes.
+pub fn outlined(src: &[u8], l: Lengths, notes: &mut [u32]) -> Answer
+    requires { ⌜ storeLength ≤ length (now notes) ⌝ }
+    ensures { λ r. ⌜ Outlines l (now (src .entry)) r (now (notes .exit)) ⌝ }
+{
+    match lines::check_bytes(src) {
+        Bytes::Clean => settle(src, l, notes),
+        Bytes::Faulty(f) => refused(f),
+    }
+}
+
+// Whether a file would be accepted, if tables of these lengths were lent; nothing is written.
+pub fn check(src: &[u8], l: Lengths) -> Verdict
+    ensures { λ r. ⌜ r ≡ verdictOf (outcome l (now (src .entry))) ⌝ }
+{
+    let mut notes = [0u32; 12825];
+    let a = outlined(src, l, &mut notes);
+    a.verdict
+}

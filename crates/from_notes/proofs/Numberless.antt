@@ -1,0 +1,30 @@
+-- What does not read a line's number is the same from a cursor by words.
+use Prim.Native.Nat.{ℕ, _+_, _-_}
+use mathlib.Core.Path.{_≡_, refl, sym, ap, _∙_}
+use mathlib.Core.List.{List, [], _∷_, map}
+use native.Mathlib.Omega.{arith}
+use lib.ListN.{drop}
+use Rattle.lines.specs.Lines.{linesOf}
+use Rattle.cut_lines.specs.Texts.{Text, plain, change, rest}
+use Rattle.cut_lines.specs.declared.Cursor.{Cursor}
+use Rattle.rules.specs.Reading.{keyAt, waveformIn}
+use Rattle.layout_by_notes.specs.Lies.{keyEdge, waveformFrom}
+use Rattle.cut_lines.proofs.Renumbered.{textAt, texts-map}
+use Rattle.rules.proofs.Numberless.{Numberless, under-at}
+use Rattle.from_notes.specs.Made.{StandsAt}
+
+texts-one : (s : List ℕ) (at comment k : ℕ)
+    → map (textAt (λ n. n - k + 1)) (rest s (record { at = at; line = k; comment = comment })) ≡ rest s (record { at = at; line = 1; comment = comment })
+unfolding rest
+texts-one s at comment k = texts-map (λ n. n - k + 1) comment k 1 (linesOf (drop at s)) (λ i q. omega arith)
+
+pub stands : {A : Type 0} (g : List Text → A) → Numberless g → {s : List ℕ} {at comment : ℕ} {c : Cursor} → StandsAt s at comment c → (k : ℕ)
+    → g (rest s c) ≡ g (rest s (record { at = at; line = k; comment = comment }))
+stands g n {s} {at} {comment} h k =
+    ap g (h .texts ∙ sym (texts-one s at comment k)) ∙ n (λ n. n - k + 1) (rest s (record { at = at; line = k; comment = comment }))
+
+pub waveform-numberless : Numberless waveformFrom
+unfolding waveformFrom
+waveform-numberless f [] = refl
+waveform-numberless f (plain k w ∷ ts) = ap (waveformIn (keyEdge (keyAt (plain k w)))) (under-at f ts)
+waveform-numberless f (change k n ∷ ts) = ap (waveformIn (keyEdge (keyAt (change k n)))) (under-at f ts)

@@ -1,0 +1,23 @@
+-- Behind the last place of nine words there is nothing.
+use Prim.Native.Nat.{_+_, _*_}
+use native.Mathlib.Omega.{arith}
+use borrow.Author.Needs.{needs}
+use denote.Ref.{now}
+use Rattle.from_notes.proofs.Words.{word-past}
+use Rattle.from_notes.proofs.places.name_word.Statement.{statement}
+use Rattle.from_notes.proofs.places.name_word.Tie as tie
+
+returns : tie.Need-returns
+returns c = word-past (now (c .before .before .args .notes)) (9 * c .before .before .args .n + c .before .before .args .j) (omega arith)
+
+mul-word-behind : tie.Need-mul-word-behind
+mul-word-behind c = search needs
+
+word-behind-requires : tie.Need-word-behind-requires
+word-behind-requires c κs = search needs
+
+returns-2 : tie.Need-returns-2
+returns-2 c = search needs
+
+pub name-word-spec : {M : Type 1} → statement M
+name-word-spec = tie.close (tie.spec returns mul-word-behind word-behind-requires returns-2)

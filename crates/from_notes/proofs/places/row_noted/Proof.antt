@@ -1,0 +1,21 @@
+-- By the two words.
+use mathlib.Core.Path.{refl}
+use borrow.Author.Needs.{needs}
+use Rattle.from_notes.proofs.places.row_noted.Statement.{statement}
+use Rattle.from_notes.proofs.places.row_noted.Tie as tie
+
+name-word-requires : tie.Need-name-word-requires
+name-word-requires c κs = search needs
+
+name-word-requires-2 : tie.Need-name-word-requires-2
+name-word-requires-2 c κs = search needs
+
+part-of-requires : tie.Need-part-of-requires
+part-of-requires c κs = search needs
+
+returns : tie.Need-returns
+returns c = rw (c .part-of .ensures, c .before .name-word2 .ensures, c .before .before .name-word .ensures) refl
+
+pub row-noted-spec : {M : Type 1} → statement M
+row-noted-spec =
+    tie.close (tie.spec name-word-requires name-word-requires-2 part-of-requires returns)

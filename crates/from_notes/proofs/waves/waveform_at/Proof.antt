@@ -1,0 +1,49 @@
+-- By the words noted, whatever the line's number.
+use Prim.Native.Nat.{ℕ, _+_, _*_}
+use mathlib.Core.Path.{_≡_, sym, ap, _∙_}
+use lib.ListN.{getD}
+use native.Mathlib.Omega.{arith}
+use borrow.Author.Needs.{needs}
+use denote.Ref.{now}
+use Rattle.layout.specs.Laid.{waveformLaid}
+use Rattle.note_words.specs.Store.{wavesFrom, waveAt}
+use Rattle.layout_by_notes.specs.Lies.{waveformFrom, waveNoted}
+use Rattle.from_notes.specs.Made.{waveformAt}
+use Rattle.from_notes.proofs.Numberless.{stands, waveform-numberless}
+use Rattle.from_notes.proofs.waves.waveform_at.Statement.{statement}
+use Rattle.from_notes.proofs.waves.waveform_at.Tie as tie
+
+wave-word-requires : tie.Need-wave-word-requires
+wave-word-requires c κs = search needs
+
+wave-word-requires-2 : tie.Need-wave-word-requires-2
+wave-word-requires-2 c κs = search needs
+
+wave-word-requires-3 : tie.Need-wave-word-requires-3
+wave-word-requires-3 c κs = search needs
+
+cursor-at-requires : tie.Need-cursor-at-requires
+cursor-at-requires c κs = search needs
+
+waveform-from-requires : tie.Need-waveform-from-requires
+waveform-from-requires c κs = c .cursor-at .ensures .placed
+
+returns : tie.Need-returns
+unfolding waveformAt waveNoted waveAt
+returns c =
+    let ns = now (c .before .before .before .before .before .before .before .args .notes) in
+    let at : ℕ = wavesFrom + 4 * c .before .before .before .before .before .before .before .args .i in
+    let z : c .before .before .before .before .wave-word .result ≡ getD ns at 0 = c .before .before .before .before .wave-word .ensures ∙ ap (λ (k : ℕ). getD ns k 0) (omega arith) in
+    rw (c .waveform-from .ensures, c .before .before .wave-word3 .ensures, sym (c .before .before .before .wave-word2 .ensures), sym z)
+    (ap (waveformLaid (getD ns (at + 3) 0)) (stands waveformFrom waveform-numberless (c .before .cursor-at .ensures) (getD ns (at + 1) 0)))
+
+pub waveform-at-spec : {M : Type 1} → statement M
+waveform-at-spec =
+    tie.close
+    (tie.spec
+    wave-word-requires
+    wave-word-requires-2
+    wave-word-requires-3
+    cursor-at-requires
+    waveform-from-requires
+    returns)

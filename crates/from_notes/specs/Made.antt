@@ -1,0 +1,83 @@
+-- The records that the notes in a store of words say, one by one, and the rows of its models; for any words.
+use Prim.Native.Nat.{ℕ, zero, suc, _+_}
+use Prim.Native.Char.{code}
+use mathlib.Core.Path.{_≡_}
+use mathlib.Core.List.{List, [], _++_}
+use mathlib.Core.Bool.{cond}
+use lib.ListN.{getD}
+use lib.Dec.{leb}
+use Rattle.laws.specs.Lists.{part}
+use Rattle.cut_lines.specs.Texts.{rest}
+use Rattle.cut_lines.specs.Cursors.{Placed}
+use Rattle.cut_lines.specs.declared.Cursor.{Cursor}
+use Rattle.records.specs.declared.Kind.{Kind}
+use Rattle.records.specs.declared.Kind.the-variants.{OfComponent, OfPin, OfSelector, OfChoice, OfModel}
+use Rattle.records.specs.declared.Row.{Row}
+use Rattle.records.specs.declared.Component.{Component}
+use Rattle.records.specs.declared.Pin.{Pin}
+use Rattle.records.specs.declared.Selector.{Selector}
+use Rattle.records.specs.declared.Choice.{Choice}
+use Rattle.records.specs.declared.Model.{Model}
+use Rattle.records.specs.declared.Waveform.{Waveform}
+use Rattle.notes.specs.Noted.{Note}
+use Rattle.note_words.specs.Store.{byKindFrom, noteFrom, notingAt, waveAt}
+use Rattle.layout_by_notes.specs.Lies.{componentNoted, pinNoted, selectorNoted, choiceNoted, modelNoted, rowsNoted, waveNoted}
+
+-- ---- the names by kind: where each kind's begin. A file has at most 8 components, 512 pins, 32 selectors, 256 selector rows and 64 models
+
+abbrev pub base : Kind → ℕ
+base OfComponent = 0
+base OfPin = 8
+base OfSelector = 520
+base OfChoice = 552
+base OfModel = 808
+
+abbrev pub noteBy : List ℕ → List ℕ → Kind → ℕ → Note
+noteBy s ns k i = noteFrom s (notingAt ns (getD ns (byKindFrom + base k + i) 0)) k
+
+-- ---- the record at place i of each table
+
+unfoldable pub componentAt : List ℕ → List ℕ → ℕ → Component
+componentAt s ns i = componentNoted (noteBy s ns OfComponent i)
+
+unfoldable pub pinAt : List ℕ → List ℕ → ℕ → Pin
+pinAt s ns i = pinNoted (noteBy s ns OfPin i)
+
+unfoldable pub selectorAt : List ℕ → List ℕ → ℕ → Selector
+selectorAt s ns i = selectorNoted (noteBy s ns OfSelector i)
+
+unfoldable pub choiceAt : List ℕ → List ℕ → ℕ → Choice
+choiceAt s ns i = choiceNoted (noteBy s ns OfChoice i)
+
+unfoldable pub modelAt : List ℕ → List ℕ → ℕ → Model
+modelAt s ns i = modelNoted (noteBy s ns OfModel i)
+
+unfoldable pub waveformAt : List ℕ → List ℕ → ℕ → Waveform
+waveformAt s ns i = waveNoted (waveAt s ns i)
+
+-- the rows of the first n models, one after the other
+unfoldable pub rowsAt : List ℕ → List ℕ → ℕ → List Row
+rowsAt s ns zero = []
+rowsAt s ns (suc n) = rowsAt s ns n ++ rowsNoted (noteBy s ns OfModel n)
+
+-- ---- cursors from words
+
+-- LF stands in no line, so it cuts as little as a word that is no byte
+abbrev pub markOf : ℕ → ℕ
+markOf n = cond (leb 256 n) (code "\n") n
+
+-- c reads what stands from a place on under a comment character, its lines numbered from 1
+pub record StandsAt (s : List ℕ) (at comment : ℕ) (c : Cursor) : Type 0 where
+  pub placed : Placed s c
+  pub texts : rest s c ≡ rest s (record { at = at; line = 1; comment = comment })
+
+-- ---- what is noted at place n: a name, a row's text, and what stands behind a section's keyword line
+
+abbrev pub nameNoted : List ℕ → List ℕ → ℕ → List ℕ
+nameNoted s ns n = part (notingAt ns n .name) (notingAt ns n .«name_end») s
+
+abbrev pub rowNoted : List ℕ → List ℕ → ℕ → List ℕ
+rowNoted s ns n = part (notingAt ns n .place) (notingAt ns n .«place_end») s
+
+abbrev pub StandsBehind : List ℕ → List ℕ → ℕ → Cursor → Type 0
+StandsBehind s ns n c = StandsAt s (notingAt ns n .place) (notingAt ns n .«place_end») c

@@ -1,0 +1,58 @@
+// The records of the lent tables, each by its place in its table.
+ghost use mathlib.Core.Path.{_≡_};
+ghost use Rattle.from_notes.specs.Made.{componentAt, pinAt, selectorAt, choiceAt, modelAt};
+use crate::places::name_noted;
+use crate::places::name_word;
+use crate::places::row_noted;
+use crate::places::section_noted;
+use crate::places::word_behind;
+use records::Choice;
+use records::Component;
+use records::Model;
+use records::Pin;
+use records::Selector;
+
+pub fn component_at(src: &[u8], notes: &[u32], i: usize) -> Component
+    ensures { λ r. ⌜ r ≡ componentAt (now (src .entry)) (now (notes .entry)) i ⌝ }
+{
+    let n = word_behind(notes, 7857, i);
+    let section = name_word(notes, n, 8);
+    let start = name_word(notes, n, 4);
+    let c = section_noted(src, notes, n);
+    component_records::component_of(src, c, name_noted(src, notes, n), section, start)
+}
+
+pub fn pin_at(src: &[u8], notes: &[u32], i: usize) -> Pin
+    ensures { λ r. ⌜ r ≡ pinAt (now (src .entry)) (now (notes .entry)) i ⌝ }
+{
+    let n = word_behind(notes, 7865, i);
+    component_records::pin_of(row_noted(src, notes, n))
+}
+
+pub fn selector_at(src: &[u8], notes: &[u32], i: usize) -> Selector
+    ensures { λ r. ⌜ r ≡ selectorAt (now (src .entry)) (now (notes .entry)) i ⌝ }
+{
+    let n = word_behind(notes, 8377, i);
+    let section = name_word(notes, n, 8);
+    let start = name_word(notes, n, 4);
+    let c = section_noted(src, notes, n);
+    component_records::selector_of(src, c, name_noted(src, notes, n), section, start)
+}
+
+pub fn choice_at(src: &[u8], notes: &[u32], i: usize) -> Choice
+    ensures { λ r. ⌜ r ≡ choiceAt (now (src .entry)) (now (notes .entry)) i ⌝ }
+{
+    let n = word_behind(notes, 8409, i);
+    component_records::choice_of(row_noted(src, notes, n))
+}
+
+pub fn model_at(src: &[u8], notes: &[u32], i: usize) -> Model
+    ensures { λ r. ⌜ r ≡ modelAt (now (src .entry)) (now (notes .entry)) i ⌝ }
+{
+    let n = word_behind(notes, 8665, i);
+    let section = name_word(notes, n, 8);
+    let row = name_word(notes, n, 5);
+    let start = name_word(notes, n, 4);
+    let c = section_noted(src, notes, n);
+    model_record::model_of(src, c, name_noted(src, notes, n), section, row, start)
+}

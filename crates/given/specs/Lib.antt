@@ -1,0 +1,2 @@
+-- What was given so far.
+pub mod Given

@@ -1,0 +1,61 @@
+-- Given before, a fault of the argument, or on: `refused`, `faulted`, `clean`.
+use mathlib.Core.Path.{sym, ap, _∙_}
+use borrow.Author.Needs.{needs}
+use Rattle.given.specs.Given.{has}
+use Rattle.rules.specs.Header.{headerPart}
+use Rattle.rules.proofs.Going.{refused, passed, faulted, clean}
+use Rattle.header_steps.proofs.header_part.Statement.{statement}
+use Rattle.header_steps.proofs.header_part.Tie as tie
+
+part-place-requires : tie.Need-part-place-requires
+part-place-requires c κs = search needs
+
+is-given-requires : tie.Need-is-given-requires
+is-given-requires c κs = search needs
+
+stopped-requires : tie.Need-stopped-requires
+stopped-requires c κs = search needs
+
+returns : tie.Need-returns
+unfolding headerPart
+returns c = c .stopped .ensures ∙ refused 8 _ _ (sym (ap (has (c .before .before .before .before .before .before .args .h .parts)) (c .before .before .before .before .part-place .ensures)) ∙ sym (c .before .before .is-given .ensures) ∙ c .before .if1 .taken)
+
+part-fault-requires : tie.Need-part-fault-requires
+part-fault-requires c κs = search needs
+
+stopped-requires-2 : tie.Need-stopped-requires-2
+stopped-requires-2 c κs = search needs
+
+returns-2 : tie.Need-returns-2
+unfolding headerPart
+returns-2 c =
+    c .stopped2 .ensures ∙ faulted _ _ (c .before .before .part-fault .ensures) (c .before .if2 .taken)
+    ∙ passed 8 _ _ (sym (ap (has (c .before .before .before .before .before .before .before .before .args .h .parts)) (c .before .before .before .before .before .before .part-place .ensures)) ∙ sym (c .before .before .before .before .is-given .ensures) ∙ c .before .before .before .if1 .left)
+
+is-text-requires : tie.Need-is-text-requires
+is-text-requires c κs = search needs
+
+also-requires : tie.Need-also-requires
+also-requires c κs = search needs
+
+returns-3 : tie.Need-returns-3
+unfolding headerPart
+returns-3 c =
+    rw (c .also .ensures, c .before .is-text .ensures, c .before .before .before .before .before .before .before .part-place .ensures)
+    (clean _ _ (c .before .before .before .part-fault .ensures) (c .before .before .if2 .left)
+    ∙ passed 8 _ _ (sym (ap (has (c .before .before .before .before .before .before .before .before .before .args .h .parts)) (c .before .before .before .before .before .before .before .part-place .ensures)) ∙ sym (c .before .before .before .before .before .is-given .ensures) ∙ c .before .before .before .before .if1 .left))
+
+pub header-part-spec : {M : Type 1} → statement M
+header-part-spec =
+    tie.close
+    (tie.spec
+    part-place-requires
+    is-given-requires
+    stopped-requires
+    returns
+    part-fault-requires
+    stopped-requires-2
+    returns-2
+    is-text-requires
+    also-requires
+    returns-3)

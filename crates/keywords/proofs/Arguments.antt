@@ -1,0 +1,72 @@
+-- Where a keyword's argument begins: a rest of a list stands where its length says.
+use Prim.Native.Nat.{ℕ, _+_, _-_, _≤_}
+use Prim.Native.Char.{code}
+use mathlib.Core.Path.{_≡_, refl, sym, ap, _∙_}
+use mathlib.Core.List.{List}
+use native.Mathlib.Omega.{arith}
+use lib.ListN.{length, drop, length-drop, drop-of-length-le}
+use lib.Seq.{drop-drop}
+use Rattle.laws.specs.Bytes.{isBlank}
+use Rattle.laws.specs.Lists.{front, after, other, part}
+use Rattle.laws.proofs.Tests.{by-test, by-order, cond-yes, cond-no}
+use Rattle.laws.proofs.Lists.{part-rest}
+use Rattle.laws.proofs.Fronts.{after-at}
+use Rattle.name_table.specs.Names.{meaning}
+use Rattle.keywords.specs.Form.{closing, isFormed, spelled, inside, argument}
+use Rattle.keywords.specs.Carried.{known, named, carried, keyOf}
+use Rattle.keywords.specs.declared.Keyword.{Keyword}
+use Rattle.keywords.specs.declared.Named.{Named}
+use Rattle.keywords.specs.declared.Named.the-variants.{Is, Nothing}
+use Rattle.keywords.specs.declared.KeyRead.{KeyRead}
+use Rattle.keywords.specs.declared.KeyRead.the-variants.{Known, Unknown, Malformed}
+use Rattle.keywords.proofs.Laws.{closing-at}
+
+-- a rest, by its length
+rest-at : (w x : List ℕ) (n : ℕ) → x ≡ drop n w → drop (length w - length x) w ≡ x
+rest-at w x n e =
+    by-order n (length w)
+    (λ h.
+    let m : length w - length x ≡ n = omega (arith, ap length e, length-drop n w) in
+    ap (λ (j : ℕ). drop j w) m ∙ sym e)
+    (λ h.
+    let l : length w ≤ n = omega arith in
+    let k : length w ≤ length w - length x = omega (arith, ap length e, length-drop n w) in
+    drop-of-length-le w k ∙ sym (drop-of-length-le w l) ∙ sym e)
+
+argument-rest : (w : List ℕ) → drop (length w - length (argument w)) w ≡ argument w
+unfolding argument
+argument-rest w =
+    let stop : ℕ = 1 + length (front (other (code "]")) (drop 1 w)) in
+    let start : ℕ = stop + 1 + length (front isBlank (drop (stop + 1) w)) in
+    rest-at w (after isBlank (drop 1 (closing w))) start
+    (ap (λ (x : List ℕ). after isBlank (drop 1 x)) (sym (closing-at w stop refl))
+    ∙ ap (after isBlank) (drop-drop 1 stop w)
+    ∙ after-at isBlank w (stop + 1) start refl)
+
+-- the place in the answer
+abbrev place : ℕ → KeyRead → ℕ
+place n (Known key at) = at
+place n Unknown = n
+place n Malformed = n
+
+known-place : (n : ℕ) (x : Named) → place n (known n x) ≡ n
+known-place n Nothing = refl
+known-place n (Is key) = refl
+
+module _ (w : List ℕ) {key : Keyword} {at : ℕ} (e : keyOf w ≡ Known key at) where
+  key-place : at ≡ length w - length (argument w)
+  unfolding keyOf
+  key-place =
+      let n : ℕ = length w - length (argument w) in
+      sym (ap (place n) e)
+      ∙ by-test (isFormed w)
+      (λ h. ap (place n) (cond-yes _ _ h) ∙ known-place n (named (meaning (spelled (inside w)) carried)))
+      (λ h. ap (place n) (cond-no _ _ h))
+
+  pub key-within : at ≤ length w
+  key-within = omega (arith, key-place)
+
+  -- the part that the code hands on
+  pub key-argument : part at (length w) w ≡ argument w
+  key-argument =
+      part-rest w at ∙ ap (λ (n : ℕ). drop n w) key-place ∙ argument-rest w

@@ -1,0 +1,249 @@
+// Keyword lines: their form, and the keyword by its name, in any letter case, a space equal to an underscore.
+ghost use mathlib.Core.Path.{_≡_};
+ghost use mathlib.Core.Bool.{false};
+ghost use Prim.Native.Nat.{_≤_};
+ghost use lib.ListN.{length, take, drop};
+ghost use Rattle.laws.specs.Lists.{eqs};
+ghost use Rattle.name_table.specs.Names.{meaning, meaningAt};
+ghost use Rattle.keywords.specs.Form.{plain, spelled, isJoint, inParts, isClosed};
+ghost use Rattle.keywords.specs.Carried.{carried, keyOf, named};
+use name_table::Found;
+use records::Edge;
+
+pub enum HeaderText {
+    Date,
+    Source,
+    Notes,
+    Disclaimer,
+    Copyright,
+}
+
+pub enum HeaderPart {
+    FileName,
+    FileRev,
+    FreeText(HeaderText),
+}
+
+pub enum Section {
+    Component,
+    Selector,
+    Model,
+}
+
+pub enum ComponentPart {
+    Manufacturer,
+    Package,
+    Pin,
+}
+
+pub enum CurrentTable {
+    Pulldown,
+    Pullup,
+    GndClamp,
+    PowerClamp,
+}
+
+pub enum ModelPart {
+    VoltageRange,
+    TemperatureRange,
+    Current(CurrentTable),
+    Ramp,
+    Waveform(Edge),
+}
+
+// The keywords that are carried, by where they stand. [Comment Char] is none of them: its line is known before it is cut.
+pub enum Keyword {
+    IbisVer,
+    InHeader(HeaderPart),
+    Opens(Section),
+    InComponent(ComponentPart),
+    InModel(ModelPart),
+    End,
+}
+
+// What a keyword line is: a keyword and where its argument begins; not carried (6); badly formed (5).
+pub enum KeyRead {
+    Known { keyword: Keyword, argument: usize },
+    Unknown,
+    Malformed,
+}
+
+// A keyword by its name, or nothing.
+pub enum Named {
+    Is(Keyword),
+    Nothing,
+}
+
+// A name in small letters with underscores, in the first bytes.
+struct Spelled {
+    bytes: [u8; 32],
+}
+
+// The small letter of a capital, and an underscore for a space.
+fn lowered(b: u8) -> u8
+    ensures { λ r. ⌜ r ≡ plain b ⌝ }
+{
+    if b == b' ' {
+        return b'_';
+    }
+    if b < b'A' {
+        return b;
+    }
+    if b'Z' < b {
+        return b;
+    }
+    b + 32
+}
+
+fn spell(w: &[u8]) -> Spelled
+    requires { ⌜ length (now w) ≤ 32 ⌝ }
+    ensures { λ r. ⌜ take (length (now (w .entry))) (r .bytes) ≡ spelled (now (w .entry)) ⌝ }
+{
+    let mut copy = [0u8; 32];
+    let mut i = 0;
+    while i < w.len() {
+        copy[i] = lowered(w[i]);
+        i += 1;
+    }
+    Spelled { bytes: copy }
+}
+
+// A space or an underscore.
+fn joint(b: u8) -> bool
+    ensures { λ r. ⌜ r ≡ isJoint b ⌝ }
+{
+    if b == b' ' {
+        return true;
+    }
+    b == b'_'
+}
+
+// One or more parts, joined by one space or one underscore each.
+fn in_parts(w: &[u8]) -> bool
+    ensures { λ r. ⌜ r ≡ inParts false (now (w .entry)) ⌝ }
+{
+    let mut part = false;
+    let mut i = 0;
+    while i < w.len() {
+        let b = w[i];
+        if joint(b) {
+            if !part {
+                return false;
+            }
+            part = false;
+        } else {
+            if words::blank(b) {
+                return false;
+            }
+            part = true;
+        }
+        i += 1;
+    }
+    part
+}
+
+// A `]` stands at a place, and after it nothing or a blank.
+pub fn closed_at(w: &[u8], at: usize) -> bool
+    ensures { λ r. ⌜ r ≡ isClosed (drop at (now (w .entry))) ⌝ }
+{
+    if w.len() <= at {
+        return false;
+    }
+    let after = at + 1;
+    if w.len() <= after {
+        return true;
+    }
+    words::blank(w[after])
+}
+
+// The same name, once w is spelled in small letters with underscores.
+pub fn same_spelled(w: &[u8], name: &[u8]) -> bool
+    ensures { λ r. ⌜ r ≡ eqs (spelled (now (w .entry))) (now (name .entry)) ⌝ }
+{
+    let mut i = 0;
+    while i < w.len() {
+        if name.len() <= i {
+            return false;
+        }
+        if lowered(w[i]) != name[i] {
+            return false;
+        }
+        i += 1;
+    }
+    name.len() <= i
+}
+
+// The keyword at a place of the table of names.
+fn keyword_at(k: usize) -> Named
+    ensures { λ r. ⌜ r ≡ named (meaningAt carried k) ⌝ }
+{
+    match k {
+        0 => Named::Is(Keyword::IbisVer),
+        1 => Named::Is(Keyword::InHeader(HeaderPart::FileName)),
+        2 => Named::Is(Keyword::InHeader(HeaderPart::FileRev)),
+        3 => Named::Is(Keyword::InHeader(HeaderPart::FreeText(HeaderText::Date))),
+        4 => Named::Is(Keyword::InHeader(HeaderPart::FreeText(HeaderText::Source))),
+        5 => Named::Is(Keyword::InHeader(HeaderPart::FreeText(HeaderText::Notes))),
+        6 => Named::Is(Keyword::InHeader(HeaderPart::FreeText(HeaderText::Disclaimer))),
+        7 => Named::Is(Keyword::InHeader(HeaderPart::FreeText(HeaderText::Copyright))),
+        8 => Named::Is(Keyword::Opens(Section::Component)),
+        9 => Named::Is(Keyword::InComponent(ComponentPart::Manufacturer)),
+        10 => Named::Is(Keyword::InComponent(ComponentPart::Package)),
+        11 => Named::Is(Keyword::InComponent(ComponentPart::Pin)),
+        12 => Named::Is(Keyword::Opens(Section::Selector)),
+        13 => Named::Is(Keyword::Opens(Section::Model)),
+        14 => Named::Is(Keyword::InModel(ModelPart::VoltageRange)),
+        15 => Named::Is(Keyword::InModel(ModelPart::TemperatureRange)),
+        16 => Named::Is(Keyword::InModel(ModelPart::Current(CurrentTable::Pulldown))),
+        17 => Named::Is(Keyword::InModel(ModelPart::Current(CurrentTable::Pullup))),
+        18 => Named::Is(Keyword::InModel(ModelPart::Current(CurrentTable::GndClamp))),
+        19 => Named::Is(Keyword::InModel(ModelPart::Current(CurrentTable::PowerClamp))),
+        20 => Named::Is(Keyword::InModel(ModelPart::Ramp)),
+        21 => Named::Is(Keyword::InModel(ModelPart::Waveform(Edge::Rising))),
+        22 => Named::Is(Keyword::InModel(ModelPart::Waveform(Edge::Falling))),
+        23 => Named::Is(Keyword::End),
+        _ => Named::Nothing,
+    }
+}
+
+// A keyword by its name.
+pub fn keyword_named(w: &[u8]) -> Named
+    ensures { λ r. ⌜ r ≡ named (meaning (spelled (now (w .entry))) carried) ⌝ }
+{
+    let n = w.len();
+    if 32 < n {
+        return Named::Nothing;
+    }
+    let copy = spell(w);
+    let bytes = copy.bytes;
+    let names =
+        b"ibis_ver file_name file_rev date source notes disclaimer copyright component manufacturer package pin model_selector model voltage_range temperature_range pulldown pullup gnd_clamp power_clamp ramp rising_waveform falling_waveform end";
+    match name_table::place(&bytes[..n], names) {
+        Found::At(k) => keyword_at(k),
+        Found::Nothing => Named::Nothing,
+    }
+}
+
+// What a keyword line is. Its text begins with `[`.
+pub fn key_of(w: &[u8]) -> KeyRead
+    ensures { λ r. ⌜ r ≡ keyOf (now (w .entry)) ⌝ }
+{
+    if w.len() == 0 {
+        return KeyRead::Malformed;
+    }
+    let stop = words::find(w, 1, b']');
+    if !closed_at(w, stop) {
+        return KeyRead::Malformed;
+    }
+    let name = &w[1..stop];
+    if !in_parts(name) {
+        return KeyRead::Malformed;
+    }
+    match keyword_named(name) {
+        Named::Is(keyword) => KeyRead::Known {
+            keyword: keyword,
+            argument: words::skip_blanks(w, stop + 1),
+        },
+        Named::Nothing => KeyRead::Unknown,
+    }
+}

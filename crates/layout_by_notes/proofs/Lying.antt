@@ -1,0 +1,164 @@
+-- What is noted, and what is ahead, make up the tables, before a text as behind it: a law for each kind of line, and for each table's keyword.
+use Prim.Native.Nat.{ℕ, suc, _+_}
+use mathlib.Core.Path.{_≡_, refl, sym, ap, subst, _∙_}
+use mathlib.Core.List.{List, [], _∷_, _++_, map, flatMap, reverse}
+use mathlib.Core.Option.{Option, some}
+use native.Mathlib.Omega.{arith}
+use lib.ListN.{length, length-append}
+use Rattle.laws.proofs.Tests.{cond-yes, cond-no}
+use Rattle.words.specs.Words.{words}
+use Rattle.keywords.specs.declared.Keyword.{Keyword}
+use Rattle.keywords.specs.declared.Keyword.the-variants as key
+use Rattle.keywords.specs.declared.ModelPart.the-variants.{Waveform}
+use Rattle.keywords.specs.declared.CurrentTable.{CurrentTable}
+use Rattle.records.specs.declared.Edge.{Edge}
+use Rattle.cut_lines.specs.Texts.{Text, plain}
+use Rattle.line_rules.specs.Fields.{rowOf}
+use Rattle.rules.specs.Reading.{ontoRow, rowsIn, rowLines, under, keyAt, pinIn, choiceIn, waveformIn, TableIs, current, waveform, sectionsIn}
+use Rattle.layout.specs.Laid.{Laid, pinLaid, choiceLaid, allRows, waveformLaid, waveformsLaid, laidFrom}
+use Rattle.records.specs.declared.Kind.the-variants.{OfComponent, OfPin, OfSelector, OfChoice, OfModel}
+use Rattle.records.specs.declared.Row.{Row}
+use Rattle.line_rules.specs.declared.RowRead.{RowRead}
+use Rattle.line_rules.specs.declared.RowRead.the-variants.{Line}
+use Rattle.rules.specs.declared.Event.{Event}
+use Rattle.rules.specs.declared.Event.the-variants.{WaveformOpened}
+use Rattle.notes.specs.Noted.{Log, sections, moreRows}
+use Rattle.layout_by_notes.specs.Lies.{pick, isOf, noted, componentNoted, pinNoted, selectorNoted, choiceNoted, modelNoted, rowsNoted, waveformFrom, waveNoted, keyEdge}
+use Rattle.layout_by_notes.proofs.Lists.{latest-then}
+use Rattle.layout_by_notes.proofs.Keys.{Gives, rows, points, Open, LineGives, quiet, pin, choice, row, fixture, point}
+use Rattle.layout_by_notes.proofs.Ahead.{Ahead, gathered, ahead}
+use Rattle.layout_by_notes.proofs.Counts.{logAfter}
+
+-- ---- the tables, with the open section read to its end
+
+unfoldable pub finished : Ahead → Log → Laid
+finished x h =
+    record {
+      components = map componentNoted (noted OfComponent h);
+      pins = map pinNoted (noted OfPin h) ++ map (λ (w : List ℕ). pinLaid (pinIn w)) (x .pinLines);
+      selectors = map selectorNoted (noted OfSelector h);
+      choices = map choiceNoted (noted OfChoice h) ++ map (λ (w : List ℕ). choiceLaid (choiceIn w)) (x .choiceLines);
+      models = map modelNoted (noted OfModel h);
+      waveforms = map waveNoted (reverse (h .waves)) ++ waveformsLaid (h .counts .rows + length (x .openRows)) (x .tables);
+      rows = flatMap rowsNoted (noted OfModel h);
+    }
+
+-- the rows counted so far and those ahead are all rows of the noted models
+abbrev pub Filled : Ahead → Log → Type 0
+Filled x h = h .counts .rows + (length (x .openRows) + length (allRows (x .tables))) ≡ length (flatMap rowsNoted (noted OfModel h))
+
+-- the tables of the whole file, as they are seen from a text on
+abbrev pub outlook : Open → List Text → Log → Laid
+outlook o ts h = laidFrom (finished (ahead o ts) h) (sections (h .counts)) (sectionsIn ts)
+
+pub same-laid : {a b : Laid} → a .components ≡ b .components → a .pins ≡ b .pins → a .selectors ≡ b .selectors → a .choices ≡ b .choices
+    → a .models ≡ b .models → a .waveforms ≡ b .waveforms → a .rows ≡ b .rows → a ≡ b
+same-laid c p s o m w r =
+    λ i. record { components = c i; pins = p i; selectors = s i; choices = o i; models = m i; waveforms = w i; rows = r i }
+
+-- from a text to the next
+pub record Carried (x : Ahead) (h : Log) (y : Ahead) (g : Log) : Type 0 where
+  pub tables : finished x h ≡ finished y g
+  pub places : sections (h .counts) ≡ sections (g .counts)
+  pub filled : Filled x h → Filled y g
+
+pub nothing-moves : {x : Ahead} {h : Log} → Carried x h x h
+nothing-moves = record { tables = refl; places = refl; filled = λ f. f }
+
+-- ---- a line
+
+-- one row of the open table
+row-carried : (p c : List (List ℕ)) (rs more : List Row) (tb : List TableIs) (h : Log) → length rs ≡ suc (length more)
+    → Carried (record { pinLines = p; choiceLines = c; openRows = rs; tables = tb }) h
+    (record { pinLines = p; choiceLines = c; openRows = more; tables = tb })
+    (record { notes = h .notes; waves = h .waves; counts = moreRows (h .counts) })
+unfolding finished noted sections
+row-carried p c rs more tb h e =
+    let n : h .counts .rows + length rs ≡ h .counts .rows + 1 + length more = omega arith in
+    record {
+      tables = same-laid refl refl refl refl refl (ap (λ (k : ℕ). map waveNoted (reverse (h .waves)) ++ waveformsLaid k tb) n) refl;
+      places = refl;
+      filled = λ f. omega arith;
+    }
+
+onto-one : (x : RowRead) (r : Row) (more : List Row) → x ≡ Line r → length (ontoRow x more) ≡ suc (length more)
+onto-one x r more e = ap (λ (y : RowRead). length (ontoRow y more)) e
+
+-- the rows of a waveform that are ahead
+abbrev waiting : List (List ℕ) → List (List ℕ) → List TableIs → Ahead
+waiting ps ls tb = record { pinLines = ps; choiceLines = []; openRows = rowsIn ls; tables = tb }
+
+same-ahead : {x y z : Ahead} {h g : Log} → x ≡ y → Carried y h z g → Carried x h z g
+same-ahead {z = z} {h = h} {g = g} p c = subst (λ (a : Ahead). Carried a h z g) (sym p) c
+
+pub line-carried : {g : Gives} {w : List ℕ} {e : Event} → LineGives g w e
+    → (k : ℕ) (ls ps : List (List ℕ)) (tb : List TableIs) (h : Log) (ts : List Text)
+    → Carried (gathered g (w ∷ ls) ps tb) h (gathered g ls ps tb) (logAfter h (plain k w) ts e)
+unfolding finished noted pick pinNoted choiceNoted rowsIn rowLines sections
+line-carried quiet k ls ps tb h ts = nothing-moves
+line-carried pin k ls ps tb h ts =
+    record {
+      tables = same-laid refl (latest-then pinNoted _ (pick (isOf OfPin) (h .notes)) _) refl refl refl refl refl;
+      places = refl;
+      filled = λ f. f;
+    }
+line-carried choice k ls ps tb h ts =
+    record {
+      tables = same-laid refl refl refl (latest-then choiceNoted _ (pick (isOf OfChoice) (h .notes)) _) refl refl refl;
+      places = refl;
+      filled = λ f. f;
+    }
+line-carried {w} (row {r = r} e) k ls ps tb h ts = row-carried ps [] (ontoRow (rowOf (words w)) (rowsIn ls)) (rowsIn ls) tb h (onto-one _ r _ e)
+line-carried {w} (fixture n) k ls ps tb h ts =
+    same-ahead (ap (λ (l : List (List ℕ)). waiting ps l tb) (cond-yes (rowLines ls) (w ∷ rowLines ls) n)) nothing-moves
+line-carried {w} (point {r = r} n e) k ls ps tb h ts =
+    same-ahead (ap (λ (l : List (List ℕ)). waiting ps l tb) (cond-no (rowLines ls) (w ∷ rowLines ls) n))
+    (row-carried ps [] (ontoRow (rowOf (words w)) (rowsIn (rowLines ls))) (rowsIn (rowLines ls)) tb h (onto-one _ r _ e))
+
+-- ---- a text leads on: the tables of the whole file are seen from the next text as from this one
+
+abbrev pub Onward : Open → Text → List Text → Log → Open → Event → Type 0
+Onward o t ts h u e =
+    Filled (ahead o (t ∷ ts)) h → (outlook o (t ∷ ts) h ≡ outlook u ts (logAfter h t ts e)) × Filled (ahead u ts) (logAfter h t ts e)
+
+pub carried-on : (o : Open) (t : Text) (ts : List Text) (h : Log) (u : Open) (e : Event) {x : Ahead} → ahead o (t ∷ ts) ≡ x
+    → sectionsIn (t ∷ ts) ≡ sectionsIn ts → Carried x h (ahead u ts) (logAfter h t ts e) → Onward o t ts h u e
+carried-on o t ts h u e p q c f = (
+  (λ i. laidFrom ((ap (λ (y : Ahead). finished y h) p ∙ c .tables) i) (c .places i) (q i)),
+  c .filled (subst (λ (y : Ahead). Filled y h) p f),
+)
+
+-- ---- a keyword inside a section
+
+-- a current table's keyword: what was to come as its rows is now under it
+pub current-carried : (t : CurrentTable) (ls : List (List ℕ)) (tb : List TableIs) (h : Log)
+    → Carried (record { pinLines = []; choiceLines = []; openRows = []; tables = current t (rowsIn ls) ∷ tb }) h (gathered rows ls [] tb) h
+unfolding finished waveformsLaid allRows
+current-carried t ls tb h =
+    let n : h .counts .rows + 0 + length (rowsIn ls) ≡ h .counts .rows + length (rowsIn ls) = omega arith in
+    record {
+      tables = same-laid refl refl refl refl refl (ap (λ (k : ℕ). map waveNoted (reverse (h .waves)) ++ waveformsLaid k tb) n) refl;
+      places = refl;
+      filled = λ f. omega (arith, length-append (rowsIn ls) (allRows tb));
+    }
+
+-- a waveform's keyword: the same, and the waveform is noted
+pub waveform-carried : (t : Text) (ts : List Text) (e : Edge) (tb : List TableIs) (h : Log) → keyAt t ≡ some (key.InModel (Waveform e))
+    → Carried (record { pinLines = []; choiceLines = []; openRows = []; tables = waveform (waveformIn e (under ts)) ∷ tb }) h
+    (gathered points (under ts) [] tb) (logAfter h t ts WaveformOpened)
+unfolding finished noted sections waveformsLaid allRows waveformIn waveNoted waveformFrom
+waveform-carried t ts e tb h q =
+    let n : ℕ = h .counts .rows in
+    let rs : List Row = rowsIn (rowLines (under ts)) in
+    let before : List _ = map waveNoted (reverse (h .waves)) in
+    let z : n + 0 ≡ n = omega arith in
+    record {
+      tables =
+          same-laid refl refl refl refl refl
+          (ap (λ (j : ℕ). before ++ (waveformLaid j (waveformIn e (under ts)) ∷ waveformsLaid (j + length rs) tb)) z
+          ∙ ap (λ (y : Option Keyword). before ++ (waveformLaid n (waveformIn (keyEdge y) (under ts)) ∷ waveformsLaid (n + length rs) tb)) (sym q)
+          ∙ latest-then waveNoted (record { from = t ∷ ts; row = n }) (h .waves) (waveformsLaid (n + length rs) tb))
+          refl;
+      places = refl;
+      filled = λ f. omega (arith, length-append rs (allRows tb));
+    }

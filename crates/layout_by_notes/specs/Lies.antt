@@ -1,0 +1,140 @@
+-- What the notes of an accepted file say of the lent tables: a record for each note, read from the texts that stand behind its keyword.
+use Prim.Native.Nat.{_≤_}
+use mathlib.Core.Path.{_≡_}
+use mathlib.Core.List.{List, [], _∷_, map, flatMap, reverse}
+use mathlib.Core.Bool.{Bool, cond}
+use mathlib.Core.Option.{Option, none, some}
+use lib.ListN.{length}
+use Rattle.laws.specs.Lists.{front}
+use Rattle.keywords.specs.declared.Keyword.{Keyword}
+use Rattle.keywords.specs.declared.Keyword.the-variants as key
+use Rattle.keywords.specs.declared.ModelPart.{ModelPart}
+use Rattle.keywords.specs.declared.ModelPart.the-variants.{VoltageRange, TemperatureRange, Current, Ramp, Waveform}
+use Rattle.records.specs.declared.Edge.{Edge}
+use Rattle.records.specs.declared.Edge.the-variants.{Rising}
+use Rattle.cut_lines.specs.Texts.{Text}
+use Rattle.rules.specs.Outline.{is}
+use Rattle.rules.specs.Whole.{bound, waveformBound}
+use Rattle.rules.specs.Reading.{pinIn, componentIn, choiceIn, modelIn, WaveformIs, waveformIn, ModelIs, under, isWithin, keyAt}
+use Rattle.layout.specs.Laid.{Laid, componentLaid, pinLaid, selectorLaid, choiceLaid, modelLaid, waveformLaid, allRows}
+use Rattle.records.specs.declared.Kind.{Kind}
+use Rattle.records.specs.declared.Kind.the-variants.{OfComponent, OfPin, OfSelector, OfChoice, OfModel}
+use Rattle.records.specs.declared.Lengths.{Lengths}
+use Rattle.records.specs.declared.Row.{Row}
+use Rattle.records.specs.declared.Component.{Component}
+use Rattle.records.specs.declared.Pin.{Pin}
+use Rattle.records.specs.declared.Selector.{Selector}
+use Rattle.records.specs.declared.Choice.{Choice}
+use Rattle.records.specs.declared.Model.{Model}
+use Rattle.records.specs.declared.Waveform as laidWaveform
+use Rattle.notes.specs.Noted.{Note, entryOf, Wave, Log}
+use Rattle.records.specs.declared.Counts.{Counts}
+
+-- ---- the notes of one kind, in file order
+
+-- the elements that pass the test
+unfoldable pub pick : {A : Type 0} → (A → Bool) → List A → List A
+pick p [] = []
+pick p (a ∷ l) = cond (p a) (a ∷ pick p l) (pick p l)
+
+abbrev pub isOf : Kind → Note → Bool
+isOf k n = is k (entryOf n)
+
+unfoldable pub noted : Kind → Log → List Note
+noted k g = reverse (pick (isOf k) (g .notes))
+
+-- ---- the record of a note. A section's texts are those behind its keyword, up to the next section's keyword or [End]
+
+unfoldable pub componentNoted : Note → Component
+componentNoted n = componentLaid (n .section) (n .start) (componentIn (n .name) (front isWithin (n .behind)))
+
+unfoldable pub pinNoted : Note → Pin
+pinNoted n = pinLaid (pinIn (n .text))
+
+unfoldable pub selectorNoted : Note → Selector
+selectorNoted n =
+    selectorLaid (n .section) (n .start) (record { name = n .name; choices = map choiceIn (under (front isWithin (n .behind))) })
+
+unfoldable pub choiceNoted : Note → Choice
+choiceNoted n = choiceLaid (choiceIn (n .text))
+
+unfoldable pub modelRead : Note → ModelIs
+modelRead n = modelIn (n .name) (front isWithin (n .behind))
+
+unfoldable pub modelNoted : Note → Model
+modelNoted n = modelLaid (n .section) (n .row) (n .start) (modelRead n)
+
+-- the rows of all tables of a noted model
+unfoldable pub rowsNoted : Note → List Row
+rowsNoted n = allRows (modelRead n .tables)
+
+-- ---- the record of a waveform's note: its texts begin with its keyword
+
+-- the edge that a waveform's keyword says; of any other keyword, some edge
+abbrev pub partEdge : ModelPart → Edge
+partEdge VoltageRange = Rising
+partEdge TemperatureRange = Rising
+partEdge (Current t) = Rising
+partEdge Ramp = Rising
+partEdge (Waveform e) = e
+
+abbrev pub keyEdge : Option Keyword → Edge
+keyEdge none = Rising
+keyEdge (some key.IbisVer) = Rising
+keyEdge (some (key.InHeader p)) = Rising
+keyEdge (some (key.Opens o)) = Rising
+keyEdge (some (key.InComponent p)) = Rising
+keyEdge (some (key.InModel p)) = partEdge p
+keyEdge (some key.End) = Rising
+
+unfoldable pub waveformFrom : List Text → WaveformIs
+waveformFrom [] = waveformIn Rising []
+waveformFrom (t ∷ ts) = waveformIn (keyEdge (keyAt t)) (under ts)
+
+unfoldable pub waveNoted : Wave → laidWaveform.Waveform
+waveNoted w = waveformLaid (w .row) (waveformFrom (w .from))
+
+-- ---- the tables lie as noted
+
+-- how much of each table is used
+abbrev pub countsOf : Laid → Counts
+countsOf a =
+    record {
+      components = length (a .components);
+      pins = length (a .pins);
+      selectors = length (a .selectors);
+      choices = length (a .choices);
+      models = length (a .models);
+      waveforms = length (a .waveforms);
+      rows = length (a .rows);
+    }
+
+pub record Lies (g : Log) (a : Laid) : Type 0 where
+  pub components : a .components ≡ map componentNoted (noted OfComponent g)
+  pub pins : a .pins ≡ map pinNoted (noted OfPin g)
+  pub selectors : a .selectors ≡ map selectorNoted (noted OfSelector g)
+  pub choices : a .choices ≡ map choiceNoted (noted OfChoice g)
+  pub models : a .models ≡ map modelNoted (noted OfModel g)
+  pub waveforms : a .waveforms ≡ map waveNoted (reverse (g .waves))
+  pub rows : a .rows ≡ flatMap rowsNoted (noted OfModel g)
+  pub counts : g .counts ≡ countsOf a
+
+-- ---- no table is used beyond its bound, and none beyond what is lent
+
+pub record Bounded (l : Lengths) (c : Counts) : Type 0 where
+  pub components : c .components ≤ bound l OfComponent
+  pub pins : c .pins ≤ bound l OfPin
+  pub selectors : c .selectors ≤ bound l OfSelector
+  pub choices : c .choices ≤ bound l OfChoice
+  pub models : c .models ≤ bound l OfModel
+  pub waveforms : c .waveforms ≤ waveformBound l
+  pub rows : c .rows ≤ l .rows
+
+pub record Fits (l : Lengths) (c : Counts) : Type 0 where
+  pub components : c .components ≤ l .components
+  pub pins : c .pins ≤ l .pins
+  pub selectors : c .selectors ≤ l .selectors
+  pub choices : c .choices ≤ l .choices
+  pub models : c .models ≤ l .models
+  pub waveforms : c .waveforms ≤ l .waveforms
+  pub rows : c .rows ≤ l .rows

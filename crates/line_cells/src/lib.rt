@@ -1,0 +1,412 @@
+// Numbers and cells of a line: three cells, a table's row, a ramp's slopes, and the heading of the pins.
+ghost use mathlib.Core.Path.{_≡_};
+ghost use Prim.Native.Nat.{_≤_};
+ghost use lib.ListN.{length, drop};
+ghost use Rattle.laws.specs.Lists.{eqs};
+ghost use Rattle.decimal.specs.Decimal.{numberOf, cellOf};
+ghost use Rattle.words.specs.Words.{words};
+ghost use Rattle.line_rules.specs.Fields.{threeCells, withTyp, withMin, withMax, tableCells, onRow, withNumber, rowOf, slopeOf, slopeOrMissing, ratioOf, twoFaults, isUpward, upward, slopesTyp, slopesMin, slopesMax, threeSlopes, numberFault, cellFault, tripleFault, rampFault, heading};
+ghost use Rattle.line_cells.specs.Headings.{headingRead, restRead};
+ghost use Rattle.line_cells.specs.Threes.{bytesOf, Within, ThreeFrom};
+use decimal::Cell;
+use decimal::CellRead;
+use decimal::Decimal;
+use decimal::NumberRead;
+use line_rules::RampCellRead;
+use line_rules::RampRead;
+use line_rules::RowRead;
+use line_rules::TripleRead;
+use records::RampCell;
+use records::RampTriple;
+use records::Row;
+use records::Triple;
+use words::Word;
+
+// Three words that are all from a place on.
+pub enum ThreeWords {
+    Three { a: Word, b: Word, c: Word },
+    Other,
+}
+
+// What stands behind [Pin]: the names of a short row, of a long one, or neither.
+pub enum HeadingRead {
+    Short,
+    Long,
+    NoHeading,
+}
+
+// ---- a word of a line
+
+fn number_at(w: &[u8], r: Word) -> NumberRead
+    requires { ⌜ Within (now w) r ⌝ }
+    ensures { λ n. ⌜ n ≡ numberOf (bytesOf (now (w .entry)) r) ⌝ }
+{
+    let start = r.start;
+    let end = r.end;
+    decimal::number_of(&w[start..end])
+}
+
+fn cell_at(w: &[u8], r: Word) -> CellRead
+    requires { ⌜ Within (now w) r ⌝ }
+    ensures { λ n. ⌜ n ≡ cellOf (bytesOf (now (w .entry)) r) ⌝ }
+{
+    let start = r.start;
+    let end = r.end;
+    decimal::cell_of(&w[start..end])
+}
+
+fn named(w: &[u8], r: Word, name: &[u8]) -> bool
+    requires { ⌜ Within (now w) r ⌝ }
+    ensures { λ t. ⌜ t ≡ eqs (bytesOf (now (w .entry)) r) (now (name .entry)) ⌝ }
+{
+    let start = r.start;
+    let end = r.end;
+    words::same(&w[start..end], name)
+}
+
+// The words from a place on, if there are just three.
+pub fn three_words(w: &[u8], at: usize) -> ThreeWords
+    requires { ⌜ at ≤ length (now w) ⌝ }
+    ensures { λ r. ⌜ ThreeFrom (now (w .entry)) at r ⌝ }
+{
+    let a = words::word_at(w, at);
+    let b = words::word_at(w, a.end);
+    let c = words::word_at(w, b.end);
+    if w.len() <= c.start {
+        return ThreeWords::Other;
+    }
+    let fourth = words::word_at(w, c.end);
+    if fourth.start < w.len() {
+        return ThreeWords::Other;
+    }
+    ThreeWords::Three { a: a, b: b, c: c }
+}
+
+// ---- three cells and a table's row: the leftmost fault counts
+
+fn with_max(typ: Cell, min: Cell, c: CellRead) -> TripleRead
+    ensures { λ r. ⌜ r ≡ withMax typ min c ⌝ }
+{
+    match c {
+        CellRead::Bad(fault) => TripleRead::Flawed(fault),
+        CellRead::Read(max) => TripleRead::Cells(Triple {
+            typ: typ,
+            min: min,
+            max: max,
+        }),
+    }
+}
+
+fn with_min(typ: Cell, b: CellRead, c: CellRead) -> TripleRead
+    ensures { λ r. ⌜ r ≡ withMin typ b c ⌝ }
+{
+    match b {
+        CellRead::Bad(fault) => TripleRead::Flawed(fault),
+        CellRead::Read(min) => with_max(typ, min, c),
+    }
+}
+
+fn with_typ(a: NumberRead, b: CellRead, c: CellRead) -> TripleRead
+    ensures { λ r. ⌜ r ≡ withTyp a b c ⌝ }
+{
+    match a {
+        NumberRead::Wrong(fault) => TripleRead::Flawed(fault),
+        NumberRead::Value(typ) => with_min(Cell::Number(typ), b, c),
+    }
+}
+
+// Three words and no more, from a place on: a number and two cells.
+pub fn three_cells(w: &[u8], at: usize) -> TripleRead
+    requires { ⌜ at ≤ length (now w) ⌝ }
+    ensures { λ r. ⌜ r ≡ threeCells (words (drop at (now (w .entry)))) ⌝ }
+{
+    match three_words(w, at) {
+        ThreeWords::Three { a, b, c } => with_typ(number_at(w, a), cell_at(w, b), cell_at(w, c)),
+        ThreeWords::Other => TripleRead::Flawed(10),
+    }
+}
+
+// Inside a table typ may be missing.
+fn table_cells(a: CellRead, b: CellRead, c: CellRead) -> TripleRead
+    ensures { λ r. ⌜ r ≡ tableCells a b c ⌝ }
+{
+    match a {
+        CellRead::Bad(fault) => TripleRead::Flawed(fault),
+        CellRead::Read(typ) => with_min(typ, b, c),
+    }
+}
+
+fn on_row(number: Decimal, c: TripleRead) -> RowRead
+    ensures { λ r. ⌜ r ≡ onRow number c ⌝ }
+{
+    match c {
+        TripleRead::Flawed(fault) => RowRead::Amiss(fault),
+        TripleRead::Cells(cells) => RowRead::Line(Row {
+            number: number,
+            cells: cells,
+        }),
+    }
+}
+
+fn with_number(a: NumberRead, c: TripleRead) -> RowRead
+    ensures { λ r. ⌜ r ≡ withNumber a c ⌝ }
+{
+    match a {
+        NumberRead::Wrong(fault) => RowRead::Amiss(fault),
+        NumberRead::Value(number) => on_row(number, c),
+    }
+}
+
+// Four words and no more: a number and three cells.
+pub fn row_of(w: &[u8]) -> RowRead
+    ensures { λ r. ⌜ r ≡ rowOf (words (now (w .entry))) ⌝ }
+{
+    let a = words::word_at(w, 0);
+    let b = words::word_at(w, a.end);
+    let c = words::word_at(w, b.end);
+    let d = words::word_at(w, c.end);
+    if w.len() <= d.start {
+        return RowRead::Amiss(10);
+    }
+    let fifth = words::word_at(w, d.end);
+    if fifth.start < w.len() {
+        return RowRead::Amiss(10);
+    }
+    with_number(
+        number_at(w, a),
+        table_cells(cell_at(w, b), cell_at(w, c), cell_at(w, d)),
+    )
+}
+
+// ---- a ramp's slopes
+
+// The first number has a fault: 11 of either counts before 12 of either.
+fn two_faults(fault: u8, b: NumberRead) -> RampCellRead
+    ensures { λ r. ⌜ r ≡ twoFaults fault b ⌝ }
+{
+    match b {
+        NumberRead::Wrong(second) => {
+            if fault == 12 {
+                return RampCellRead::Faulted(second);
+            }
+            RampCellRead::Faulted(fault)
+        }
+        NumberRead::Value(_) => RampCellRead::Faulted(fault),
+    }
+}
+
+fn ratio_of(a: NumberRead, b: NumberRead) -> RampCellRead
+    ensures { λ r. ⌜ r ≡ ratioOf a b ⌝ }
+{
+    match a {
+        NumberRead::Wrong(fault) => two_faults(fault, b),
+        NumberRead::Value(dividend) => match b {
+            NumberRead::Wrong(fault) => RampCellRead::Faulted(fault),
+            NumberRead::Value(divisor) => RampCellRead::Slope(RampCell::Ratio {
+                dividend: dividend,
+                divisor: divisor,
+            }),
+        },
+    }
+}
+
+// A word of two numbers with one slash between.
+pub fn slope_of(w: &[u8]) -> RampCellRead
+    ensures { λ r. ⌜ r ≡ slopeOf (now (w .entry)) ⌝ }
+{
+    let slash = words::find(w, 0, b'/');
+    if w.len() <= slash {
+        return RampCellRead::Faulted(11);
+    }
+    let behind = slash + 1;
+    if words::find(w, behind, b'/') < w.len() {
+        return RampCellRead::Faulted(11);
+    }
+    ratio_of(
+        decimal::number_of(&w[..slash]),
+        decimal::number_of(&w[behind..]),
+    )
+}
+
+// The same, or NA.
+pub fn slope_or_missing(w: &[u8]) -> RampCellRead
+    ensures { λ r. ⌜ r ≡ slopeOrMissing (now (w .entry)) ⌝ }
+{
+    if words::same_capitals(w, b"NA") {
+        return RampCellRead::Slope(RampCell::Absent);
+    }
+    slope_of(w)
+}
+
+fn slope_at(w: &[u8], r: Word) -> RampCellRead
+    requires { ⌜ Within (now w) r ⌝ }
+    ensures { λ n. ⌜ n ≡ slopeOf (bytesOf (now (w .entry)) r) ⌝ }
+{
+    let start = r.start;
+    let end = r.end;
+    slope_of(&w[start..end])
+}
+
+fn slope_or_missing_at(w: &[u8], r: Word) -> RampCellRead
+    requires { ⌜ Within (now w) r ⌝ }
+    ensures { λ n. ⌜ n ≡ slopeOrMissing (bytesOf (now (w .entry)) r) ⌝ }
+{
+    let start = r.start;
+    let end = r.end;
+    slope_or_missing(&w[start..end])
+}
+
+fn is_upward(c: RampCell) -> bool
+    ensures { λ r. ⌜ r ≡ isUpward c ⌝ }
+{
+    match c {
+        RampCell::Ratio { dividend, divisor } => decimal::above_zero(divisor),
+        RampCell::Absent => true,
+    }
+}
+
+// A divisor that is not above zero is told after what is wrong with the words.
+fn upward(typ: RampCell, min: RampCell, max: RampCell) -> RampRead
+    ensures { λ r. ⌜ r ≡ upward (record { typ = typ; min = min; max = max }) ⌝ }
+{
+    if !is_upward(typ) {
+        return RampRead::Refused(13);
+    }
+    if !is_upward(min) {
+        return RampRead::Refused(13);
+    }
+    if !is_upward(max) {
+        return RampRead::Refused(13);
+    }
+    RampRead::Slopes(RampTriple {
+        typ: typ,
+        min: min,
+        max: max,
+    })
+}
+
+fn slopes_max(typ: RampCell, min: RampCell, c: RampCellRead) -> RampRead
+    ensures { λ r. ⌜ r ≡ slopesMax typ min c ⌝ }
+{
+    match c {
+        RampCellRead::Faulted(fault) => RampRead::Refused(fault),
+        RampCellRead::Slope(max) => upward(typ, min, max),
+    }
+}
+
+fn slopes_min(typ: RampCell, b: RampCellRead, c: RampCellRead) -> RampRead
+    ensures { λ r. ⌜ r ≡ slopesMin typ b c ⌝ }
+{
+    match b {
+        RampCellRead::Faulted(fault) => RampRead::Refused(fault),
+        RampCellRead::Slope(min) => slopes_max(typ, min, c),
+    }
+}
+
+fn slopes_typ(a: RampCellRead, b: RampCellRead, c: RampCellRead) -> RampRead
+    ensures { λ r. ⌜ r ≡ slopesTyp a b c ⌝ }
+{
+    match a {
+        RampCellRead::Faulted(fault) => RampRead::Refused(fault),
+        RampCellRead::Slope(typ) => slopes_min(typ, b, c),
+    }
+}
+
+// Three words and no more, from a place on: a slope and two that may be missing.
+pub fn three_slopes(w: &[u8], at: usize) -> RampRead
+    requires { ⌜ at ≤ length (now w) ⌝ }
+    ensures { λ r. ⌜ r ≡ threeSlopes (words (drop at (now (w .entry)))) ⌝ }
+{
+    match three_words(w, at) {
+        ThreeWords::Three { a, b, c } => slopes_typ(
+            slope_at(w, a),
+            slope_or_missing_at(w, b),
+            slope_or_missing_at(w, c),
+        ),
+        ThreeWords::Other => RampRead::Refused(10),
+    }
+}
+
+// ---- the fault of what is read, 0 for none
+
+pub fn number_fault(r: NumberRead) -> u8
+    ensures { λ n. ⌜ n ≡ numberFault r ⌝ }
+{
+    match r {
+        NumberRead::Value(_) => 0,
+        NumberRead::Wrong(fault) => fault,
+    }
+}
+
+pub fn cell_fault(r: CellRead) -> u8
+    ensures { λ n. ⌜ n ≡ cellFault r ⌝ }
+{
+    match r {
+        CellRead::Read(_) => 0,
+        CellRead::Bad(fault) => fault,
+    }
+}
+
+pub fn triple_fault(r: TripleRead) -> u8
+    ensures { λ n. ⌜ n ≡ tripleFault r ⌝ }
+{
+    match r {
+        TripleRead::Cells(_) => 0,
+        TripleRead::Flawed(fault) => fault,
+    }
+}
+
+pub fn ramp_fault(r: RampRead) -> u8
+    ensures { λ n. ⌜ n ≡ rampFault r ⌝ }
+{
+    match r {
+        RampRead::Slopes(_) => 0,
+        RampRead::Refused(fault) => fault,
+    }
+}
+
+// ---- the heading of the pins
+
+// Behind the first two names: nothing, or the names of three cells.
+fn rest_of(w: &[u8], at: usize) -> HeadingRead
+    requires { ⌜ at ≤ length (now w) ⌝ }
+    ensures { λ r. ⌜ r ≡ restRead (words (drop at (now (w .entry)))) ⌝ }
+{
+    let first = words::word_at(w, at);
+    if w.len() <= first.start {
+        return HeadingRead::Short;
+    }
+    match three_words(w, at) {
+        ThreeWords::Three { a, b, c } => {
+            if !named(w, a, b"R_pin") {
+                return HeadingRead::NoHeading;
+            }
+            if !named(w, b, b"L_pin") {
+                return HeadingRead::NoHeading;
+            }
+            if !named(w, c, b"C_pin") {
+                return HeadingRead::NoHeading;
+            }
+            HeadingRead::Long
+        }
+        ThreeWords::Other => HeadingRead::NoHeading,
+    }
+}
+
+// What the words behind [Pin] say.
+pub fn heading_of(w: &[u8]) -> HeadingRead
+    ensures { λ r. ⌜ r ≡ headingRead (heading (words (now (w .entry)))) ⌝ }
+{
+    let a = words::word_at(w, 0);
+    let b = words::word_at(w, a.end);
+    if w.len() <= b.start {
+        return HeadingRead::NoHeading;
+    }
+    if !named(w, a, b"signal_name") {
+        return HeadingRead::NoHeading;
+    }
+    if !named(w, b, b"model_name") {
+        return HeadingRead::NoHeading;
+    }
+    rest_of(w, b.end)
+}

@@ -1,0 +1,57 @@
+-- By the word behind the name, if it is there.
+use mathlib.Core.Path.{sym, ap, _∙_, subst}
+use native.Mathlib.Omega.{arith}
+use borrow.Author.Needs.{needs}
+use denote.Ref.{now}
+use Rattle.laws.specs.Lists.{eqs}
+use Rattle.named_lines.specs.Places.{WordIs}
+use Rattle.line_rules.specs.Fields.{namedWord, oneOf}
+use Rattle.rules.specs.Model.{orNothing, isInput}
+use Rattle.line_faults.proofs.is_input.Statement.{statement}
+use Rattle.line_faults.proofs.is_input.Tie as tie
+
+named-word-requires : tie.Need-named-word-requires
+named-word-requires c κs = search needs
+
+enum-known-start : tie.Need-enum-known-start
+enum-known-start c = search needs
+
+sub-begins-input : tie.Need-sub-begins-input
+sub-begins-input c = omega (arith, subst (WordIs (namedWord (now (c .before .before .before .before .before .args .w))) (now (c .before .before .before .before .before .args .w))) (c .before .start .given .1) (c .before .before .before .named-word .ensures) .starts)
+
+part-begins-input-start : tie.Need-part-begins-input-start
+part-begins-input-start c = subst (WordIs (namedWord (now (c .before .before .before .before .before .args .w))) (now (c .before .before .before .before .before .args .w))) (c .before .start .given .1) (c .before .before .before .named-word .ensures) .starts
+
+part-begins-input-end : tie.Need-part-begins-input-end
+part-begins-input-end c = subst (WordIs (namedWord (now (c .before .before .before .before .before .args .w))) (now (c .before .before .before .before .before .args .w))) (c .before .start .given .1) (c .before .before .before .named-word .ensures) .ends
+
+begins-input-requires : tie.Need-begins-input-requires
+begins-input-requires c κs = search needs
+
+enum-told : tie.Need-enum-told
+enum-told c = search needs
+
+returns : tie.Need-returns
+returns c =
+    let o = subst (WordIs (namedWord (now (c .before .before .before .before .before .before .before .args .w))) (now (c .before .before .before .before .before .before .before .args .w))) (c .before .before .before .start .given .1) (c .before .before .before .before .before .named-word .ensures) in
+    c .begins-input .ensures ∙ ap (λ (x : _). isInput (orNothing x)) (sym (o .text))
+
+returns-2 : tie.Need-returns-2
+unfolding isInput eqs oneOf
+returns-2 c =
+    let o = subst (WordIs (namedWord (now (c .before .before .before .before .args .w))) (now (c .before .before .before .before .args .w))) (c .enum-told .given .1) (c .before .before .named-word .ensures) in
+    sym (ap (λ (x : _). isInput (orNothing x)) o)
+
+pub is-input-spec : {M : Type 1} → statement M
+is-input-spec =
+    tie.close
+    (tie.spec
+    named-word-requires
+    enum-known-start
+    sub-begins-input
+    part-begins-input-start
+    part-begins-input-end
+    begins-input-requires
+    enum-told
+    returns
+    returns-2)

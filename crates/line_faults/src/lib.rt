@@ -1,0 +1,198 @@
+// What is wrong with what stands on a line: the faults of named lines, of pin rows and of keywords' arguments.
+ghost use mathlib.Core.Path.{_≡_};
+ghost use Rattle.words.specs.Words.{words};
+ghost use Rattle.line_rules.specs.Fields.{namedCells, namedSlopes, namedWord, wordFault};
+ghost use Rattle.line_rules.specs.Tables.{locations, modelTypes, polarities, enables};
+ghost use Rattle.rules.specs.Component.{pinNames, cellsFault, pinRow, componentFault};
+ghost use Rattle.line_faults.specs.Arguments.{aloneFault};
+ghost use Rattle.rules.specs.Model.{orNothing, isInput, isDriven, firstFault, rampLineFault, modelFault};
+use keywords::ComponentPart;
+use keywords::ModelPart;
+use line_cells::HeadingRead;
+use line_cells::ThreeWords;
+use line_rules::RampRead;
+use line_rules::TripleRead;
+use named_lines::LocationRead;
+use named_lines::TypeRead;
+use named_lines::WordRead;
+use records::Enable;
+use records::Polarity;
+
+// ---- three cells or slopes behind a name
+
+pub fn named_cells(w: &[u8]) -> TripleRead
+    ensures { λ r. ⌜ r ≡ namedCells (now (w .entry)) ⌝ }
+{
+    if !named_lines::name_alone(w) {
+        return TripleRead::Flawed(10);
+    }
+    let name = named_lines::first_word(w);
+    line_cells::three_cells(w, name.end)
+}
+
+pub fn named_slopes(w: &[u8]) -> RampRead
+    ensures { λ r. ⌜ r ≡ namedSlopes (now (w .entry)) ⌝ }
+{
+    if !named_lines::name_alone(w) {
+        return RampRead::Refused(10);
+    }
+    let name = named_lines::first_word(w);
+    line_cells::three_slopes(w, name.end)
+}
+
+// ---- a word behind a name
+
+pub fn location_fault(w: &[u8]) -> u8
+    ensures { λ r. ⌜ r ≡ wordFault locations (now (w .entry)) ⌝ }
+{
+    match named_lines::location_of(w) {
+        LocationRead::Located(_) => 0,
+        LocationRead::NoLocation => 10,
+    }
+}
+
+fn type_fault(w: &[u8]) -> u8
+    ensures { λ r. ⌜ r ≡ wordFault modelTypes (now (w .entry)) ⌝ }
+{
+    match named_lines::type_of(w) {
+        TypeRead::OfType(_) => 0,
+        TypeRead::NoType => 10,
+    }
+}
+
+fn polarity_fault(w: &[u8]) -> u8
+    ensures { λ r. ⌜ r ≡ wordFault polarities (now (w .entry)) ⌝ }
+{
+    match named_lines::polarity_of(w) {
+        Polarity::NoPolarity => 10,
+        Polarity::Inverting => 0,
+        Polarity::NonInverting => 0,
+    }
+}
+
+fn enable_fault(w: &[u8]) -> u8
+    ensures { λ r. ⌜ r ≡ wordFault enables (now (w .entry)) ⌝ }
+{
+    match named_lines::enable_of(w) {
+        Enable::NoEnable => 10,
+        Enable::ActiveHigh => 0,
+        Enable::ActiveLow => 0,
+    }
+}
+
+// ---- a model's lines
+
+// The line at place n of a model's first lines.
+pub fn first_fault(n: usize, w: &[u8]) -> u8
+    ensures { λ r. ⌜ r ≡ firstFault n (now (w .entry)) ⌝ }
+{
+    match n {
+        0 => type_fault(w),
+        1 => polarity_fault(w),
+        2 => enable_fault(w),
+        3 => line_cells::triple_fault(named_cells(w)),
+        _ => line_cells::number_fault(named_lines::assigned_number(w)),
+    }
+}
+
+// The line at place n of a ramp's.
+pub fn ramp_line_fault(n: usize, w: &[u8]) -> u8
+    ensures { λ r. ⌜ r ≡ rampLineFault n (now (w .entry)) ⌝ }
+{
+    if n <= 1 {
+        return line_cells::ramp_fault(named_slopes(w));
+    }
+    line_cells::number_fault(named_lines::assigned_number(w))
+}
+
+// The type begins Input or I/O.
+fn begins_input(t: &[u8]) -> bool
+    ensures { λ r. ⌜ r ≡ isInput (now (t .entry)) ⌝ }
+{
+    let n = t.len();
+    if n < 3 {
+        return false;
+    }
+    if words::same(&t[..3], b"I/O") {
+        return true;
+    }
+    if n < 5 {
+        return false;
+    }
+    words::same(&t[..5], b"Input")
+}
+
+pub fn is_input(w: &[u8]) -> bool
+    ensures { λ r. ⌜ r ≡ isInput (orNothing (namedWord (now (w .entry)))) ⌝ }
+{
+    match named_lines::named_word(w) {
+        WordRead::One { start, end } => begins_input(&w[start..end]),
+        WordRead::NoWord => false,
+    }
+}
+
+// The type wants a ramp.
+fn wants_ramp(t: &[u8]) -> bool
+    ensures { λ r. ⌜ r ≡ isDriven (now (t .entry)) ⌝ }
+{
+    if words::same(t, b"Input") {
+        return false;
+    }
+    if words::same(t, b"Input_ECL") {
+        return false;
+    }
+    !words::same(t, b"Terminator")
+}
+
+pub fn is_driven(w: &[u8]) -> bool
+    ensures { λ r. ⌜ r ≡ isDriven (orNothing (namedWord (now (w .entry)))) ⌝ }
+{
+    match named_lines::named_word(w) {
+        WordRead::One { start, end } => wants_ramp(&w[start..end]),
+        WordRead::NoWord => true,
+    }
+}
+
+// ---- keywords' arguments
+
+// A keyword that takes no argument has none.
+fn alone_fault(argument: &[u8]) -> u8
+    ensures { λ r. ⌜ r ≡ aloneFault (now (argument .entry)) ⌝ }
+{
+    if argument.len() == 0 { 0 } else { 10 }
+}
+
+pub fn model_fault(argument: &[u8], p: ModelPart) -> u8
+    ensures { λ r. ⌜ r ≡ modelFault (now (argument .entry)) p ⌝ }
+{
+    match p {
+        ModelPart::VoltageRange => line_cells::triple_fault(line_cells::three_cells(argument, 0)),
+        ModelPart::TemperatureRange => line_cells::triple_fault(line_cells::three_cells(
+            argument,
+            0,
+        )),
+        ModelPart::Current(_) => alone_fault(argument),
+        ModelPart::Ramp => alone_fault(argument),
+        ModelPart::Waveform(_) => alone_fault(argument),
+    }
+}
+
+pub fn component_fault(argument: &[u8], p: ComponentPart) -> u8
+    ensures { λ r. ⌜ r ≡ componentFault (now (argument .entry)) p ⌝ }
+{
+    match p {
+        ComponentPart::Manufacturer => {
+            if named_lines::sized(argument, 40) {
+                0
+            } else {
+                10
+            }
+        }
+        ComponentPart::Package => alone_fault(argument),
+        ComponentPart::Pin => match line_cells::heading_of(argument) {
+            HeadingRead::Short => 0,
+            HeadingRead::Long => 0,
+            HeadingRead::NoHeading => 10,
+        },
+    }
+}

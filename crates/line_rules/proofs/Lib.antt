@@ -1,0 +1,2 @@
+-- What the definitions must keep.
+pub mod Sanity

@@ -1,0 +1,59 @@
+-- The names and words that document 01 lists, in its order. Letter case counts.
+use Prim.Native.String.{String}
+use mathlib.Core.List.{List, [], _∷_}
+use Rattle.name_table.specs.Names.{Entry, entry}
+use Rattle.records.specs.declared.Location.{Location}
+use Rattle.records.specs.declared.Location.the-variants.{AtPin, AtDie}
+use Rattle.records.specs.declared.Polarity.{Polarity}
+use Rattle.records.specs.declared.Polarity.the-variants.{Inverting, NonInverting}
+use Rattle.records.specs.declared.Enable.{Enable}
+use Rattle.records.specs.declared.Enable.the-variants.{ActiveHigh, ActiveLow}
+use Rattle.records.specs.declared.ModelType.{ModelType}
+use Rattle.records.specs.declared.ModelType.the-variants.{Input, Output, InputOutput, ThreeState, OpenDrain, InputOutputOpenDrain, OpenSink, InputOutputOpenSink, OpenSource, InputOutputOpenSource, InputEcl, OutputEcl, InputOutputEcl, ThreeStateEcl, Terminator}
+
+-- ---- lines with a name, known by their place in the list
+
+abbrev pub componentLines : String
+componentLines = "Si_location Timing_location"
+
+abbrev pub packageLines : String
+packageLines = "R_pkg L_pkg C_pkg"
+
+abbrev pub modelLines : String
+modelLines = "Model_type Polarity Enable C_comp Vinl Vinh Vmeas Cref Rref Vref"
+
+abbrev pub rampLines : String
+rampLines = "dV/dt_r dV/dt_f R_load"
+
+abbrev pub fixtures : String
+fixtures = "R_fixture V_fixture V_fixture_min V_fixture_max C_fixture L_fixture R_dut L_dut C_dut"
+
+-- ---- words, and what they mean
+
+unfoldable pub locations : List (Entry Location)
+locations = entry "Pin" AtPin ∷ entry "Die" AtDie ∷ []
+
+unfoldable pub modelTypes : List (Entry ModelType)
+modelTypes =
+    entry "Input" Input
+    ∷ entry "Output" Output
+    ∷ entry "I/O" InputOutput
+    ∷ entry "3-state" ThreeState
+    ∷ entry "Open_drain" OpenDrain
+    ∷ entry "I/O_open_drain" InputOutputOpenDrain
+    ∷ entry "Open_sink" OpenSink
+    ∷ entry "I/O_open_sink" InputOutputOpenSink
+    ∷ entry "Open_source" OpenSource
+    ∷ entry "I/O_open_source" InputOutputOpenSource
+    ∷ entry "Input_ECL" InputEcl
+    ∷ entry "Output_ECL" OutputEcl
+    ∷ entry "I/O_ECL" InputOutputEcl
+    ∷ entry "3-state_ECL" ThreeStateEcl
+    ∷ entry "Terminator" Terminator
+    ∷ []
+
+unfoldable pub polarities : List (Entry Polarity)
+polarities = entry "Inverting" Inverting ∷ entry "Non-Inverting" NonInverting ∷ []
+
+unfoldable pub enables : List (Entry Enable)
+enables = entry "Active-High" ActiveHigh ∷ entry "Active-Low" ActiveLow ∷ []

@@ -1,0 +1,248 @@
+-- Laws on lines and keywords: a text more, by its kind; and what holds within a section.
+use Prim.Native.Nat.{ℕ, _+_, _≤_}
+use mathlib.Core.Path.{_≡_, refl, sym, ap, _∙_}
+use mathlib.Core.List.{List, [], _∷_}
+use mathlib.Core.Bool.{Bool, true, false, cond, not, _&&_}
+use mathlib.Core.Option.{Option, none, some}
+use native.Mathlib.Omega.{arith}
+use lib.ListN.{length}
+use borrow.Author.Tests.{not-true}
+use Rattle.laws.specs.Lists.{front, after, part}
+use Rattle.laws.proofs.Tests.{by-test, cond-yes, cond-no, cond-map, and-right}
+use Rattle.laws.proofs.Lists.{part-length, part-rest, part-from}
+use Rattle.keywords.specs.Carried.{keyOf}
+use Rattle.keywords.specs.declared.Keyword.{Keyword}
+use Rattle.keywords.specs.declared.KeyRead.{KeyRead}
+use Rattle.keywords.specs.declared.KeyRead.the-variants.{Known, Malformed}
+use Rattle.cut_lines.specs.Texts.{Text, plain, change, rest}
+use Rattle.cut_lines.specs.Cursors.{Placed, TextIs, ChangeIs, OutIs}
+use Rattle.cut_lines.specs.declared.Cursor.{Cursor}
+use Rattle.line_rules.specs.Fields.{isBracketed, isSome}
+use Rattle.rules.specs.Reading.{isLine, plainLines, under, keyIn, keyAt, isEnd, isWithin}
+use Rattle.laws.proofs.Fronts.{front-front}
+use Rattle.keywords.proofs.Arguments.{key-within, key-argument}
+use Rattle.lines_under.specs.Under.{keyRead, isKeyless, LineIs, StopsAt, NoLineIs, LinesAre, KeyIs}
+
+-- ---- the lines under a keyword, by the first text
+
+module _ {ts us : List Text} (k : ℕ) where
+  pub under-change : (f : ℕ) → ts ≡ change k f ∷ us → (under ts ≡ under us) × (after isLine ts ≡ after isLine us)
+  unfolding under front after plainLines
+  under-change f e = (rw e, rw e)
+
+  module _ (w : List ℕ) (e : ts ≡ plain k w ∷ us) where
+    pub under-line : isBracketed w ≡ false → (under ts ≡ w ∷ under us) × (after isLine ts ≡ after isLine us)
+    unfolding under front after plainLines
+    under-line h = (rw (e, h), rw (e, h))
+
+    pub under-key : isBracketed w ≡ true → (under ts ≡ []) × (after isLine ts ≡ ts)
+    unfolding under front after plainLines
+    under-key h = (rw (e, h), rw (e, h))
+
+pub under-end : {ts : List Text} → ts ≡ [] → (under ts ≡ []) × (after isLine ts ≡ ts)
+unfolding under front after plainLines
+under-end e = (rw e, rw e)
+
+-- ---- the next keyword, by the first text
+
+module _ {ts us : List Text} (t : Text) (e : ts ≡ t ∷ us) where
+  pub key-skip : keyAt t ≡ none → after isKeyless ts ≡ after isKeyless us
+  unfolding after
+  key-skip h = rw (e, h)
+
+  pub key-stop : (k : Keyword) → keyAt t ≡ some k → after isKeyless ts ≡ t ∷ us
+  unfolding after
+  key-stop k h = rw (e, h)
+
+pub key-end : {ts : List Text} → ts ≡ [] → after isKeyless ts ≡ []
+unfolding after
+key-end e = rw e
+
+-- as the code reads it
+pub key-at : (k : ℕ) (w : List ℕ) (r : KeyRead) → keyRead w ≡ r → keyAt (plain k w) ≡ keyIn r
+unfolding keyRead
+key-at k w r e = sym (cond-map keyIn (isBracketed w) (keyOf w) Malformed) ∙ ap keyIn e
+
+pub key-known : (w : List ℕ) (k : Keyword) (at : ℕ) → keyRead w ≡ Known k at → keyOf w ≡ Known k at
+unfolding keyRead
+key-known w k at e =
+    by-test (isBracketed w)
+    (λ h. sym (cond-yes _ _ h) ∙ e)
+    (λ h. let m : Malformed ≡ Known k at = sym (cond-no _ _ h) ∙ e in let z : _≡_ {A = ℕ} 0 1 = cc in absurd (omega arith))
+
+-- ---- a reading of the lines under a keyword that has come from c to d
+
+pub record Along (s : List ℕ) (c d : Cursor) : Type 0 where
+  pub behind : after isLine (rest s c) ≡ after isLine (rest s d)
+  pub placed : Placed s d
+  pub rises : c .at ≤ d .at
+
+pub along-start : (s : List ℕ) (c : Cursor) → Placed s c → Along s c c
+along-start s c h = record { behind = refl; placed = h; rises = omega arith }
+
+module _ {s : List ℕ} {c d : Cursor} (p : Along s c d) where
+  pub along-line : {a e : ℕ} {n : Cursor} → LineIs s d a e n → Along s c n
+  along-line l = record { behind = p .behind ∙ l .behind; placed = l .placed; rises = omega (arith, p .rises, l .rises) }
+
+  pub along-end : {n : Cursor} → NoLineIs s d n → StopsAt s c n
+  along-end l =
+      record { behind = p .behind ∙ l .stops .behind; placed = l .stops .placed; rises = omega (arith, p .rises, l .stops .rises) }
+
+  along-here : after isLine (rest s d) ≡ rest s d → StopsAt s c d
+  along-here h = record { behind = p .behind ∙ h; placed = p .placed; rises = p .rises }
+
+-- the same with no line passed
+pub record Passed (s : List ℕ) (c d : Cursor) : Type 0 where
+  pub along : Along s c d
+  pub lines : under (rest s c) ≡ under (rest s d)
+
+module _ {s : List ℕ} {c d : Cursor} (p : Passed s c d) where
+  pub passed-change : {k f : ℕ} {n : Cursor} → ChangeIs s d k f n → Passed s c n
+  passed-change {k} {f} t =
+      let u = under-change k f (t .more) in
+      record {
+        along = record { behind = p .along .behind ∙ u .1; placed = t .goes .placed; rises = omega (arith, p .along .rises, t .goes .rises) };
+        lines = p .lines ∙ u .0;
+      }
+
+  pub passed-line : {k a e : ℕ} {n : Cursor} → TextIs s d k a e n → isBracketed (part a e s) ≡ false → LineIs s c a e n
+  passed-line {k} {a} {e} t h =
+      let u = under-line k (part a e s) (t .more) h in
+      record {
+        more = p .lines ∙ u .0;
+        behind = p .along .behind ∙ u .1;
+        placed = t .goes .placed;
+        rises = omega (arith, p .along .rises, t .goes .rises);
+        starts = t .starts;
+        fits = t .fits;
+      }
+
+  pub passed-key : {k a e : ℕ} {n : Cursor} → TextIs s d k a e n → isBracketed (part a e s) ≡ true → NoLineIs s c d
+  passed-key {k} {a} {e} t h =
+      let u = under-key k (part a e s) (t .more) h in
+      record { more = p .lines ∙ u .0; stops = along-here (p .along) (u .1) }
+
+  pub passed-out : {k : ℕ} → OutIs s d k → NoLineIs s c d
+  passed-out t =
+      let u = under-end (t .more) in
+      record { more = p .lines ∙ u .0; stops = along-here (p .along) (u .1) }
+
+-- the same with n lines counted: each has a byte
+pub record Counted (s : List ℕ) (c d : Cursor) (n : ℕ) : Type 0 where
+  pub along : Along s c d
+  pub count : length (under (rest s c)) ≡ n + length (under (rest s d))
+  pub bounded : c .at + n ≤ d .at
+
+module _ {s : List ℕ} {c d : Cursor} {n : ℕ} (p : Counted s c d n) where
+  pub counted-line : {a e : ℕ} {m : Cursor} → LineIs s d a e m → Counted s c m (n + 1)
+  counted-line l =
+      record { along = along-line (p .along) l; count = omega (arith, p .count, ap length (l .more)); bounded = omega (arith, p .bounded, l .rises) }
+
+  pub counted-end : {m : Cursor} → NoLineIs s d m → LinesAre s c (record { count = n; next = m })
+  counted-end l =
+      record { count = omega (arith, p .count, ap length (l .more)); stops = along-end (p .along) l; bounded = omega (arith, p .bounded, l .stops .rises) }
+
+-- ---- a search for the next keyword that has come to d
+
+pub record Sought (s : List ℕ) (c d : Cursor) : Type 0 where
+  pub keys : after isKeyless (rest s c) ≡ after isKeyless (rest s d)
+  pub placed : Placed s d
+  pub rises : c .at ≤ d .at
+
+module _ {s : List ℕ} {c d : Cursor} (p : Sought s c d) where
+  pub sought-change : {k f : ℕ} {n : Cursor} → ChangeIs s d k f n → Sought s c n
+  sought-change {k} {f} t =
+      record { keys = p .keys ∙ key-skip (change k f) (t .more) refl; placed = t .goes .placed; rises = omega (arith, p .rises, t .goes .rises) }
+
+  pub sought-none : {k a e : ℕ} {n : Cursor} → TextIs s d k a e n → keyIn (keyRead (part a e s)) ≡ none → Sought s c n
+  sought-none {k} {a} {e} t h =
+      let none-at = key-at k (part a e s) (keyRead (part a e s)) refl ∙ h in
+      record { keys = p .keys ∙ key-skip (plain k (part a e s)) (t .more) none-at; placed = t .goes .placed; rises = omega (arith, p .rises, t .goes .rises) }
+
+  module _ {k a e : ℕ} {n : Cursor} (t : TextIs s d k a e n) {key : Keyword} {at : ℕ} (h : keyRead (part a e s) ≡ Known key at) where
+    pub sought-within : a + at ≤ e
+    sought-within =
+        omega (arith, key-within (part a e s) (key-known (part a e s) key at h), part-length s a e (t .fits), t .starts)
+
+    pub sought-found : KeyIs s c key (a + at) e n
+    sought-found =
+        record {
+          text = plain k (part a e s);
+          more = p .keys ∙ key-stop (plain k (part a e s)) (t .more) key (key-at k (part a e s) (Known key at) h);
+          key = key-at k (part a e s) (Known key at) h;
+          said = sym (key-argument (part a e s) (key-known (part a e s) key at h)) ∙ part-rest (part a e s) at ∙ part-from s a e at;
+          placed = t .goes .placed;
+          rises = omega (arith, p .rises, t .goes .rises);
+          starts = sought-within;
+          fits = t .fits;
+        }
+
+  pub sought-out : {k : ℕ} → OutIs s d k → after isKeyless (rest s c) ≡ []
+  sought-out t = p .keys ∙ key-end (t .more)
+
+none-is : (k : Option Keyword) → not (isSome k) ≡ true → k ≡ none
+none-is none h = refl
+none-is (some k) h = let z : _≡_ {A = ℕ} 0 1 = cc in absurd (omega arith)
+
+-- ---- what has no keyword: every line, and it stands within its section
+
+line-keyless : (t : Text) → isLine t ≡ true → isKeyless t ≡ true
+line-keyless (plain k w) h = ap (λ (b : Bool). not (isSome (cond b (keyIn (keyOf w)) none))) (not-true (isBracketed w) h)
+line-keyless (change k n) h = refl
+
+keyless-none : (t : Text) → isKeyless t ≡ true → keyAt t ≡ none
+keyless-none t h = none-is (keyAt t) h
+
+keyless-within : (t : Text) → isKeyless t ≡ true → isWithin t ≡ true
+keyless-within t h = ap (λ (k : Option Keyword). not (isEnd k)) (keyless-none t h)
+
+-- passing over the lines first changes nothing
+pub keys-behind : (ts : List Text) → after isKeyless (after isLine ts) ≡ after isKeyless ts
+unfolding after
+keys-behind [] = refl
+keys-behind (t ∷ ts) =
+    by-test (isLine t)
+    (λ h. rw (h, line-keyless t h) (keys-behind ts))
+    (λ h. rw h)
+
+line-within : (t : Text) → isLine t ≡ (isWithin t && isLine t)
+line-within t =
+    by-test (isLine t)
+    (λ h. rw (h, keyless-within t (line-keyless t h)))
+    (λ h. h ∙ sym (and-right (isWithin t) (isLine t) h))
+
+-- the lines under a keyword are within its section
+pub under-within : (ts : List Text) → under (front isWithin ts) ≡ under ts
+unfolding under
+under-within ts =
+    ap plainLines (front-front isLine isWithin isLine (λ t. line-within t) ts)
+
+-- ---- what looks at keywords alone
+
+module _ {A : Type 0} (f : List Text → A) (skips : (t : Text) (ts : List Text) → keyAt t ≡ none → f (t ∷ ts) ≡ f ts) where
+  pub keys-only : (ts : List Text) → f ts ≡ f (after isKeyless ts)
+  unfolding after
+  keys-only [] = refl
+  keys-only (t ∷ ts) =
+      by-test (isKeyless t)
+      (λ h. rw h (skips t ts (keyless-none t h) ∙ keys-only ts))
+      (λ h. rw h)
+
+  front-skips : (t : Text) (ts : List Text) → keyAt t ≡ none → f (front isWithin (t ∷ ts)) ≡ f (front isWithin ts)
+  unfolding front
+  front-skips t ts h = ap f (cond-yes _ _ (ap (λ (k : Option Keyword). not (isEnd k)) h)) ∙ skips t (front isWithin ts) h
+
+-- the same within a section
+pub keys-within : {A : Type 0} (f : List Text → A) → ((t : Text) (ts : List Text) → keyAt t ≡ none → f (t ∷ ts) ≡ f ts)
+    → (ts : List Text) → f (front isWithin ts) ≡ f (front isWithin (after isKeyless ts))
+keys-within f skips = keys-only (λ (ts : List Text). f (front isWithin ts)) (front-skips f skips)
+
+-- a keyword ends the section, or is in it
+module _ (t : Text) (ts : List Text) (k : Keyword) (e : keyAt t ≡ some k) where
+  pub within-stop : isEnd (some k) ≡ true → front isWithin (t ∷ ts) ≡ []
+  unfolding front
+  within-stop h = cond-no _ _ (ap (λ (o : Option Keyword). not (isEnd o)) e ∙ ap not h)
+
+  pub within-go : isEnd (some k) ≡ false → front isWithin (t ∷ ts) ≡ t ∷ front isWithin ts
+  unfolding front
+  within-go h = cond-yes _ _ (ap (λ (o : Option Keyword). not (isEnd o)) e ∙ ap not h)

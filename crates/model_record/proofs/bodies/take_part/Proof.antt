@@ -1,0 +1,112 @@
+-- By the keyword: `taken`, with what each gives.
+use Prim.Native.Nat.{ℕ}
+use mathlib.Core.Path.{refl, sym, ap, _∙_}
+use native.Mathlib.Omega.{arith}
+use borrow.Author.Needs.{needs}
+use Rattle.keywords.specs.declared.ModelPart.the-variants.{VoltageRange, TemperatureRange, Current, Ramp, Waveform}
+use Rattle.rules.specs.Reading.{tripleIs}
+use Rattle.table_rows.proofs.PartLaws.{parts-behind}
+use Rattle.model_record.specs.Bodies.{withVoltage, withTemperature, withCurrent, withRamp, withWaveform}
+use Rattle.model_record.proofs.Takes.{taken, current-fits}
+use Rattle.model_record.proofs.bodies.take_part.Statement.{statement}
+use Rattle.model_record.proofs.bodies.take_part.Tie as tie
+
+enum-told : tie.Need-enum-told
+enum-told c = search needs
+
+three-cells-requires : tie.Need-three-cells-requires
+three-cells-requires c κs = search needs
+
+triple-is-requires : tie.Need-triple-is-requires
+triple-is-requires c κs = search needs
+
+with-voltage-requires : tie.Need-with-voltage-requires
+with-voltage-requires c κs = search needs
+
+enum-told-2 : tie.Need-enum-told-2
+enum-told-2 c = search needs
+
+three-cells-requires-2 : tie.Need-three-cells-requires-2
+three-cells-requires-2 c κs = search needs
+
+triple-is-requires-2 : tie.Need-triple-is-requires-2
+triple-is-requires-2 c κs = search needs
+
+with-temperature-requires : tie.Need-with-temperature-requires
+with-temperature-requires c κs = search needs
+
+enum-known-part : tie.Need-enum-known-part
+enum-known-part c = search needs
+
+count-rows-requires : tie.Need-count-rows-requires
+count-rows-requires c κs = c .before .before .before .before .before .pre .0
+
+with-current-requires : tie.Need-with-current-requires
+with-current-requires c κs = omega (arith, c .before .count-rows .ensures .bounded, c .before .count-rows .ensures .stops .placed .within, c .before .before .before .before .before .before .before .pre .1, c .before .before .before .before .before .before .before .good)
+
+enum-told-3 : tie.Need-enum-told-3
+enum-told-3 c = search needs
+
+ramp-lines-requires : tie.Need-ramp-lines-requires
+ramp-lines-requires c κs = c .before .before .before .before .pre .0
+
+with-ramp-requires : tie.Need-with-ramp-requires
+with-ramp-requires c κs = search needs
+
+enum-told-4 : tie.Need-enum-told-4
+enum-told-4 c = search needs
+
+count-rows-requires-2 : tie.Need-count-rows-requires-2
+count-rows-requires-2 c κs = c .before .before .before .before .pre .0
+
+with-waveform-requires : tie.Need-with-waveform-requires
+with-waveform-requires c κs = (omega (arith, c .before .count-rows2 .ensures .bounded, c .before .count-rows2 .ensures .stops .placed .within, c .before .before .before .before .before .before .pre .1, c .before .before .before .before .before .before .good), omega (arith, c .before .before .before .before .before .before .pre .0 .within, c .before .before .before .before .before .before .pre .2, c .before .before .before .before .before .before .good))
+
+returns : tie.Need-returns
+returns c = taken VoltageRange (c .with-voltage .result) (c .before .before .before .before .before .before .before .args .c) (c .before .before .before .enum-told .given .1) (c .with-voltage .ensures ∙ ap (withVoltage (c .before .before .before .before .before .before .before .args .b)) (c .before .triple-is .ensures ∙ ap tripleIs (c .before .before .three-cells .ensures))) (record { row = c .before .before .before .before .before .before .before .pre .1; waveforms = omega (arith, c .before .before .before .before .before .before .before .pre .2) }) refl (c .before .before .before .before .before .before .before .pre .0) (omega arith)
+
+returns-2 : tie.Need-returns-2
+returns-2 c = taken TemperatureRange (c .with-temperature .result) (c .before .before .before .before .before .before .before .args .c) (c .before .before .before .enum-told2 .given .1) (c .with-temperature .ensures ∙ ap (withTemperature (c .before .before .before .before .before .before .before .args .b)) (c .before .triple-is2 .ensures ∙ ap tripleIs (c .before .before .three-cells2 .ensures))) (record { row = c .before .before .before .before .before .before .before .pre .1; waveforms = omega (arith, c .before .before .before .before .before .before .before .pre .2) }) refl (c .before .before .before .before .before .before .before .pre .0) (omega arith)
+
+returns-3 : tie.Need-returns-3
+returns-3 c =
+    let n = c .before .before .count-rows .ensures in
+    let t = c .before .before .before .before .part .given .0 .0 in
+    taken (Current t) (c .with-current .result) (c .before .before .count-rows .result .next) (c .before .before .before .before .part .given .1) (c .with-current .ensures ∙ ap (λ (k : ℕ). withCurrent (c .before .before .before .before .before .before .before .before .args .b) k t) (n .count)) (current-fits (c .before .before .before .before .before .before .before .before .args .b) _ t (c .before .before .count-rows .result .next) (rw (sym (n .count)) (omega (arith, n .bounded, c .before .before .before .before .before .before .before .before .pre .1))) (omega (arith, n .stops .rises, c .before .before .before .before .before .before .before .before .pre .2))) (parts-behind (n .stops)) (n .stops .placed) (n .stops .rises)
+
+returns-4 : tie.Need-returns-4
+returns-4 c =
+    let n = c .before .before .ramp-lines .ensures in
+    taken Ramp (c .with-ramp .result) (c .before .before .ramp-lines .result .next) (c .before .before .before .enum-told3 .given .1) (c .with-ramp .ensures ∙ ap (withRamp (c .before .before .before .before .before .before .before .args .b)) (n .ramp)) (record { row = omega (arith, n .stops .rises, c .before .before .before .before .before .before .before .pre .1); waveforms = omega (arith, n .stops .rises, c .before .before .before .before .before .before .before .pre .2) }) (parts-behind (n .stops)) (n .stops .placed) (n .stops .rises)
+
+returns-5 : tie.Need-returns-5
+returns-5 c =
+    let n = c .before .before .count-rows2 .ensures in
+    taken (Waveform _) (c .with-waveform .result) (c .before .before .count-rows2 .result .next) (c .before .before .before .enum-told4 .given .1) (c .with-waveform .ensures ∙ ap (withWaveform (c .before .before .before .before .before .before .before .args .b)) (n .count)) (record { row = rw (sym (n .count)) (omega (arith, n .bounded, c .before .before .before .before .before .before .before .pre .1)); waveforms = omega (arith, n .stops .rises, c .before .before .before .before .before .before .before .pre .2) }) (parts-behind (n .stops)) (n .stops .placed) (n .stops .rises)
+
+pub take-part-spec : {M : Type 1} → statement M
+take-part-spec =
+    tie.close
+    (tie.spec
+    enum-told
+    three-cells-requires
+    triple-is-requires
+    with-voltage-requires
+    enum-told-2
+    three-cells-requires-2
+    triple-is-requires-2
+    with-temperature-requires
+    enum-known-part
+    count-rows-requires
+    with-current-requires
+    enum-told-3
+    ramp-lines-requires
+    with-ramp-requires
+    enum-told-4
+    count-rows-requires-2
+    with-waveform-requires
+    returns
+    returns-2
+    returns-3
+    returns-4
+    returns-5)

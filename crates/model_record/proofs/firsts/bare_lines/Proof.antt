@@ -1,0 +1,13 @@
+-- By the cells that are missing.
+use borrow.Author.Needs.{needs}
+use Rattle.model_record.proofs.firsts.bare_lines.Statement.{statement}
+use Rattle.model_record.proofs.firsts.bare_lines.Tie as tie
+
+no-cells-requires : tie.Need-no-cells-requires
+no-cells-requires c κs = search needs
+
+returns : tie.Need-returns
+returns c = rw (c .no-cells .ensures)
+
+pub bare-lines-spec : {M : Type 1} → statement M
+bare-lines-spec = tie.close (tie.spec no-cells-requires returns)

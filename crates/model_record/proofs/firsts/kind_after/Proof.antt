@@ -1,0 +1,34 @@
+-- Another line, a type of the table's, or none of them.
+use mathlib.Core.Path.{sym, _∙_}
+use borrow.Author.Needs.{needs}
+use borrow.Author.Tests.{eq-eqb, ne-eqb}
+use Rattle.laws.proofs.Tests.{cond-yes, cond-no}
+use Rattle.model_record.proofs.FirstLaws.{type-some, type-none}
+use denote.Ref.{now}
+use Rattle.line_rules.specs.Fields.{wordMeaning, orGiven}
+use Rattle.line_rules.specs.Tables.{modelTypes}
+use Rattle.records.specs.declared.ModelType.the-variants.{Terminator}
+use Rattle.model_record.proofs.firsts.kind_after.Statement.{statement}
+use Rattle.model_record.proofs.firsts.kind_after.Tie as tie
+
+returns : tie.Need-returns
+returns c = sym (cond-no _ _ (ne-eqb _ _ (c .if1 .taken)))
+
+type-of-requires : tie.Need-type-of-requires
+type-of-requires c κs = search needs
+
+enum-known-kind : tie.Need-enum-known-kind
+enum-known-kind c = search needs
+
+enum-told : tie.Need-enum-told
+enum-told c = search needs
+
+returns-2 : tie.Need-returns-2
+returns-2 c = sym (cond-yes (orGiven (wordMeaning modelTypes (now (c .before .before .before .before .before .before .args .w))) Terminator) (c .before .before .before .before .before .before .args .before) (eq-eqb _ _ (c .before .before .before .before .if1 .left)) ∙ type-some (wordMeaning modelTypes (now (c .before .before .before .before .before .before .args .w))) _ (sym (c .before .before .before .type-of .ensures) ∙ c .before .kind .given .1))
+
+returns-3 : tie.Need-returns-3
+returns-3 c = sym (cond-yes (orGiven (wordMeaning modelTypes (now (c .before .before .before .before .before .args .w))) Terminator) (c .before .before .before .before .before .args .before) (eq-eqb _ _ (c .before .before .before .if1 .left)) ∙ type-none (wordMeaning modelTypes (now (c .before .before .before .before .before .args .w))) (sym (c .before .before .type-of .ensures) ∙ c .enum-told .given .1))
+
+pub kind-after-spec : {M : Type 1} → statement M
+kind-after-spec =
+    tie.close (tie.spec returns type-of-requires enum-known-kind enum-told returns-2 returns-3)

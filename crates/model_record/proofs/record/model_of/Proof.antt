@@ -1,0 +1,40 @@
+-- The first lines stop where the keywords begin; all together by `model-laid`.
+use mathlib.Core.Path.{sym, _∙_}
+use borrow.Author.Needs.{needs}
+use denote.Ref.{now}
+use Rattle.cut_lines.specs.Texts.{rest}
+use Rattle.table_rows.proofs.PartLaws.{parts-behind}
+use Rattle.model_record.proofs.BodyLaws.{model-laid}
+use Rattle.model_record.proofs.record.model_of.Statement.{statement}
+use Rattle.model_record.proofs.record.model_of.Tie as tie
+
+first-lines-requires : tie.Need-first-lines-requires
+first-lines-requires c κs = search needs
+
+with-defaults-requires : tie.Need-with-defaults-requires
+with-defaults-requires c κs = search needs
+
+body-of-requires : tie.Need-body-of-requires
+body-of-requires c κs = search needs
+
+name-of-requires : tie.Need-name-of-requires
+name-of-requires c κs = search needs
+
+model-over-requires : tie.Need-model-over-requires
+model-over-requires c κs = search needs
+
+returns : tie.Need-returns
+returns c =
+    let a = c .before .before .before .before .before .before .before .before .before .args in
+    rw (c .model-over .ensures, c .before .name-of .ensures, c .before .before .before .with-defaults .ensures, c .before .before .before .before .before .before .first-lines .ensures .lines, c .before .before .body-of .ensures, sym (parts-behind (c .before .before .before .before .before .before .first-lines .ensures .stops))) (model-laid (a .section) (a .row) (a .start) (now (a .name)) (rest (now (a .src)) (a .c)))
+
+pub model-of-spec : {M : Type 1} → statement M
+model-of-spec =
+    tie.close
+    (tie.spec
+    first-lines-requires
+    with-defaults-requires
+    body-of-requires
+    name-of-requires
+    model-over-requires
+    returns)

@@ -1,0 +1,63 @@
+// The record of a model: its first lines, then its keywords, with the place of each table's rows in the row store.
+use cut_lines::Cursor;
+use decimal::Cell;
+use records::Enable;
+use records::ModelType;
+use records::Polarity;
+use records::RampTable;
+use records::Range;
+use records::Table;
+use records::Triple;
+
+pub mod firsts; // firsts.rt: a model's first lines
+pub mod ramps; // ramps.rt: the lines of [Ramp]
+pub mod bodies; // bodies.rt: the keywords of a model, one after another
+pub mod record; // record.rt: the whole record
+
+pub use record::model_of;
+
+// What the first lines say. input: the type begins Input or I/O.
+pub struct FirstLines {
+    pub kind: ModelType,
+    pub input: bool,
+    pub polarity: Polarity,
+    pub enable: Enable,
+    pub comp: Triple,
+    pub vinl: Cell,
+    pub vinh: Cell,
+    pub vmeas: Cell,
+    pub cref: Cell,
+    pub rref: Cell,
+    pub vref: Cell,
+}
+
+// The first lines, and where the next keyword line stands.
+pub struct FirstRead {
+    pub lines: FirstLines,
+    pub next: Cursor,
+}
+
+// The lines of [Ramp], and where the next keyword line stands.
+pub struct RampLinesRead {
+    pub ramp: RampTable,
+    pub next: Cursor,
+}
+
+// What the keywords say. row: the place of the next table's first row in the row store.
+pub struct Body {
+    pub voltage: Triple,
+    pub temperature: Range,
+    pub pulldown: Table,
+    pub pullup: Table,
+    pub ground: Table,
+    pub power: Table,
+    pub ramp: RampTable,
+    pub waveforms: usize,
+    pub row: usize,
+}
+
+// What the keywords say with one more, and where to read on.
+pub struct Taken {
+    pub body: Body,
+    pub next: Cursor,
+}

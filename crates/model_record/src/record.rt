@@ -1,0 +1,86 @@
+// The whole record of a model.
+ghost use mathlib.Core.Path.{_≡_};
+ghost use Prim.Native.Nat.{_^_, _<_};
+ghost use Rattle.laws.specs.Lists.{front};
+ghost use Rattle.cut_lines.specs.Texts.{rest};
+ghost use Rattle.cut_lines.specs.Cursors.{Placed};
+ghost use Rattle.rules.specs.Reading.{isWithin, modelIn};
+ghost use Rattle.layout.specs.Laid.{modelLaid};
+ghost use Rattle.model_record.specs.Bodies.{modelOver};
+use crate::Body;
+use crate::FirstLines;
+use crate::bodies::body_of;
+use crate::firsts::first_lines;
+use crate::firsts::with_defaults;
+use cut_lines::Cursor;
+use records::Model;
+use records::Name;
+use records::Span;
+
+fn model_over(section: usize, start: usize, name: Name, f: FirstLines, b: Body) -> Model
+    ensures { λ r. ⌜ r ≡ modelOver section start name f b ⌝ }
+{
+    let kind = f.kind;
+    let polarity = f.polarity;
+    let enable = f.enable;
+    let comp = f.comp;
+    let vinl = f.vinl;
+    let vinh = f.vinh;
+    let vmeas = f.vmeas;
+    let cref = f.cref;
+    let rref = f.rref;
+    let vref = f.vref;
+    let voltage = b.voltage;
+    let temperature = b.temperature;
+    let pulldown = b.pulldown;
+    let pullup = b.pullup;
+    let ground = b.ground;
+    let power = b.power;
+    let ramp = b.ramp;
+    Model {
+        section: section,
+        name: name,
+        kind: kind,
+        polarity: polarity,
+        enable: enable,
+        comp: comp,
+        vinl: vinl,
+        vinh: vinh,
+        vmeas: vmeas,
+        cref: cref,
+        rref: rref,
+        vref: vref,
+        voltage: voltage,
+        temperature: temperature,
+        pulldown: pulldown,
+        pullup: pullup,
+        ground: ground,
+        power: power,
+        ramp: ramp,
+        waveforms: Span {
+            start: start,
+            count: b.waveforms,
+        },
+    }
+}
+
+// The model whose name was read and behind whose keyword line a cursor stands; row and start are the places of its first row and
+// waveform.
+pub fn model_of(
+    src: &[u8],
+    c: Cursor,
+    name: &[u8],
+    section: usize,
+    row: usize,
+    start: usize,
+) -> Model
+    requires { ⌜ Placed (now src) c × (row < 2 ^ 63) ⌝ }
+    ensures { λ r. ⌜ r ≡ modelLaid section row start (modelIn (now (name .entry)) (front isWithin (rest (now (src .entry)) c))) ⌝ }
+{
+    let first = first_lines(src, c);
+    let lines = first.lines;
+    let next = first.next;
+    let f = with_defaults(lines);
+    let b = body_of(src, next, row);
+    model_over(section, start, component_records::name_of(name), f, b)
+}

@@ -1,0 +1,76 @@
+-- No name of a first line, one that was given, a line with a fault; else on.
+use mathlib.Core.Path.{sym, ap, _∙_}
+use borrow.Author.Needs.{needs}
+use denote.Ref.{now}
+use Rattle.rules.specs.Model.{firstLine}
+use Rattle.rules.specs.Going.{quietly}
+use Rattle.rules.specs.declared.Stage.the-variants.{InModel}
+use Rattle.rules.proofs.Going.{refused, passed, faulted, clean}
+use Rattle.model_steps.proofs.body.first_line.Statement.{statement}
+use Rattle.model_steps.proofs.body.first_line.Tie as tie
+
+model-line-requires : tie.Need-model-line-requires
+model-line-requires c κs = search needs
+
+enum-known-n : tie.Need-enum-known-n
+enum-known-n c = search needs
+
+enum-told : tie.Need-enum-told
+enum-told c = search needs
+
+stopped-requires : tie.Need-stopped-requires
+stopped-requires c κs = search needs
+
+returns : tie.Need-returns
+returns c = c .stopped .ensures ∙ sym (ap (firstLine (c .before .before .before .before .before .args .m) (c .before .before .before .before .before .args .k) (now (c .before .before .before .before .before .args .w))) (sym (c .before .before .before .model-line .ensures) ∙ c .before .enum-told .given .1))
+
+is-given-requires : tie.Need-is-given-requires
+is-given-requires c κs = search needs
+
+stopped-requires-2 : tie.Need-stopped-requires-2
+stopped-requires-2 c κs = search needs
+
+returns-2 : tie.Need-returns-2
+returns-2 c = c .stopped2 .ensures ∙ refused 8 _ _ (sym (c .before .before .is-given .ensures) ∙ c .before .if1 .taken) ∙ sym (ap (firstLine (c .before .before .before .before .before .before .before .before .before .args .m) (c .before .before .before .before .before .before .before .before .before .args .k) (now (c .before .before .before .before .before .before .before .before .before .args .w))) (sym (c .before .before .before .before .before .before .before .model-line .ensures) ∙ c .before .before .before .before .before .n .given .1))
+
+first-fault-requires : tie.Need-first-fault-requires
+first-fault-requires c κs = search needs
+
+stopped-requires-3 : tie.Need-stopped-requires-3
+stopped-requires-3 c κs = search needs
+
+returns-3 : tie.Need-returns-3
+returns-3 c = c .stopped3 .ensures ∙ faulted _ _ (c .before .before .first-fault .ensures) (c .before .if2 .taken) ∙ passed 8 _ _ (sym (c .before .before .before .before .is-given .ensures) ∙ c .before .before .before .if1 .left) ∙ sym (ap (firstLine (c .before .before .before .before .before .before .before .before .before .before .before .args .m) (c .before .before .before .before .before .before .before .before .before .before .before .args .k) (now (c .before .before .before .before .before .before .before .before .before .before .before .args .w))) (sym (c .before .before .before .before .before .before .before .before .before .model-line .ensures) ∙ c .before .before .before .before .before .before .before .n .given .1))
+
+with-first-requires : tie.Need-with-first-requires
+with-first-requires c κs = search needs
+
+quiet-requires : tie.Need-quiet-requires
+quiet-requires c κs = search needs
+
+returns-4 : tie.Need-returns-4
+returns-4 c =
+    c .quiet .ensures
+    ∙ ap (λ (m : _). quietly (InModel m)) (c .before .with-first .ensures)
+    ∙ clean _ _ (c .before .before .before .first-fault .ensures) (c .before .before .if2 .left)
+    ∙ passed 8 _ _ (sym (c .before .before .before .before .before .is-given .ensures) ∙ c .before .before .before .before .if1 .left)
+    ∙ sym (ap (firstLine (c .before .before .before .before .before .before .before .before .before .before .before .before .args .m) (c .before .before .before .before .before .before .before .before .before .before .before .before .args .k) (now (c .before .before .before .before .before .before .before .before .before .before .before .before .args .w))) (sym (c .before .before .before .before .before .before .before .before .before .before .model-line .ensures) ∙ c .before .before .before .before .before .before .before .before .n .given .1))
+
+pub first-line-spec : {M : Type 1} → statement M
+first-line-spec =
+    tie.close
+    (tie.spec
+    model-line-requires
+    enum-known-n
+    enum-told
+    stopped-requires
+    returns
+    is-given-requires
+    stopped-requires-2
+    returns-2
+    first-fault-requires
+    stopped-requires-3
+    returns-3
+    with-first-requires
+    quiet-requires
+    returns-4)

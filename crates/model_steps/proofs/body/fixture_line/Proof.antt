@@ -1,0 +1,98 @@
+-- No name of a fixture, one that was given, no number behind it; else on.
+use mathlib.Core.Path.{sym, ap, _∙_}
+use borrow.Author.Needs.{needs}
+use denote.Ref.{now}
+use Rattle.line_rules.specs.Fields.{numberFault}
+use Rattle.rules.specs.Model.{fixtureLine, withModelList}
+use Rattle.rules.specs.Going.{quietly}
+use Rattle.rules.specs.declared.ModelList.the-variants.{WaveformRows}
+use Rattle.rules.specs.declared.Stage.the-variants.{InModel}
+use Rattle.rules.proofs.Going.{refused, passed, faulted, clean}
+use Rattle.model_steps.proofs.body.fixture_line.Statement.{statement}
+use Rattle.model_steps.proofs.body.fixture_line.Tie as tie
+
+fixture-line-requires : tie.Need-fixture-line-requires
+fixture-line-requires c κs = search needs
+
+enum-known-n : tie.Need-enum-known-n
+enum-known-n c = search needs
+
+enum-told : tie.Need-enum-told
+enum-told c = search needs
+
+stopped-requires : tie.Need-stopped-requires
+stopped-requires c κs = search needs
+
+returns : tie.Need-returns
+returns c =
+    let a = c .before .before .before .before .before .args in
+    c .stopped .ensures ∙ sym (ap (fixtureLine (a .m) (a .line) (a .given) (a .r) (a .k) (now (a .w))) (sym (c .before .before .before .fixture-line .ensures) ∙ c .before .enum-told .given .1))
+
+is-given-requires : tie.Need-is-given-requires
+is-given-requires c κs = search needs
+
+stopped-requires-2 : tie.Need-stopped-requires-2
+stopped-requires-2 c κs = search needs
+
+returns-2 : tie.Need-returns-2
+returns-2 c =
+    let a = c .before .before .before .before .before .before .before .before .args in
+    c .stopped2 .ensures
+    ∙ refused 8 _ _ (sym (c .before .before .is-given .ensures) ∙ c .before .if1 .taken)
+    ∙ sym (ap (fixtureLine (a .m) (a .line) (a .given) (a .r) (a .k) (now (a .w))) (sym (c .before .before .before .before .before .before .fixture-line .ensures) ∙ c .before .before .before .before .n .given .1))
+
+assigned-number-requires : tie.Need-assigned-number-requires
+assigned-number-requires c κs = search needs
+
+number-fault-requires : tie.Need-number-fault-requires
+number-fault-requires c κs = search needs
+
+stopped-requires-3 : tie.Need-stopped-requires-3
+stopped-requires-3 c κs = search needs
+
+returns-3 : tie.Need-returns-3
+returns-3 c =
+    let a = c .before .before .before .before .before .before .before .before .before .before .before .args in
+    c .stopped3 .ensures
+    ∙ faulted _ _ (c .before .before .number-fault .ensures ∙ ap numberFault (c .before .before .before .assigned-number .ensures)) (c .before .if2 .taken)
+    ∙ passed 8 _ _ (sym (c .before .before .before .before .before .is-given .ensures) ∙ c .before .before .before .before .if1 .left)
+    ∙ sym (ap (fixtureLine (a .m) (a .line) (a .given) (a .r) (a .k) (now (a .w))) (sym (c .before .before .before .before .before .before .before .before .before .fixture-line .ensures) ∙ c .before .before .before .before .before .before .before .n .given .1))
+
+also-requires : tie.Need-also-requires
+also-requires c κs = search needs
+
+with-list-requires : tie.Need-with-list-requires
+with-list-requires c κs = search needs
+
+quiet-requires : tie.Need-quiet-requires
+quiet-requires c κs = search needs
+
+returns-4 : tie.Need-returns-4
+returns-4 c =
+    let a = c .before .before .before .before .before .before .before .before .before .before .before .before .before .args in
+    c .quiet .ensures
+    ∙ ap (λ (m : _). quietly (InModel m)) (c .before .with-list .ensures ∙ ap (λ (g : _). withModelList (a .m) (WaveformRows (a .line) g (a .r))) (c .before .before .also .ensures))
+    ∙ clean _ _ (c .before .before .before .before .number-fault .ensures ∙ ap numberFault (c .before .before .before .before .before .assigned-number .ensures)) (c .before .before .before .if2 .left)
+    ∙ passed 8 _ _ (sym (c .before .before .before .before .before .before .before .is-given .ensures) ∙ c .before .before .before .before .before .before .if1 .left)
+    ∙ sym (ap (fixtureLine (a .m) (a .line) (a .given) (a .r) (a .k) (now (a .w))) (sym (c .before .before .before .before .before .before .before .before .before .before .before .fixture-line .ensures) ∙ c .before .before .before .before .before .before .before .before .before .n .given .1))
+
+pub fixture-line-spec : {M : Type 1} → statement M
+fixture-line-spec =
+    tie.close
+    (tie.spec
+    fixture-line-requires
+    enum-known-n
+    enum-told
+    stopped-requires
+    returns
+    is-given-requires
+    stopped-requires-2
+    returns-2
+    assigned-number-requires
+    number-fault-requires
+    stopped-requires-3
+    returns-3
+    also-requires
+    with-list-requires
+    quiet-requires
+    returns-4)

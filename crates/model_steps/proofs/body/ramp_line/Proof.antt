@@ -1,0 +1,93 @@
+-- No name of a ramp's line, one that was given, a line with a fault; else on.
+use mathlib.Core.Path.{sym, ap, _∙_}
+use borrow.Author.Needs.{needs}
+use denote.Ref.{now}
+use Rattle.rules.specs.Model.{rampLine, withModelList}
+use Rattle.rules.specs.Going.{quietly}
+use Rattle.rules.specs.declared.ModelList.the-variants.{RampLines}
+use Rattle.rules.specs.declared.Stage.the-variants.{InModel}
+use Rattle.rules.proofs.Going.{refused, passed, faulted, clean}
+use Rattle.model_steps.proofs.body.ramp_line.Statement.{statement}
+use Rattle.model_steps.proofs.body.ramp_line.Tie as tie
+
+ramp-line-requires : tie.Need-ramp-line-requires
+ramp-line-requires c κs = search needs
+
+enum-known-n : tie.Need-enum-known-n
+enum-known-n c = search needs
+
+enum-told : tie.Need-enum-told
+enum-told c = search needs
+
+stopped-requires : tie.Need-stopped-requires
+stopped-requires c κs = search needs
+
+returns : tie.Need-returns
+returns c =
+    let a = c .before .before .before .before .before .args in
+    c .stopped .ensures ∙ sym (ap (rampLine (a .m) (a .line) (a .given) (a .k) (now (a .w))) (sym (c .before .before .before .ramp-line .ensures) ∙ c .before .enum-told .given .1))
+
+is-given-requires : tie.Need-is-given-requires
+is-given-requires c κs = search needs
+
+stopped-requires-2 : tie.Need-stopped-requires-2
+stopped-requires-2 c κs = search needs
+
+returns-2 : tie.Need-returns-2
+returns-2 c =
+    let a = c .before .before .before .before .before .before .before .before .args in
+    c .stopped2 .ensures
+    ∙ refused 8 _ _ (sym (c .before .before .is-given .ensures) ∙ c .before .if1 .taken)
+    ∙ sym (ap (rampLine (a .m) (a .line) (a .given) (a .k) (now (a .w))) (sym (c .before .before .before .before .before .before .ramp-line .ensures) ∙ c .before .before .before .before .n .given .1))
+
+ramp-line-fault-requires : tie.Need-ramp-line-fault-requires
+ramp-line-fault-requires c κs = search needs
+
+stopped-requires-3 : tie.Need-stopped-requires-3
+stopped-requires-3 c κs = search needs
+
+returns-3 : tie.Need-returns-3
+returns-3 c =
+    let a = c .before .before .before .before .before .before .before .before .before .before .args in
+    c .stopped3 .ensures
+    ∙ faulted _ _ (c .before .before .ramp-line-fault .ensures) (c .before .if2 .taken)
+    ∙ passed 8 _ _ (sym (c .before .before .before .before .is-given .ensures) ∙ c .before .before .before .if1 .left)
+    ∙ sym (ap (rampLine (a .m) (a .line) (a .given) (a .k) (now (a .w))) (sym (c .before .before .before .before .before .before .before .before .ramp-line .ensures) ∙ c .before .before .before .before .before .before .n .given .1))
+
+also-requires : tie.Need-also-requires
+also-requires c κs = search needs
+
+with-list-requires : tie.Need-with-list-requires
+with-list-requires c κs = search needs
+
+quiet-requires : tie.Need-quiet-requires
+quiet-requires c κs = search needs
+
+returns-4 : tie.Need-returns-4
+returns-4 c =
+    let a = c .before .before .before .before .before .before .before .before .before .before .before .before .args in
+    c .quiet .ensures
+    ∙ ap (λ (m : _). quietly (InModel m)) (c .before .with-list .ensures ∙ ap (λ (g : _). withModelList (a .m) (RampLines (a .line) g)) (c .before .before .also .ensures))
+    ∙ clean _ _ (c .before .before .before .before .ramp-line-fault .ensures) (c .before .before .before .if2 .left)
+    ∙ passed 8 _ _ (sym (c .before .before .before .before .before .before .is-given .ensures) ∙ c .before .before .before .before .before .if1 .left)
+    ∙ sym (ap (rampLine (a .m) (a .line) (a .given) (a .k) (now (a .w))) (sym (c .before .before .before .before .before .before .before .before .before .before .ramp-line .ensures) ∙ c .before .before .before .before .before .before .before .before .n .given .1))
+
+pub ramp-line-spec : {M : Type 1} → statement M
+ramp-line-spec =
+    tie.close
+    (tie.spec
+    ramp-line-requires
+    enum-known-n
+    enum-told
+    stopped-requires
+    returns
+    is-given-requires
+    stopped-requires-2
+    returns-2
+    ramp-line-fault-requires
+    stopped-requires-3
+    returns-3
+    also-requires
+    with-list-requires
+    quiet-requires
+    returns-4)

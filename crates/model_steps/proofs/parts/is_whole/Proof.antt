@@ -1,0 +1,68 @@
+-- One after the other.
+use mathlib.Core.Path.{sym, _∙_}
+use borrow.Author.Needs.{needs}
+use borrow.Author.Tests.{not-true, not-false}
+use Rattle.model_steps.proofs.parts.is_whole.Statement.{statement}
+use Rattle.model_steps.proofs.parts.is_whole.Tie as tie
+
+is-given-requires : tie.Need-is-given-requires
+is-given-requires c κs = search needs
+
+returns : tie.Need-returns
+returns c = rw (sym (c .before .is-given .ensures) ∙ not-true (c .before .is-given .result) (c .if1 .taken))
+
+is-given-requires-2 : tie.Need-is-given-requires-2
+is-given-requires-2 c κs = search needs
+
+returns-2 : tie.Need-returns-2
+returns-2 c =
+    rw (
+      sym (c .before .before .before .is-given .ensures) ∙ not-false (c .before .before .before .is-given .result) (c .before .before .if1 .left),
+      sym (c .before .is-given2 .ensures) ∙ not-true (c .before .is-given2 .result) (c .if2 .taken),
+    )
+
+is-given-requires-3 : tie.Need-is-given-requires-3
+is-given-requires-3 c κs = search needs
+
+returns-3 : tie.Need-returns-3
+returns-3 c =
+    rw (
+      sym (c .before .before .before .before .before .is-given .ensures) ∙ not-false (c .before .before .before .before .before .is-given .result) (c .before .before .before .before .if1 .left),
+      sym (c .before .before .before .is-given2 .ensures) ∙ not-false (c .before .before .before .is-given2 .result) (c .before .before .if2 .left),
+      sym (c .before .is-given3 .ensures) ∙ not-true (c .before .is-given3 .result) (c .if3 .taken),
+    )
+
+returns-4 : tie.Need-returns-4
+returns-4 c =
+    rw (
+      sym (c .before .before .before .before .before .before .before .is-given .ensures) ∙ not-false (c .before .before .before .before .before .before .before .is-given .result) (c .before .before .before .before .before .before .if1 .left),
+      sym (c .before .before .before .before .before .is-given2 .ensures) ∙ not-false (c .before .before .before .before .before .is-given2 .result) (c .before .before .before .before .if2 .left),
+      sym (c .before .before .before .is-given3 .ensures) ∙ not-false (c .before .before .before .is-given3 .result) (c .before .before .if3 .left),
+      not-true (c .before .before .before .before .before .before .before .before .before .before .args .m .driven) (c .if4 .taken),
+    )
+
+is-given-requires-4 : tie.Need-is-given-requires-4
+is-given-requires-4 c κs = search needs
+
+returns-5 : tie.Need-returns-5
+returns-5 c =
+    rw (
+      sym (c .before .before .before .before .before .before .before .before .is-given .ensures) ∙ not-false (c .before .before .before .before .before .before .before .before .is-given .result) (c .before .before .before .before .before .before .before .if1 .left),
+      sym (c .before .before .before .before .before .before .is-given2 .ensures) ∙ not-false (c .before .before .before .before .before .before .is-given2 .result) (c .before .before .before .before .before .if2 .left),
+      sym (c .before .before .before .before .is-given3 .ensures) ∙ not-false (c .before .before .before .before .is-given3 .result) (c .before .before .before .if3 .left),
+      not-false (c .before .before .before .before .before .before .before .before .before .before .before .args .m .driven) (c .before .if4 .left),
+    ) (c .is-given4 .ensures)
+
+pub is-whole-spec : {M : Type 1} → statement M
+is-whole-spec =
+    tie.close
+    (tie.spec
+    is-given-requires
+    returns
+    is-given-requires-2
+    returns-2
+    is-given-requires-3
+    returns-3
+    returns-4
+    is-given-requires-4
+    returns-5)

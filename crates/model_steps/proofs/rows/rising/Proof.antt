@@ -1,0 +1,22 @@
+-- The first row, or a later one.
+use mathlib.Core.Path.{sym, _∙_}
+use borrow.Author.Needs.{needs}
+use borrow.Author.Tests.{eq-eqb, ne-eqb}
+use Rattle.laws.proofs.Tests.{cond-yes, cond-no}
+use Rattle.rules.specs.Model.{rises}
+use Rattle.model_steps.proofs.rows.rising.Statement.{statement}
+use Rattle.model_steps.proofs.rows.rising.Tie as tie
+
+returns : tie.Need-returns
+unfolding rises
+returns c = sym (cond-yes _ _ (eq-eqb (c .before .before .args .r .count) 0 (c .if1 .taken)))
+
+less-requires : tie.Need-less-requires
+less-requires c κs = search needs
+
+returns-2 : tie.Need-returns-2
+unfolding rises
+returns-2 c = c .less .ensures ∙ sym (cond-no _ _ (ne-eqb (c .before .before .before .before .args .r .count) 0 (c .before .before .if1 .left)))
+
+pub rising-spec : {M : Type 1} → statement M
+rising-spec = tie.close (tie.spec returns less-requires returns-2)

@@ -1,0 +1,13 @@
+-- By computing.
+use borrow.Author.Needs.{needs}
+use Rattle.model_steps.proofs.state.new_model.Statement.{statement}
+use Rattle.model_steps.proofs.state.new_model.Tie as tie
+
+none-given-requires : tie.Need-none-given-requires
+none-given-requires c κs = search needs
+
+returns : tie.Need-returns
+returns c = rw (c .none-given .ensures)
+
+pub new-model-spec : {M : Type 1} → statement M
+new-model-spec = tie.close (tie.spec none-given-requires returns)

@@ -1,0 +1,28 @@
+-- A row's step apart from the list that it goes into, and the line's step by it.
+use Prim.Native.Nat.{ℕ}
+use mathlib.Core.Bool.{cond}
+use Rattle.rules.specs.Going.{stop}
+use Rattle.rules.specs.Model.{isNumber, rises, withRow, withModelList}
+use Rattle.records.specs.declared.Row.{Row}
+use Rattle.line_rules.specs.declared.RowRead.{RowRead}
+use Rattle.line_rules.specs.declared.RowRead.the-variants.{Line, Amiss}
+use Rattle.rules.specs.declared.RowsSeen.{RowsSeen}
+use Rattle.rules.specs.declared.ModelList.{ModelList}
+use Rattle.rules.specs.declared.ModelState.{ModelState}
+use Rattle.rules.specs.declared.Stage.the-variants.{InModel}
+use Rattle.rules.specs.declared.Event.the-variants.{TableRow}
+use Rattle.rules.specs.declared.Went.{Went}
+use Rattle.rules.specs.declared.Went.the-variants.{On}
+use Rattle.model_steps.specs.declared.RowStep.{RowStep}
+use Rattle.model_steps.specs.declared.RowStep.the-variants.{Next, NoRow}
+
+unfoldable pub onRow : RowsSeen → Row → RowStep
+onRow r l = cond (rises r (l .number)) (Next (withRow r (l .number) (isNumber (l .cells .typ)))) (NoRow 13)
+
+abbrev pub rowStep : RowsSeen → RowRead → RowStep
+rowStep r (Line l) = onRow r l
+rowStep r (Amiss n) = NoRow n
+
+abbrev pub rowWent : (RowsSeen → ModelList) → ModelState → ℕ → RowStep → Went
+rowWent on m k (Next s) = On (InModel (withModelList m (on s))) TableRow
+rowWent on m k (NoRow n) = stop n k

@@ -1,0 +1,220 @@
+// A line of a model that is no keyword line, by the list or table that is open.
+ghost use mathlib.Core.Bool.{cond};
+ghost use mathlib.Core.Path.{_≡_};
+ghost use lib.Dec.{eqb};
+ghost use Rattle.words.specs.Words.{words};
+ghost use Rattle.line_rules.specs.Fields.{firstWord, namedWord, assignedNumber, lineAt, rowOf};
+ghost use Rattle.line_rules.specs.Tables.{modelLines, rampLines, fixtures};
+ghost use Rattle.rules.specs.Model.{orNothing, isInput, isDriven, numberIs, withFirst, firstLine, rowLine, rampLine, fixtureLine, beginsLetter, waveformLine, modelLine};
+ghost use Rattle.rules.specs.declared.ModelList.the-variants.{CurrentRows, WaveformRows};
+use crate::RowStep;
+use crate::rows::row_step;
+use crate::state::quiet;
+use crate::state::with_list;
+use decimal::Cell;
+use decimal::NumberRead;
+use given::Given;
+use name_table::Found;
+use rules::Event;
+use rules::ModelList;
+use rules::ModelState;
+use rules::RowsSeen;
+use rules::Stage;
+use rules::Went;
+
+// ---- the first lines
+
+fn number_is(r: NumberRead) -> Cell
+    ensures { λ c. ⌜ c ≡ numberIs r ⌝ }
+{
+    match r {
+        NumberRead::Value(d) => Cell::Number(d),
+        NumberRead::Wrong(_) => Cell::Missing,
+    }
+}
+
+// A threshold's cell after the line at place n: its own line stands at `place`.
+fn threshold(place: usize, n: usize, w: &[u8], before: Cell) -> Cell
+    ensures { λ c. ⌜ c ≡ cond (eqb n place) (numberIs (assignedNumber (now (w .entry)))) before ⌝ }
+{
+    if n == place {
+        return number_is(named_lines::assigned_number(w));
+    }
+    before
+}
+
+fn input_after(n: usize, w: &[u8], before: bool) -> bool
+    ensures { λ t. ⌜ t ≡ cond (eqb n 0) (isInput (orNothing (namedWord (now (w .entry))))) before ⌝ }
+{
+    if n == 0 {
+        return line_faults::is_input(w);
+    }
+    before
+}
+
+fn driven_after(n: usize, w: &[u8], before: bool) -> bool
+    ensures { λ t. ⌜ t ≡ cond (eqb n 0) (isDriven (orNothing (namedWord (now (w .entry))))) before ⌝ }
+{
+    if n == 0 {
+        return line_faults::is_driven(w);
+    }
+    before
+}
+
+// The line at place n is given too; the type, Vinl and Vinh are remembered for the close.
+fn with_first(m: ModelState, n: usize, w: &[u8]) -> ModelState
+    ensures { λ r. ⌜ r ≡ withFirst m n (now (w .entry)) ⌝ }
+{
+    let first = m.first;
+    let vinl = m.vinl;
+    let vinh = m.vinh;
+    let parts = m.parts;
+    let list = m.list;
+    ModelState {
+        line: m.line,
+        first: given::also(first, n),
+        input: input_after(n, w, m.input),
+        driven: driven_after(n, w, m.driven),
+        vinl: threshold(4, n, w, vinl),
+        vinh: threshold(5, n, w, vinh),
+        parts: parts,
+        waveforms: m.waveforms,
+        list: list,
+    }
+}
+
+fn first_line(m: ModelState, k: u64, w: &[u8]) -> Went
+    ensures { λ r. ⌜ r ≡ firstLine m k (now (w .entry)) (lineAt modelLines (now (w .entry))) ⌝ }
+{
+    let Found::At(n) = named_lines::model_line(w) else {
+        return rules::stopped(10, k);
+    };
+    let first = m.first;
+    if given::is_given(first, n) {
+        return rules::stopped(8, k);
+    }
+    let fault = line_faults::first_fault(n, w);
+    if fault != 0 {
+        return rules::stopped(fault, k);
+    }
+    quiet(with_first(m, n, w))
+}
+
+// ---- a table's rows
+
+fn current_line(m: ModelState, line: u64, r: RowsSeen, k: u64, w: &[u8]) -> Went
+    ensures { λ s. ⌜ s ≡ rowLine (CurrentRows line) m r k (rowOf (words (now (w .entry)))) ⌝ }
+{
+    match row_step(r, w) {
+        RowStep::Next(rows) => {
+            let list = ModelList::CurrentRows {
+                line: line,
+                rows: rows,
+            };
+            Went::On(Stage::InModel(with_list(m, list)), Event::TableRow)
+        }
+        RowStep::NoRow(fault) => rules::stopped(fault, k),
+    }
+}
+
+fn point_line(m: ModelState, line: u64, given: Given, r: RowsSeen, k: u64, w: &[u8]) -> Went
+    ensures { λ s. ⌜ s ≡ rowLine (WaveformRows line given) m r k (rowOf (words (now (w .entry)))) ⌝ }
+{
+    match row_step(r, w) {
+        RowStep::Next(rows) => {
+            let list = ModelList::WaveformRows {
+                line: line,
+                given: given,
+                rows: rows,
+            };
+            Went::On(Stage::InModel(with_list(m, list)), Event::TableRow)
+        }
+        RowStep::NoRow(fault) => rules::stopped(fault, k),
+    }
+}
+
+// ---- a ramp's lines, and a waveform's before its rows
+
+fn ramp_line(m: ModelState, line: u64, given: Given, k: u64, w: &[u8]) -> Went
+    ensures { λ r. ⌜ r ≡ rampLine m line given k (now (w .entry)) (lineAt rampLines (now (w .entry))) ⌝ }
+{
+    let Found::At(n) = named_lines::ramp_line(w) else {
+        return rules::stopped(10, k);
+    };
+    if given::is_given(given, n) {
+        return rules::stopped(8, k);
+    }
+    let fault = line_faults::ramp_line_fault(n, w);
+    if fault != 0 {
+        return rules::stopped(fault, k);
+    }
+    let list = ModelList::RampLines {
+        line: line,
+        given: given::also(given, n),
+    };
+    quiet(with_list(m, list))
+}
+
+fn fixture_line(m: ModelState, line: u64, given: Given, r: RowsSeen, k: u64, w: &[u8]) -> Went
+    ensures { λ s. ⌜ s ≡ fixtureLine m line given r k (now (w .entry)) (lineAt fixtures (now (w .entry))) ⌝ }
+{
+    let Found::At(n) = named_lines::fixture_line(w) else {
+        return rules::stopped(10, k);
+    };
+    if given::is_given(given, n) {
+        return rules::stopped(8, k);
+    }
+    let fault = line_cells::number_fault(named_lines::assigned_number(w));
+    if fault != 0 {
+        return rules::stopped(fault, k);
+    }
+    let list = ModelList::WaveformRows {
+        line: line,
+        given: given::also(given, n),
+        rows: r,
+    };
+    quiet(with_list(m, list))
+}
+
+// The first word begins with a letter.
+fn begins_letter(w: &[u8]) -> bool
+    ensures { λ t. ⌜ t ≡ beginsLetter (firstWord (words (now (w .entry)))) ⌝ }
+{
+    let first = named_lines::first_word(w);
+    let start = first.start;
+    let end = first.end;
+    if end <= start {
+        return false;
+    }
+    decimal::letter(w[start])
+}
+
+// Such a line is no row, and may not follow one.
+fn waveform_line(m: ModelState, line: u64, given: Given, r: RowsSeen, k: u64, w: &[u8]) -> Went
+    ensures { λ s. ⌜ s ≡ waveformLine m line given r k (now (w .entry)) ⌝ }
+{
+    if !begins_letter(w) {
+        return point_line(m, line, given, r, k, w);
+    }
+    if r.count != 0 {
+        return rules::stopped(7, k);
+    }
+    fixture_line(m, line, given, r, k, w)
+}
+
+// ---- by the list or table that is open
+
+pub fn model_line(m: ModelState, k: u64, w: &[u8]) -> Went
+    ensures { λ r. ⌜ r ≡ modelLine m k (now (w .entry)) (m .list) ⌝ }
+{
+    let list = m.list;
+    match list {
+        ModelList::ModelFirst => first_line(m, k, w),
+        ModelList::ModelShut => rules::stopped(7, k),
+        ModelList::CurrentRows { line, rows } => current_line(m, line, rows, k, w),
+        ModelList::RampLines { line, given } => ramp_line(m, line, given, k, w),
+        ModelList::WaveformRows { line, given, rows } => {
+            waveform_line(m, line, given, rows, k, w)
+        }
+    }
+}

@@ -1,0 +1,255 @@
+// The keywords of a model, and what is checked where a list, a table or the model closes.
+ghost use mathlib.Core.Path.{_≡_};
+ghost use Rattle.rules.specs.Going.{unless, quietly};
+ghost use Rattle.rules.specs.Model.{tablePlace, modelPlace, modelOpens, singlePart, waveformPart, modelPart, withModelList, tableFault, modelShut, defaultVinl, defaultVinh, orElse, modelDone};
+ghost use Rattle.rules.specs.declared.ModelList.the-variants.{ModelShut};
+ghost use Rattle.rules.specs.declared.Stage.the-variants.{InModel};
+ghost use Rattle.model_steps.specs.Closes.{bothGiven, isWhole, isCrossed};
+use crate::rows::no_rows;
+use crate::rows::table_fault;
+use crate::state::quiet;
+use crate::state::with_list;
+use decimal::Cell;
+use decimal::Decimal;
+use given::Given;
+use keywords::CurrentTable;
+use keywords::ModelPart;
+use rules::Event;
+use rules::ModelList;
+use rules::ModelState;
+use rules::RowsSeen;
+use rules::Stage;
+use rules::Went;
+
+// ---- keywords
+
+fn table_place(t: CurrentTable) -> usize
+    ensures { λ r. ⌜ r ≡ tablePlace t ⌝ }
+{
+    match t {
+        CurrentTable::Pulldown => 2,
+        CurrentTable::Pullup => 3,
+        CurrentTable::GndClamp => 4,
+        CurrentTable::PowerClamp => 5,
+    }
+}
+
+fn model_place(p: ModelPart) -> usize
+    ensures { λ r. ⌜ r ≡ modelPlace p ⌝ }
+{
+    match p {
+        ModelPart::VoltageRange => 0,
+        ModelPart::TemperatureRange => 1,
+        ModelPart::Current(t) => table_place(t),
+        ModelPart::Ramp => 6,
+        ModelPart::Waveform(_) => 7,
+    }
+}
+
+// The list or table that a keyword at line k opens.
+fn model_opens(k: u64, p: ModelPart) -> ModelList
+    ensures { λ r. ⌜ r ≡ modelOpens k p ⌝ }
+{
+    match p {
+        ModelPart::VoltageRange => ModelList::ModelShut,
+        ModelPart::TemperatureRange => ModelList::ModelShut,
+        ModelPart::Current(_) => ModelList::CurrentRows {
+            line: k,
+            rows: no_rows(),
+        },
+        ModelPart::Ramp => ModelList::RampLines {
+            line: k,
+            given: given::none_given(),
+        },
+        ModelPart::Waveform(_) => ModelList::WaveformRows {
+            line: k,
+            given: given::none_given(),
+            rows: no_rows(),
+        },
+    }
+}
+
+// The parts that may stand once.
+fn single_part(m: ModelState, k: u64, argument: &[u8], p: ModelPart) -> Went
+    ensures { λ r. ⌜ r ≡ singlePart m k (now (argument .entry)) p ⌝ }
+{
+    let place = model_place(p);
+    let parts = m.parts;
+    if given::is_given(parts, place) {
+        return rules::stopped(8, k);
+    }
+    let fault = line_faults::model_fault(argument, p);
+    if fault != 0 {
+        return rules::stopped(fault, k);
+    }
+    let mut next = with_list(m, model_opens(k, p));
+    next.parts = given::also(parts, place);
+    quiet(next)
+}
+
+// The most waveforms of a model.
+const MOST_WAVEFORMS: u8 = 16;
+
+fn waveform_part(m: ModelState, k: u64, argument: &[u8], p: ModelPart) -> Went
+    ensures { λ r. ⌜ r ≡ waveformPart m k (now (argument .entry)) p ⌝ }
+{
+    let fault = line_faults::model_fault(argument, p);
+    if fault != 0 {
+        return rules::stopped(fault, k);
+    }
+    if MOST_WAVEFORMS <= m.waveforms {
+        return rules::stopped(17, k);
+    }
+    let mut next = with_list(m, model_opens(k, p));
+    next.waveforms = m.waveforms + 1;
+    Went::On(Stage::InModel(next), Event::WaveformOpened)
+}
+
+// A keyword of the model at line k.
+pub fn model_part(m: ModelState, k: u64, argument: &[u8], p: ModelPart) -> Went
+    ensures { λ r. ⌜ r ≡ modelPart m k (now (argument .entry)) p ⌝ }
+{
+    match p {
+        ModelPart::VoltageRange => single_part(m, k, argument, p),
+        ModelPart::TemperatureRange => single_part(m, k, argument, p),
+        ModelPart::Current(_) => single_part(m, k, argument, p),
+        ModelPart::Ramp => single_part(m, k, argument, p),
+        ModelPart::Waveform(_) => waveform_part(m, k, argument, p),
+    }
+}
+
+// ---- the close of a list or a table
+
+// The first two of a list are required.
+fn both_given(given: Given) -> bool
+    ensures { λ t. ⌜ t ≡ bothGiven given ⌝ }
+{
+    if !given::is_given(given, 0) {
+        return false;
+    }
+    given::is_given(given, 1)
+}
+
+// The most rows of a current table, and of a waveform.
+const MOST_ROWS: u64 = 100;
+
+const MOST_POINTS: u64 = 1000;
+
+fn closed(m: ModelState) -> Went
+    ensures { λ r. ⌜ r ≡ quietly (InModel (withModelList m ModelShut)) ⌝ }
+{
+    quiet(with_list(m, ModelList::ModelShut))
+}
+
+// The table that line k opened.
+fn close_table(m: ModelState, most: u64, k: u64, rows: RowsSeen) -> Went
+    ensures { λ r. ⌜ r ≡ unless (tableFault most rows) k (quietly (InModel (withModelList m ModelShut))) ⌝ }
+{
+    let fault = table_fault(most, rows);
+    if fault != 0 {
+        return rules::stopped(fault, k);
+    }
+    closed(m)
+}
+
+// What the next keyword closes.
+pub fn model_shut(m: ModelState) -> Went
+    ensures { λ r. ⌜ r ≡ modelShut m (m .list) ⌝ }
+{
+    let list = m.list;
+    match list {
+        ModelList::ModelFirst => closed(m),
+        ModelList::ModelShut => closed(m),
+        ModelList::CurrentRows { line, rows } => close_table(m, MOST_ROWS, line, rows),
+        ModelList::RampLines { line, given } => {
+            if !both_given(given) {
+                return rules::stopped(9, line);
+            }
+            closed(m)
+        }
+        ModelList::WaveformRows { line, given, rows } => {
+            if !both_given(given) {
+                return rules::stopped(9, line);
+            }
+            close_table(m, MOST_POINTS, line, rows)
+        }
+    }
+}
+
+// ---- the close of a model
+
+fn or_else(c: Cell, default: Decimal) -> Decimal
+    ensures { λ r. ⌜ r ≡ orElse c default ⌝ }
+{
+    match c {
+        Cell::Number(d) => d,
+        Cell::Missing => default,
+    }
+}
+
+// 0.8 volts.
+fn default_low() -> Decimal
+    ensures { λ r. ⌜ r ≡ defaultVinl ⌝ }
+{
+    Decimal {
+        negative: false,
+        digits: 8,
+        power: 39,
+    }
+}
+
+// 2 volts.
+fn default_high() -> Decimal
+    ensures { λ r. ⌜ r ≡ defaultVinh ⌝ }
+{
+    Decimal {
+        negative: false,
+        digits: 2,
+        power: 40,
+    }
+}
+
+// All that is required of a model was given.
+fn is_whole(m: ModelState) -> bool
+    ensures { λ t. ⌜ t ≡ isWhole m ⌝ }
+{
+    let first = m.first;
+    let parts = m.parts;
+    if !given::is_given(first, 0) {
+        return false;
+    }
+    if !given::is_given(first, 3) {
+        return false;
+    }
+    if !given::is_given(parts, 0) {
+        return false;
+    }
+    if !m.driven {
+        return true;
+    }
+    given::is_given(parts, 6)
+}
+
+// An input's thresholds are not in order.
+fn is_crossed(m: ModelState) -> bool
+    ensures { λ t. ⌜ t ≡ isCrossed m ⌝ }
+{
+    if !m.input {
+        return false;
+    }
+    let vinl = m.vinl;
+    let vinh = m.vinh;
+    let low = or_else(vinl, default_low());
+    let high = or_else(vinh, default_high());
+    !decimal::less(low, high)
+}
+
+// The fault of a whole model, 0 for none.
+pub fn model_done(m: ModelState) -> u8
+    ensures { λ n. ⌜ n ≡ modelDone m ⌝ }
+{
+    if !is_whole(m) {
+        return 9;
+    }
+    if is_crossed(m) { 20 } else { 0 }
+}

@@ -1,0 +1,307 @@
+-- The marks that pins and selector rows leave on what they name, what is not marked, and the last checks by both.
+use Prim.Native.Nat.{ℕ, zero, suc, _+_, _-_, _≤_, _<_}
+use mathlib.Core.Path.{_≡_, refl, sym, ap, _∙_}
+use mathlib.Core.List.{List, [], _∷_, _++_, reverse, reverse-cons}
+use mathlib.Core.Bool.{Bool, true, false, cond, _&&_, _||_}
+use mathlib.Core.Option.{none}
+use native.Mathlib.Omega.{arith}
+use native.Mathlib.Numerals.{add-one}
+use lib.ListN.{length, getD, set}
+use lib.Seq.{getD-set-same, getD-set-other}
+use lib.Dec.{eqb}
+use borrow.Author.Tests.{eq-eqb, ne-eqb, eqb-true, eqb-false}
+use Rattle.laws.specs.Lists.{eqs}
+use Rattle.laws.proofs.Tests.{by-test, by-order, never}
+use Rattle.laws.proofs.Same.{eqs-refl, eqs-eq}
+use Rattle.name_table.specs.declared.Found.{Found}
+use Rattle.name_table.specs.declared.Found.the-variants.{At, Nothing}
+use Rattle.rules.specs.Outline.{Entry, place, is, lists, isListed, firstFailing}
+use Rattle.rules.specs.Whole.{lastChecks, found, listed}
+use Rattle.records.specs.declared.Kind.{Kind}
+use Rattle.records.specs.declared.Kind.the-variants.{OfComponent, OfPin, OfSelector, OfChoice, OfModel}
+use Rattle.notes.specs.Noted.{clash}
+use Rattle.note_words.specs.Store.{noteAt, notesTo, byKindFrom, storeLength}
+use Rattle.name_checks.specs.declared.Last.{Last}
+use Rattle.name_checks.specs.declared.Last.the-variants.{Fine, Missing, Unlisted}
+use Rattle.name_checks.specs.Lookup.{placeAt, lineAt, entryAt, entriesTo, entriesFrom, Outside, modelOrSelector, enclosed, reaches, reachesAt, targetTo, missingLine, isMarked, clearedTo, Clear, withMark, marked, Marks, Marked, unmarkedLine, unmarkedFrom, Concludes}
+use Rattle.name_checks.proofs.NoteLaws.{note-kind, note-line}
+use Rattle.name_checks.proofs.OutsideLaws.{outside-refl, outside-set, outside-place, line-outside, outside-then, entries-outside}
+use Rattle.name_checks.proofs.TargetLaws.{hits-at, target-found, target-missed, found-line, one-target, target-outside, missing-outside}
+
+-- ---- entries in file order
+
+module _ (s xs : List ℕ) where
+  from-last-one : (i m : ℕ) → entriesFrom s xs i (suc m) ≡ entriesFrom s xs i m ++ (entryAt s xs (i + m) ∷ [])
+  unfolding entriesFrom
+  from-last-one i zero =
+      let e : i + 0 ≡ i = omega arith in
+      rw e refl
+  from-last-one i (suc m) =
+      let e : i + suc m ≡ i + 1 + m = omega arith in
+      rw e rw (from-last-one (i + 1) m) refl
+
+  pub file-order : (n : ℕ) → reverse (entriesTo s xs n) ≡ entriesFrom s xs 0 n
+  unfolding notesTo entriesFrom
+  file-order zero = refl
+  file-order (suc n) =
+      let e : 0 + n ≡ n = omega arith in
+      reverse-cons (entryAt s xs n) (entriesTo s xs n) ∙ rw (file-order n) (ap (λ (k : ℕ). entriesFrom s xs 0 n ++ (entryAt s xs k ∷ [])) (sym e) ∙ sym (from-last-one 0 n))
+
+  -- one more in front
+  pub from-turn : (i n : ℕ) → 0 < i → i ≤ n → entriesFrom s xs (i - 1) (n - (i - 1)) ≡ entryAt s xs (i - 1) ∷ entriesFrom s xs i (n - i)
+  unfolding entriesFrom
+  from-turn i n h g =
+      let e : n - (i - 1) ≡ suc (n - i) = omega (arith, h, g) in
+      let f : i - 1 + 1 ≡ i = omega (arith, h) in
+      rw e rw f refl
+
+pub from-none : (s xs : List ℕ) (n : ℕ) → entriesFrom s xs n (n - n) ≡ []
+unfolding entriesFrom
+from-none s xs n =
+    let e : n - n ≡ 0 = omega arith in
+    rw e refl
+
+-- ---- a name that is not marked
+
+module _ (xs : List ℕ) (i k later : ℕ) (kind : k ≡ placeAt xs i) where
+  pub unmarked-kept : (w : ℕ) → modelOrSelector k ≡ true → w ≡ getD xs (byKindFrom + i) 0 → w ≡ 1 → later ≡ unmarkedLine xs i later
+  unfolding unmarkedLine
+  unmarked-kept w h e o = rw (← kind) rw h rw (← e) rw o refl
+
+  pub unmarked-told : (w : ℕ) → modelOrSelector k ≡ true → w ≡ getD xs (byKindFrom + i) 0 → (w ≡ 1 → ⊥) → lineAt xs i ≡ unmarkedLine xs i later
+  unfolding unmarkedLine
+  unmarked-told w h e o = rw (← kind) rw h rw (← e) rw (ne-eqb w 1 o) refl
+
+  pub unmarked-other : modelOrSelector k ≡ false → later ≡ unmarkedLine xs i later
+  unfolding unmarkedLine
+  unmarked-other h = rw (← kind) rw h refl
+
+module _ (xs : List ℕ) (n : ℕ) where
+  pub unmarked-turn : (j : ℕ) → 0 < j → j ≤ n → unmarkedFrom xs (j - 1) (n - (j - 1)) ≡ unmarkedLine xs (j - 1) (unmarkedFrom xs j (n - j))
+  unfolding unmarkedFrom
+  unmarked-turn j h g =
+      let e : n - (j - 1) ≡ suc (n - j) = omega (arith, h, g) in
+      let f : j - 1 + 1 ≡ j = omega (arith, h) in
+      rw e rw f refl
+
+  pub unmarked-none : 0 ≡ unmarkedFrom xs n (n - n)
+  unfolding unmarkedFrom
+  unmarked-none =
+      let e : n - n ≡ 0 = omega arith in
+      rw e refl
+
+  pub unmarked-all : (j : ℕ) → j ≤ 0 → unmarkedFrom xs j (n - j) ≡ unmarkedFrom xs 0 n
+  unmarked-all j h =
+      let e : j ≡ 0 = omega (arith, h) in
+      let f : n - 0 ≡ n = omega arith in
+      rw e rw f refl
+
+-- ---- no marks
+
+module _ (xs : List ℕ) where
+  pub cleared-none : xs ≡ clearedTo xs 0
+  unfolding clearedTo
+  cleared-none = refl
+
+  pub cleared-turn : (i : ℕ) (ys : List ℕ) → ys ≡ clearedTo xs i → set ys (byKindFrom + i) 0 ≡ clearedTo xs (i + 1)
+  unfolding clearedTo
+  cleared-turn i ys e = rw (add-one i) rw e refl
+
+  pub cleared-outside : (n : ℕ) → n ≤ 872 → Outside xs (clearedTo xs n)
+  unfolding clearedTo
+  cleared-outside zero h = outside-refl xs
+  cleared-outside (suc n) h = outside-set xs (clearedTo xs n) (byKindFrom + n) 0 (cleared-outside n (omega (arith, h))) (omega arith) (omega (arith, h))
+
+  pub cleared-clear : (n : ℕ) → n ≤ 872 → storeLength ≤ length xs → Clear (clearedTo xs n) n
+  unfolding clearedTo
+  cleared-clear zero h g j f = absurd (omega (arith, f))
+  cleared-clear (suc n) h g j f =
+      by-order n j
+      (λ a.
+      let e : j ≡ n = omega (arith, a, f) in
+      let o = cleared-outside n (omega (arith, h)) in
+      rw e (getD-set-same (clearedTo xs n) (byKindFrom + n) 0 0 (omega (arith, h, g, o .long))))
+      (λ a. getD-set-other (clearedTo xs n) (byKindFrom + n) (byKindFrom + j) 0 0 (λ e. omega (arith, a, e)) ∙ cleared-clear n (omega (arith, h)) g j a)
+
+  pub cleared-length : (ys : List ℕ) (i n : ℕ) → i ≤ n → n ≤ 872 → ys ≡ clearedTo xs i → length ys ≡ length xs
+  cleared-length ys i n h g e = ap length e ∙ cleared-outside i (omega (arith, h, g)) .long
+
+  pub cleared-end : (i n : ℕ) (ys : List ℕ) → i ≤ n → n ≤ i → ys ≡ clearedTo xs i → ys ≡ clearedTo xs n
+  cleared-end i n ys h g e =
+      let z : i ≡ n = omega (arith, h, g) in
+      e ∙ ap (clearedTo xs) z
+
+-- ---- a row's mark
+
+eqs-turned : (l m : List ℕ) → eqs l m ≡ eqs m l
+eqs-turned l m =
+    by-test (eqs l m)
+    (λ h. h ∙ sym (rw (eqs-eq l m h) (eqs-refl m)))
+    (λ h. by-test (eqs m l) (λ g. absurd (never (eqs l m) (rw (eqs-eq m l g) (eqs-refl l)) h)) (λ g. h ∙ sym g))
+
+pin-first : (x : Kind) (b m : Bool) → ((eqb 1 (place x) && b) || m) ≡ ((eqb (place x) 1 && b) || m)
+pin-first OfComponent b m = refl
+pin-first OfPin b m = refl
+pin-first OfSelector b m = refl
+pin-first OfChoice b m = refl
+pin-first OfModel b m = refl
+
+or-first : (b m n : Bool) → ((b || m) || n) ≡ (b || (m || n))
+or-first true m n = refl
+or-first false m n = refl
+
+or-second : (b m n : Bool) → (m || (b || n)) ≡ (b || (m || n))
+or-second b true n = by-test b (λ h. rw h refl) (λ h. rw h refl)
+or-second b false n = refl
+
+row-first : (x : Kind) (b m n : Bool) → (((eqb 1 (place x) && b) || m) || ((eqb 3 (place x) && b) || n)) ≡ ((enclosed (place x) && b) || (m || n))
+unfolding enclosed
+row-first OfComponent b m n = refl
+row-first OfPin b m n = or-first b m n
+row-first OfSelector b m n = refl
+row-first OfChoice b m n = or-second b m n
+row-first OfModel b m n = refl
+
+marked-more : (e : Entry) (es : List Entry) (f : Entry) (y : Kind) → marked (e ∷ es) f y ≡ ((reaches (place (e .kind)) (place y) && eqs (e .names) (f .name)) || marked es f y)
+unfolding lists reaches
+marked-more e es f OfComponent = refl
+marked-more e es f OfPin = refl
+marked-more e es f OfSelector = rw (eqs-turned (f .name) (e .names)) (pin-first (e .kind) (eqs (e .names) (f .name)) (lists (is OfPin) (f .name) es))
+marked-more e es f OfChoice = refl
+marked-more e es f OfModel =
+    rw (eqs-turned (f .name) (e .names))
+    (row-first (e .kind) (eqs (e .names) (f .name)) (lists (is OfPin) (f .name) es) (lists (is OfChoice) (f .name) es))
+
+marked-none : (f : Entry) (y : Kind) → false ≡ marked [] f y
+unfolding lists
+marked-none f OfComponent = refl
+marked-none f OfPin = refl
+marked-none f OfSelector = refl
+marked-none f OfChoice = refl
+marked-none f OfModel = refl
+
+module _ (s xs : List ℕ) (n : ℕ) (unique : clash (entriesTo s xs n) ≡ none) (small : n ≤ 872) where
+  mark-each : (i : ℕ) (ys : List ℕ) (t : Found) → storeLength ≤ length ys → targetTo s xs i n ≡ t
+      → (j : ℕ) → j < n → isMarked (withMark ys t) j ≡ (reachesAt s xs i j || isMarked ys j)
+  mark-each i ys (At k) long e j h =
+      let r = target-found s xs i n k e in
+      by-test (eqb j k)
+      (λ q.
+      let z : j ≡ k = eqb-true j k q in
+      let g : getD (set ys (byKindFrom + k) 1) (byKindFrom + k) 0 ≡ 1 = getD-set-same ys (byKindFrom + k) 1 0 (omega (arith, r .0, small, long)) in
+      rw z rw g rw (r .1) refl)
+      (λ q.
+      let z : j ≡ k → ⊥ = eqb-false j k q in
+      let g : getD (set ys (byKindFrom + k) 1) (byKindFrom + j) 0 ≡ getD ys (byKindFrom + j) 0 = getD-set-other ys (byKindFrom + k) (byKindFrom + j) 1 0 (λ y. z (omega (arith, y))) in
+      rw g rw (one-target s xs n unique i j k h (omega (arith, r .0)) z (r .1)) refl)
+  mark-each i ys Nothing long e j h = rw (target-missed s xs i n j e h) refl
+
+  mark-turn : (i : ℕ) (es : List Entry) (ys : List ℕ) → storeLength ≤ length ys → Marks s xs es n ys → Marks s xs (entryAt s xs i ∷ es) n (withMark ys (targetTo s xs i n))
+  mark-turn i es ys long m j h =
+      mark-each i ys (targetTo s xs i n) long refl j h
+      ∙ rw (m j h) rw (← (hits-at s xs i j)) (sym (marked-more (entryAt s xs i) es (entryAt s xs j) (noteAt s xs j .kind)))
+
+  mark-outside : (i : ℕ) (ys : List ℕ) (t : Found) → targetTo s xs i n ≡ t → Outside xs ys → Outside xs (withMark ys t)
+  mark-outside i ys (At k) e o =
+      let r = target-found s xs i n k e in
+      outside-set xs ys (byKindFrom + k) 1 o (omega arith) (omega (arith, r .0, small))
+  mark-outside i ys Nothing e o = o
+
+-- ---- the marks from the last name up to place i, and the first of these names that names nothing
+
+pub record Marking (s xs : List ℕ) (n i first : ℕ) (ys : List ℕ) : Type 0 where
+  pub told : first ≡ firstFailing (found (entriesFrom s xs 0 n)) (entriesFrom s xs i (n - i))
+  pub outside : Outside xs ys
+  pub marks : Marks s xs (entriesFrom s xs i (n - i)) n ys
+
+pub marking-none : (s xs : List ℕ) (n : ℕ) → Clear xs n → Marking s xs n n 0 xs
+unfolding firstFailing
+marking-none s xs n h =
+    record {
+      told = rw (from-none s xs n) refl;
+      outside = outside-refl xs;
+      marks = rw (from-none s xs n) (λ j g. rw (h j g) (marked-none (entryAt s xs j) (noteAt s xs j .kind)));
+    }
+
+pub marking-turn : (s xs : List ℕ) (n i first : ℕ) (ys : List ℕ) → n ≤ 872 → storeLength ≤ length xs → clash (entriesTo s xs n) ≡ none → Marking s xs n i first ys
+    → 0 < i → i ≤ n → (r : ℕ) (zs : List ℕ) → r ≡ missingLine s ys (i - 1) first (targetTo s ys (i - 1) n) → zs ≡ withMark ys (targetTo s ys (i - 1) n)
+    → Marking s xs n (i - 1) r zs
+unfolding firstFailing
+marking-turn s xs n i first ys small long unique m h g r zs e f =
+    let k = i - 1 in
+    let b : k ≤ 872 = omega (arith, g, small) in
+    let t : targetTo s ys k n ≡ targetTo s xs k n = target-outside s xs ys (m .outside) k n b small in
+    let z : zs ≡ withMark ys (targetTo s xs k n) = f ∙ ap (withMark ys) t in
+    record {
+      told =
+          e ∙ ap (missingLine s ys k first) t ∙ missing-outside s xs ys (m .outside) k first (targetTo s xs k n) b ∙ sym (found-line s xs k n first)
+          ∙ ap (λ (l : ℕ). cond (found (entriesFrom s xs 0 n) (entryAt s xs k)) l (noteAt s xs k .line)) (m .told)
+          ∙ ap (firstFailing (found (entriesFrom s xs 0 n))) (sym (from-turn s xs i n h g));
+      outside = rw z (mark-outside s xs n unique small k ys (targetTo s xs k n) refl (m .outside));
+      marks = rw z rw (from-turn s xs i n h g) (mark-turn s xs n unique small k (entriesFrom s xs i (n - i)) ys (omega (arith, m .outside .long, long)) (m .marks));
+    }
+
+pub marking-end : (s xs : List ℕ) (n i first : ℕ) (ys : List ℕ) → Marking s xs n i first ys → i ≤ 0 → Marked s xs ys n first
+marking-end s xs n i first ys m h =
+    let z : i ≡ 0 = omega (arith, h) in
+    let d : n - 0 ≡ n = omega arith in
+    let e : entriesFrom s xs i (n - i) ≡ entriesFrom s xs 0 n = rw z rw d refl in
+    record { first = m .told ∙ ap (firstFailing (found (entriesFrom s xs 0 n))) e; outside = m .outside; marks = rw (← e) (m .marks) }
+
+-- ---- what nobody lists
+
+listed-kind : (es : List Entry) (f : Entry) (y : Kind) (later line : ℕ) → cond (modelOrSelector (place y)) (cond (marked es f y) later line) later ≡ cond (isListed es f y) later line
+unfolding modelOrSelector
+listed-kind es f OfComponent later line = refl
+listed-kind es f OfPin later line = refl
+listed-kind es f OfSelector later line = refl
+listed-kind es f OfChoice later line = refl
+listed-kind es f OfModel later line = refl
+
+module _ (s xs ys : List ℕ) (n : ℕ) (es : List Entry) (small : n ≤ 872) (o : Outside xs ys) (marks : Marks s xs es n ys) where
+  unlisted-line : (j later : ℕ) → j < n → unmarkedLine ys j later ≡ cond (listed es (entryAt s xs j)) later (noteAt s xs j .line)
+  unfolding unmarkedLine
+  unlisted-line j later h =
+      let b : j ≤ 872 = omega (arith, h, small) in
+      rw (outside-place xs ys j o b) rw (marks j h) rw (line-outside s xs ys o j b)
+      rw (← (note-kind s xs j)) rw (← (note-line s xs j)) (listed-kind es (entryAt s xs j) (noteAt s xs j .kind) later (noteAt s xs j .line))
+
+  unlisted-from : (j m : ℕ) → j + m ≤ n → unmarkedFrom ys j m ≡ firstFailing (listed es) (entriesFrom s xs j m)
+  unfolding unmarkedFrom entriesFrom firstFailing
+  unlisted-from j zero h = refl
+  unlisted-from j (suc m) h =
+      ap (unmarkedLine ys j) (unlisted-from (j + 1) m (omega (arith, h)))
+      ∙ unlisted-line j (firstFailing (listed es) (entriesFrom s xs (j + 1) m)) (omega (arith, h))
+
+-- ---- the last checks
+
+module _ (s xs ys : List ℕ) (n missing : ℕ) (m : Marked s xs ys n missing) where
+  pub concludes-missing : (missing ≡ 0 → ⊥) → Concludes (entriesTo s xs n) (Missing missing)
+  unfolding lastChecks
+  concludes-missing h d = rw (file-order s xs n) rw (← (m .first)) rw (ne-eqb missing 0 h) refl
+
+  module _ (none-missing : missing ≡ 0) (small : n ≤ 872) (unlisted : ℕ) (u : unlisted ≡ unmarkedFrom ys 0 n) where
+    unlisted-first : unlisted ≡ firstFailing (listed (entriesFrom s xs 0 n)) (entriesFrom s xs 0 n)
+    unlisted-first = u ∙ unlisted-from s xs ys n (entriesFrom s xs 0 n) small (m .outside) (m .marks) 0 n (omega arith)
+
+    pub concludes-unlisted : (unlisted ≡ 0 → ⊥) → Concludes (entriesTo s xs n) (Unlisted unlisted)
+    unfolding lastChecks
+    concludes-unlisted h d =
+        rw (file-order s xs n) rw (← (m .first)) rw (eq-eqb missing 0 none-missing) rw (← unlisted-first) rw (ne-eqb unlisted 0 h) refl
+
+    pub concludes-fine : unlisted ≡ 0 → Concludes (entriesTo s xs n) Fine
+    unfolding lastChecks
+    concludes-fine h d =
+        rw (file-order s xs n) rw (← (m .first)) rw (eq-eqb missing 0 none-missing) rw (← unlisted-first) rw (eq-eqb unlisted 0 h) refl
+
+-- the store with the marks cleared says the same of the names
+module _ (s xs zs : List ℕ) (n : ℕ) (small : n ≤ 872) (e : zs ≡ clearedTo xs n) where
+  clean : Outside xs zs
+  clean = rw e (cleared-outside xs n small)
+
+  pub cleared-ready : storeLength ≤ length xs → clash (entriesTo s xs n) ≡ none → ((n ≤ 872) × (storeLength ≤ length zs)) × ((clash (entriesTo s zs n) ≡ none) × Clear zs n)
+  cleared-ready h u =
+      ((small, omega (arith, clean .long, h)), (rw (entries-outside s xs zs n clean small) u, rw e (cleared-clear xs n small h)))
+
+  pub cleared-said : (r : Last) (ys : List ℕ) → Concludes (entriesTo s zs n) r → Outside zs ys → Concludes (entriesTo s xs n) r × Outside xs ys
+  cleared-said r ys h o = (rw (← (entries-outside s xs zs n clean small)) h, outside-then xs zs ys clean o)

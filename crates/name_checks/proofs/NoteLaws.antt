@@ -1,0 +1,111 @@
+-- A note by its words, whatever its kind; a part of the file moved into it.
+use Prim.Native.Nat.{ℕ, zero, suc, _+_, _-_, _*_, _≤_, _<_}
+use mathlib.Core.Path.{_≡_, refl, sym, ap, _∙_}
+use mathlib.Core.List.{List, []}
+use mathlib.Core.Bool.{Bool, false}
+use native.Mathlib.Omega.{arith}
+use lib.ListN.{length, drop, getD, drop-of-length-le, length-drop}
+use lib.Seq.{take-all}
+use borrow.Author.Tests.{ne-eqb}
+use Rattle.laws.specs.Lists.{part, eqs}
+use Rattle.laws.proofs.Lists.{part-length}
+use Rattle.laws.proofs.Same.{eqs-apart}
+use Rattle.words.specs.declared.Word.{Word}
+use Rattle.rules.specs.Outline.{place}
+use Rattle.records.specs.declared.Kind.{Kind}
+use Rattle.records.specs.declared.Kind.the-variants.{OfComponent, OfPin, OfSelector, OfChoice, OfModel}
+use Rattle.note_words.specs.Store.{noteAt, noteFrom, notingAt, kindOf}
+use Rattle.note_words.specs.declared.Noting.{Noting}
+use Rattle.name_checks.specs.Lookup.{placeAt, lineAt, nameAt, Within}
+
+-- ---- the number of a kind
+
+pub place-below : (w : ℕ) → w < 4 → place (kindOf w) ≡ w
+unfolding kindOf
+place-below zero h = refl
+place-below (suc zero) h = refl
+place-below (suc (suc zero)) h = refl
+place-below (suc (suc (suc zero))) h = refl
+place-below (suc (suc (suc (suc w)))) h = absurd (omega (arith, h))
+
+pub place-above : (w : ℕ) → 4 ≤ w → place (kindOf w) ≡ 4
+unfolding kindOf
+place-above w h =
+    rw (ne-eqb w 0 (λ e. omega (arith, h, e))) rw (ne-eqb w 1 (λ e. omega (arith, h, e))) rw (ne-eqb w 2 (λ e. omega (arith, h, e)))
+    rw (ne-eqb w 3 (λ e. omega (arith, h, e))) refl
+
+-- ---- what every kind of note has
+
+module _ (s : List ℕ) (x : Noting) where
+  kind-is : (k : Kind) → noteFrom s x k .kind ≡ k
+  kind-is OfComponent = refl
+  kind-is OfPin = refl
+  kind-is OfSelector = refl
+  kind-is OfChoice = refl
+  kind-is OfModel = refl
+
+  name-is : (k : Kind) → noteFrom s x k .name ≡ part (x .name) (x .«name_end») s
+  name-is OfComponent = refl
+  name-is OfPin = refl
+  name-is OfSelector = refl
+  name-is OfChoice = refl
+  name-is OfModel = refl
+
+  line-is : (k : Kind) → noteFrom s x k .line ≡ x .line
+  line-is OfComponent = refl
+  line-is OfPin = refl
+  line-is OfSelector = refl
+  line-is OfChoice = refl
+  line-is OfModel = refl
+
+module _ (s xs : List ℕ) (i : ℕ) where
+  pub note-kind : place (noteAt s xs i .kind) ≡ placeAt xs i
+  unfolding noteAt placeAt
+  note-kind = ap place (kind-is s (notingAt xs i) (kindOf (getD xs (9 * i) 0)))
+
+  pub note-name : noteAt s xs i .name ≡ nameAt s xs i
+  unfolding noteAt
+  note-name = name-is s (notingAt xs i) (kindOf (getD xs (9 * i) 0))
+
+  pub note-line : noteAt s xs i .line ≡ lineAt xs i
+  unfolding noteAt
+  note-line = line-is s (notingAt xs i) (kindOf (getD xs (9 * i) 0))
+
+-- ---- a part that lies outside
+
+module _ (s : List ℕ) (a e : ℕ) where
+  pub part-turned : e < a → part 0 0 s ≡ part a e s
+  part-turned h =
+      let z : e - a ≡ 0 = omega (arith, h) in
+      rw z refl
+
+  pub part-cut : length s < e → part a (length s) s ≡ part a e s
+  part-cut h =
+      take-all (length s - a) (drop a s) (omega (arith, length-drop a s))
+      ∙ sym (take-all (e - a) (drop a s) (omega (arith, length-drop a s, h)))
+
+  pub part-past : length s < a → part 0 0 s ≡ part a e s
+  part-past h = rw (drop-of-length-le s {i = a} (omega (arith, h))) (sym (take-all (e - a) [] (omega arith)))
+
+-- two parts, moved into the file
+module _ (s : List ℕ) (w v x y : Word) (p : Within s (w .start) (w .end) x) (q : Within s (v .start) (v .end) y) where
+  pub within-apart : (x .end - x .start ≡ y .end - y .start → ⊥) → eqs (part (w .start) (w .end) s) (part (v .start) (v .end) s) ≡ false
+  within-apart h =
+      rw (← (p .same)) rw (← (q .same))
+      (eqs-apart (part (x .start) (x .end) s) (part (y .start) (y .end) s)
+      (λ e. h (sym (part-length s (x .start) (x .end) (p .inside)) ∙ e ∙ part-length s (y .start) (y .end) (q .inside))))
+
+  pub within-same : eqs (part (x .start) (x .end) s) (part (y .start) (y .end) s) ≡ eqs (part (w .start) (w .end) s) (part (v .start) (v .end) s)
+  within-same = rw (p .same) rw (q .same) refl
+
+-- the parts that two notes say, by the words at a and behind it, and at b and behind it
+pub parts-said : (s xs : List ℕ) (w v : Word) (a b : ℕ)
+    → (w .start ≡ getD xs a 0) × (w .end ≡ getD xs (a + 1) 0) → (v .start ≡ getD xs b 0) × (v .end ≡ getD xs (b + 1) 0) → (t : Bool)
+    → t ≡ eqs (part (w .start) (w .end) s) (part (v .start) (v .end) s)
+    → (e f : ℕ) → e ≡ a + 1 → f ≡ b + 1 → t ≡ eqs (part (getD xs a 0) (getD xs e 0) s) (part (getD xs b 0) (getD xs f 0) s)
+parts-said s xs w v a b p q t h e f x y = rw x rw y rw (← (p .0)) rw (← (p .1)) rw (← (q .0)) rw (← (q .1)) h
+
+-- a part that a note says, moved into the file
+pub part-said : (s xs : List ℕ) (p w : Word) (a : ℕ) → (p .start ≡ getD xs a 0) × (p .end ≡ getD xs (a + 1) 0) → Within s (p .start) (p .end) w
+    → (e : ℕ) → e ≡ a + 1 → part (w .start) (w .end) s ≡ part (getD xs a 0) (getD xs e 0) s
+part-said s xs p w a q h e x = h .same ∙ rw x rw (← (q .0)) rw (← (q .1)) refl

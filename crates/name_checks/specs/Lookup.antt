@@ -1,0 +1,209 @@
+-- What is looked up among the noted names, by the words of the store: which two meet, which one is named, which are of a kind.
+use Prim.Native.Nat.{ℕ, zero, suc, _+_, _*_, _%_, _≤_, _<_}
+use mathlib.Core.Path.{_≡_}
+use mathlib.Core.List.{List, [], _∷_, map, reverse}
+use mathlib.Core.Bool.{Bool, false, cond, not, _&&_, _||_}
+use mathlib.Core.Option.{Option, none, some}
+use lib.ListN.{length, getD, set}
+use lib.Dec.{eqb}
+use Rattle.laws.specs.Lists.{part, eqs}
+use Rattle.words.specs.declared.Word.{Word}
+use Rattle.name_table.specs.declared.Found.{Found}
+use Rattle.name_table.specs.declared.Found.the-variants as answer
+use Rattle.line_rules.specs.Fields.{needsNoModel}
+use Rattle.rules.specs.Outline.{Entry, place, is, lists, firstFailing}
+use Rattle.rules.specs.Whole.{Outcome, refused, found, lastChecks}
+use Rattle.records.specs.declared.Kind.{Kind}
+use Rattle.records.specs.declared.Kind.the-variants.{OfComponent, OfPin, OfSelector, OfChoice, OfModel}
+use Rattle.notes.specs.Noted.{Note, entryOf}
+use Rattle.note_words.specs.Store.{noteAt, notesTo, kindOf, byKindFrom, wavesFrom, storeLength}
+use Rattle.layout_by_notes.specs.Lies.{pick, isOf}
+use Rattle.name_checks.specs.declared.Clash.{Clash}
+use Rattle.name_checks.specs.declared.Clash.the-variants.{At, NoClash}
+use Rattle.name_checks.specs.declared.Meeting.{Meeting}
+use Rattle.name_checks.specs.declared.Meeting.the-variants.{Equal, Differing, Beyond}
+use Rattle.name_checks.specs.declared.Last.{Last}
+use Rattle.name_checks.specs.declared.Last.the-variants.{Fine, Missing, Unlisted}
+
+-- ---- a note's words
+
+-- the number of its kind
+unfoldable pub placeAt : List ℕ → ℕ → ℕ
+placeAt xs i = place (kindOf (getD xs (9 * i) 0))
+
+abbrev pub lineAt : List ℕ → ℕ → ℕ
+lineAt xs i = getD xs (9 * i + 1) 0
+
+abbrev pub nameAt : List ℕ → List ℕ → ℕ → List ℕ
+nameAt s xs i = part (getD xs (9 * i + 2) 0) (getD xs (9 * i + 3) 0) s
+
+-- of a pin or a selector row, the model it names
+abbrev pub modelAt : List ℕ → List ℕ → ℕ → List ℕ
+modelAt s xs i = part (getD xs (9 * i + 4) 0) (getD xs (9 * i + 5) 0) s
+
+abbrev pub entryAt : List ℕ → List ℕ → ℕ → Entry
+entryAt s xs i = entryOf (noteAt s xs i)
+
+-- the first n, the latest first
+abbrev pub entriesTo : List ℕ → List ℕ → ℕ → List Entry
+entriesTo s xs n = map entryOf (notesTo s xs n)
+
+-- n of them from place i on, in file order
+unfoldable pub entriesFrom : List ℕ → List ℕ → ℕ → ℕ → List Entry
+entriesFrom s xs i zero = []
+entriesFrom s xs i (suc n) = entryAt s xs i ∷ entriesFrom s xs (i + 1) n
+
+-- a part of the file that may lie outside of it, moved into it
+pub record Within (s : List ℕ) (a e : ℕ) (w : Word) : Type 0 where
+  pub order : w .start ≤ w .end
+  pub inside : w .end ≤ length s
+  pub same : part (w .start) (w .end) s ≡ part a e s
+
+-- a store that differs at most in the region of the names by kind
+pub record Outside (xs ys : List ℕ) : Type 0 where
+  pub long : length ys ≡ length xs
+  pub below : (k : ℕ) → 0 ≤ k → k < byKindFrom → getD ys k 0 ≡ getD xs k 0
+  pub behind : (k : ℕ) → wavesFrom ≤ k → k < storeLength → getD ys k 0 ≡ getD xs k 0
+
+-- ---- names used twice, by the numbers of their kinds
+
+unfoldable pub modelOrSelector : ℕ → Bool
+modelOrSelector k = eqb k 4 || eqb k 2
+
+-- names of these kinds must differ
+unfoldable pub rivals : ℕ → ℕ → Bool
+rivals k l = cond (modelOrSelector k) (modelOrSelector l) (eqb k l)
+
+-- pins and selector rows are compared within their section: up to the next name of another kind
+unfoldable pub enclosed : ℕ → Bool
+enclosed k = eqb k 1 || eqb k 3
+
+-- a name of kind k and an earlier one of kind l
+unfoldable pub meeting : ℕ → ℕ → Bool → Meeting
+meeting k l same = cond (rivals k l) (cond same Equal Differing) (cond (enclosed k) Beyond Differing)
+
+unfoldable pub meetingAt : List ℕ → List ℕ → ℕ → ℕ → Meeting
+meetingAt s xs i j = meeting (placeAt xs i) (placeAt xs j) (eqs (nameAt s xs i) (nameAt s xs j))
+
+-- a number that equal names share: where two differ, the names do
+unfoldable pub keyFrom : ℕ → List ℕ → ℕ
+keyFrom k [] = k
+keyFrom k (b ∷ bs) = keyFrom (k % 67108864 * 33 + b) bs
+
+abbrev pub keyAt : List ℕ → List ℕ → ℕ → ℕ
+keyAt s xs i = keyFrom 0 (nameAt s xs i)
+
+-- the keys of the first n names
+abbrev pub Keyed : List ℕ → List ℕ → ℕ → List ℕ → Type 0
+Keyed s xs n keys = (j : ℕ) → j < n → getD keys j 0 ≡ keyAt s xs j
+
+abbrev pub clashIs : Clash → Option ℕ
+clashIs (At k) = some k
+clashIs NoClash = none
+
+-- ---- what a pin or a selector row names
+
+-- a pin names a model or a selector, a selector row a model
+unfoldable pub reaches : ℕ → ℕ → Bool
+reaches k l = cond (eqb l 4) (enclosed k) (cond (eqb l 2) (eqb k 1) false)
+
+unfoldable pub reachesAt : List ℕ → List ℕ → ℕ → ℕ → Bool
+reachesAt s xs i j = reaches (placeAt xs i) (placeAt xs j) && eqs (modelAt s xs i) (nameAt s xs j)
+
+-- the last of the first n names that the one at place i names: where no name is used twice there is one at most
+unfoldable pub targetTo : List ℕ → List ℕ → ℕ → ℕ → Found
+targetTo s xs i zero = answer.Nothing
+targetTo s xs i (suc n) = cond (reachesAt s xs i n) (answer.At n) (targetTo s xs i n)
+
+-- nothing need be found: of a section, and of a pin that needs no model
+unfoldable pub excused : ℕ → List ℕ → Bool
+excused k w = cond (eqb k 1) (needsNoModel w) (not (eqb k 3))
+
+-- the line of the name at place i where it names nothing, else that of the later ones
+abbrev pub missingLine : List ℕ → List ℕ → ℕ → ℕ → Found → ℕ
+missingLine s xs i later (answer.At j) = later
+missingLine s xs i later answer.Nothing = cond (excused (placeAt xs i) (modelAt s xs i)) later (lineAt xs i)
+
+-- ---- marks of what is listed: a word a name, where later the names lie by kind
+
+abbrev pub isMarked : List ℕ → ℕ → Bool
+isMarked xs j = eqb (getD xs (byKindFrom + j) 0) 1
+
+unfoldable pub clearedTo : List ℕ → ℕ → List ℕ
+clearedTo xs zero = xs
+clearedTo xs (suc n) = set (clearedTo xs n) (byKindFrom + n) 0
+
+-- no name is marked
+abbrev pub Clear : List ℕ → ℕ → Type 0
+Clear xs n = (j : ℕ) → j < n → getD xs (byKindFrom + j) 0 ≡ 0
+
+abbrev pub withMark : List ℕ → Found → List ℕ
+withMark xs (answer.At j) = set xs (byKindFrom + j) 1
+withMark xs answer.Nothing = xs
+
+-- the name is marked if some of these entries names it
+abbrev pub marked : List Entry → Entry → Kind → Bool
+marked es f OfComponent = false
+marked es f OfPin = false
+marked es f OfSelector = lists (is OfPin) (f .name) es
+marked es f OfChoice = false
+marked es f OfModel = lists (is OfPin) (f .name) es || lists (is OfChoice) (f .name) es
+
+-- the marks in ys say which of the first n names in xs these entries name
+abbrev pub Marks : List ℕ → List ℕ → List Entry → ℕ → List ℕ → Type 0
+Marks s xs es n ys = (j : ℕ) → j < n → isMarked ys j ≡ marked es (entryAt s xs j) (noteAt s xs j .kind)
+
+-- all pins and selector rows have marked what they name, and r is the line of the first that names nothing, or 0
+pub record Marked (s xs ys : List ℕ) (n r : ℕ) : Type 0 where
+  pub first : r ≡ firstFailing (found (entriesFrom s xs 0 n)) (entriesFrom s xs 0 n)
+  pub outside : Outside xs ys
+  pub marks : Marks s xs (entriesFrom s xs 0 n) n ys
+
+-- the line of the name at place j where it is a model's or a selector's and not marked, else that of the later ones
+unfoldable pub unmarkedLine : List ℕ → ℕ → ℕ → ℕ
+unmarkedLine xs j later = cond (modelOrSelector (placeAt xs j)) (cond (isMarked xs j) later (lineAt xs j)) later
+
+-- the first such line of n names from place j on, or 0
+unfoldable pub unmarkedFrom : List ℕ → ℕ → ℕ → ℕ
+unmarkedFrom xs j zero = 0
+unmarkedFrom xs j (suc n) = unmarkedLine xs j (unmarkedFrom xs (j + 1) n)
+
+abbrev pub lastIs : Outcome → Last → Outcome
+lastIs done Fine = done
+lastIs done (Missing k) = refused 15 k
+lastIs done (Unlisted k) = refused 16 k
+
+-- the last checks of entries that are given the latest first
+abbrev pub Concludes : List Entry → Last → Type 0
+Concludes es r = (d : Outcome) → lastChecks (reverse es) d ≡ lastIs d r
+
+-- ---- the names by kind
+
+-- how many of the first n names are of the kind with this number
+unfoldable pub howMany : List ℕ → ℕ → ℕ → ℕ
+howMany xs k zero = 0
+howMany xs k (suc n) = cond (eqb k (placeAt xs n)) (howMany xs k n + 1) (howMany xs k n)
+
+-- where the names of a kind lie, and how many there is room for: 8 components, 512 pins, 32 selectors, 256 rows, 64 models
+unfoldable pub kindFrom : ℕ → ℕ
+kindFrom k = cond (eqb k 0) 7857 (cond (eqb k 1) 7865 (cond (eqb k 2) 8377 (cond (eqb k 3) 8409 8665)))
+
+unfoldable pub kindRoom : ℕ → ℕ
+kindRoom k = cond (eqb k 0) 8 (cond (eqb k 1) 512 (cond (eqb k 2) 32 (cond (eqb k 3) 256 64)))
+
+-- the store, with the places of the first n names written by kind
+unfoldable pub sortedTo : List ℕ → ℕ → List ℕ
+sortedTo xs zero = xs
+sortedTo xs (suc n) = set (sortedTo xs n) (kindFrom (placeAt xs n) + howMany xs (placeAt xs n) n) n
+
+-- no kind has more names than there is room for
+abbrev pub Roomy : List ℕ → ℕ → Type 0
+Roomy xs n = (x : Kind) → howMany xs (place x) n ≤ kindRoom (place x)
+
+-- what the names by kind say: the j-th note of a kind, in file order, is the one at the j-th place that is written for the kind
+pub record Sorted (xs ys : List ℕ) (n : ℕ) : Type 0 where
+  pub outside : Outside xs ys
+  pub many : (s : List ℕ) (x : Kind) → length (pick (isOf x) (notesTo s xs n)) ≡ howMany xs (place x) n
+  pub before : (x : Kind) (j : ℕ) → j < howMany xs (place x) n → getD ys (kindFrom (place x) + j) 0 < n
+  pub each : (s : List ℕ) (x : Kind) (j : ℕ) (d : Note) → j < howMany xs (place x) n
+      → getD (reverse (pick (isOf x) (notesTo s xs n))) j d ≡ noteAt s ys (getD ys (kindFrom (place x) + j) 0)

@@ -1,0 +1,165 @@
+// Names not found, and what nobody lists: each pin and selector row marks what it names.
+ghost use mathlib.Core.Path.{_≡_};
+ghost use mathlib.Core.Option.{none};
+ghost use Prim.Native.Nat.{_≤_, _<_};
+ghost use lib.ListN.{length};
+ghost use Rattle.name_table.specs.declared.Found.the-variants.{Nothing};
+ghost use Rattle.notes.specs.Noted.{clash};
+ghost use Rattle.note_words.specs.Store.{storeLength};
+ghost use Rattle.name_checks.specs.Lookup.{reaches, reachesAt, targetTo, missingLine, clearedTo, Clear, withMark, entriesTo, Outside, Marked, unmarkedLine, unmarkedFrom, Concludes};
+use crate::Last;
+use name_table::Found;
+
+// A pin names a model or a selector, a selector row a model.
+fn may_name(k: usize, l: usize) -> bool
+    ensures { λ r. ⌜ r ≡ reaches k l ⌝ }
+{
+    if l == 4 {
+        return crate::clashes::is_enclosed(k);
+    }
+    if l == 2 {
+        return k == 1;
+    }
+    false
+}
+
+// The name at place i names the one at place j.
+fn names_it(src: &[u8], notes: &[u32], i: usize, j: usize) -> bool
+    requires { ⌜ (i ≤ 872) × (j ≤ 872) ⌝ }
+    ensures { λ r. ⌜ r ≡ reachesAt (now (src .entry)) (now (notes .entry)) i j ⌝ }
+{
+    let k = crate::places::kind_at(notes, i);
+    if may_name(k, crate::places::kind_at(notes, j)) {
+        let model = crate::places::part_at(notes, 9 * i + 4);
+        let name = crate::places::part_at(notes, 9 * j + 2);
+        return crate::places::same_parts(src, model, name);
+    }
+    false
+}
+
+// The last of n names that the one at place i names. Most files have their models behind the pins.
+fn find_target(src: &[u8], notes: &[u32], n: usize, i: usize) -> Found
+    requires { ⌜ (n ≤ 872) × (i ≤ 872) ⌝ }
+    ensures { λ r. ⌜ r ≡ targetTo (now (src .entry)) (now (notes .entry)) i n ⌝ }
+{
+    let mut j = n;
+    while 0 < j {
+        j -= 1;
+        if names_it(src, notes, i, j) {
+            return Found::At(j);
+        }
+    }
+    Found::Nothing
+}
+
+// What the name at place i gives that names nothing: its line, or the later one's where it need not.
+fn missing_line(src: &[u8], notes: &[u32], i: usize, later: u64) -> u64
+    requires { ⌜ i ≤ 872 ⌝ }
+    ensures { λ r. ⌜ r ≡ missingLine (now (src .entry)) (now (notes .entry)) i later Nothing ⌝ }
+{
+    let k = crate::places::kind_at(notes, i);
+    if k == 1 {
+        let w = crate::places::within(src, crate::places::part_at(notes, 9 * i + 4));
+        let a = w.start;
+        let e = w.end;
+        if named_lines::needs_no_model(&src[a..e]) {
+            return later;
+        }
+        return crate::places::line_at(notes, i);
+    }
+    if k == 3 {
+        return crate::places::line_at(notes, i);
+    }
+    later
+}
+
+// Marks what the name at place i names. The line of the first from there on that names nothing, given that of the later ones.
+fn mark_target(src: &[u8], notes: &mut [u32], n: usize, i: usize, later: u64) -> u64
+    requires { ⌜ (n ≤ 872) × (i < n) × (storeLength ≤ length (now notes)) ⌝ }
+    ensures { λ r. ⌜ r ≡ missingLine (now (src .entry)) (now (notes .entry)) i later (targetTo (now (src .entry)) (now (notes .entry)) i n) ⌝ }
+    ensures { λ r. ⌜ now (notes .exit) ≡ withMark (now (notes .entry)) (targetTo (now (src .entry)) (now (notes .entry)) i n) ⌝ }
+{
+    if !crate::clashes::is_enclosed(crate::places::kind_at(notes, i)) {
+        return later;
+    }
+    let target = find_target(src, notes, n, i);
+    let Found::At(j) = target else {
+        return missing_line(src, notes, i, later);
+    };
+    notes[7857 + j] = 1;
+    later
+}
+
+fn clear_marks(notes: &mut [u32], n: usize)
+    requires { ⌜ (n ≤ 872) × (storeLength ≤ length (now notes)) ⌝ }
+    ensures { λ _. ⌜ now (notes .exit) ≡ clearedTo (now (notes .entry)) n ⌝ }
+{
+    let mut i = 0;
+    while i < n {
+        notes[7857 + i] = 0;
+        i += 1;
+    }
+}
+
+// From the last name up to the first: each marks what it names. The line of the first that names nothing, or 0.
+fn mark_targets(src: &[u8], notes: &mut [u32], n: usize) -> u64
+    requires { ⌜ (n ≤ 872) × (storeLength ≤ length (now notes)) ⌝ }
+    requires { ⌜ clash (entriesTo (now src) (now notes) n) ≡ none ⌝ }
+    requires { ⌜ Clear (now notes) n ⌝ }
+    ensures { λ r. ⌜ Marked (now (src .entry)) (now (notes .entry)) (now (notes .exit)) n r ⌝ }
+{
+    let mut first: u64 = 0;
+    let mut i = n;
+    while 0 < i {
+        i -= 1;
+        first = mark_target(src, notes, n, i, first);
+    }
+    first
+}
+
+// The line of the name at place j where it is a model's or a selector's and not marked, else that of the later ones.
+fn unmarked_line(notes: &[u32], j: usize, later: u64) -> u64
+    requires { ⌜ j ≤ 872 ⌝ }
+    ensures { λ r. ⌜ r ≡ unmarkedLine (now (notes .entry)) j later ⌝ }
+{
+    if crate::clashes::model_or_selector(crate::places::kind_at(notes, j)) {
+        if note_words::word(notes, 7857 + j) == 1 {
+            return later;
+        }
+        return crate::places::line_at(notes, j);
+    }
+    later
+}
+
+// The line of the first model or selector that is not marked, or 0.
+fn first_unmarked(notes: &[u32], n: usize) -> u64
+    requires { ⌜ n ≤ 872 ⌝ }
+    ensures { λ r. ⌜ r ≡ unmarkedFrom (now (notes .entry)) 0 n ⌝ }
+{
+    let mut first: u64 = 0;
+    let mut j = n;
+    while 0 < j {
+        j -= 1;
+        first = unmarked_line(notes, j, first);
+    }
+    first
+}
+
+// The first name that is not found; where all are, the first section that nobody lists. The marks lie where later the names lie by kind.
+pub fn last_fault(src: &[u8], notes: &mut [u32], n: usize) -> Last
+    requires { ⌜ (n ≤ 872) × (storeLength ≤ length (now notes)) ⌝ }
+    requires { ⌜ clash (entriesTo (now src) (now notes) n) ≡ none ⌝ }
+    ensures { λ r. ⌜ Concludes (entriesTo (now (src .entry)) (now (notes .entry)) n) r ⌝ }
+    ensures { λ r. ⌜ Outside (now (notes .entry)) (now (notes .exit)) ⌝ }
+{
+    clear_marks(notes, n);
+    let missing = mark_targets(src, notes, n);
+    if missing != 0 {
+        return Last::Missing(missing);
+    }
+    let unlisted = first_unmarked(notes, n);
+    if unlisted != 0 {
+        return Last::Unlisted(unlisted);
+    }
+    Last::Fine
+}

@@ -1,0 +1,118 @@
+// A note's words: its kind by number, its line, and where its names lie.
+ghost use mathlib.Core.Path.{_≡_};
+ghost use Prim.Native.Nat.{_+_, _*_, _≤_, _<_};
+ghost use lib.ListN.{getD};
+ghost use Rattle.laws.specs.Lists.{part, eqs};
+ghost use Rattle.name_checks.specs.Lookup.{placeAt, Within, keyFrom, keyAt, Keyed};
+use words::Word;
+
+pub fn kind_at(notes: &[u32], i: usize) -> usize
+    requires { ⌜ i ≤ 872 ⌝ }
+    ensures { λ r. ⌜ r ≡ placeAt (now (notes .entry)) i ⌝ }
+{
+    let w = note_words::word(notes, 9 * i);
+    if w < 4 {
+        return w;
+    }
+    4
+}
+
+pub fn line_at(notes: &[u32], i: usize) -> u64
+    requires { ⌜ i ≤ 872 ⌝ }
+    ensures { λ r. ⌜ r ≡ getD (now (notes .entry)) (9 * i + 1) 0 ⌝ }
+{
+    note_words::word(notes, 9 * i + 1) as u64
+}
+
+// The part of the file that a note's words at + 0 and at + 1 say, as they stand.
+pub fn part_at(notes: &[u32], at: usize) -> Word
+    requires { ⌜ at ≤ 7857 ⌝ }
+    ensures { λ r. ⌜ r .start ≡ getD (now (notes .entry)) at 0 ⌝ }
+    ensures { λ r. ⌜ r .end ≡ getD (now (notes .entry)) (at + 1) 0 ⌝ }
+{
+    Word {
+        start: note_words::word(notes, at),
+        end: note_words::word(notes, at + 1),
+    }
+}
+
+// A part of the file, moved into it where it lies outside.
+pub fn within(src: &[u8], w: Word) -> Word
+    ensures { λ r. ⌜ Within (now (src .entry)) (w .start) (w .end) r ⌝ }
+{
+    let a = w.start;
+    let e = w.end;
+    if e < a {
+        return Word { start: 0, end: 0 };
+    }
+    if e <= src.len() {
+        return Word { start: a, end: e };
+    }
+    if a <= src.len() {
+        return Word {
+            start: a,
+            end: src.len(),
+        };
+    }
+    Word { start: 0, end: 0 }
+}
+
+// A number that equal names share.
+fn name_key(name: &[u8]) -> u32
+    ensures { λ r. ⌜ r ≡ keyFrom 0 (now (name .entry)) ⌝ }
+{
+    let mut key: u32 = 0;
+    let mut i = 0;
+    while i < name.len() {
+        key = key % 67108864 * 33 + widen(name[i]);
+        i += 1;
+    }
+    key
+}
+
+// The key of the name at place i.
+fn key_at(src: &[u8], notes: &[u32], i: usize) -> u32
+    requires { ⌜ i ≤ 872 ⌝ }
+    ensures { λ r. ⌜ r ≡ keyAt (now (src .entry)) (now (notes .entry)) i ⌝ }
+{
+    let w = within(src, part_at(notes, 9 * i + 2));
+    let a = w.start;
+    let e = w.end;
+    name_key(&src[a..e])
+}
+
+// The keys of the first n names.
+pub fn keys_of(src: &[u8], notes: &[u32], n: usize) -> [u32; 873]
+    requires { ⌜ n ≤ 873 ⌝ }
+    ensures { λ r. ⌜ Keyed (now (src .entry)) (now (notes .entry)) n r ⌝ }
+{
+    let mut keys = [0u32; 873];
+    let mut i = 0;
+    while i < n {
+        keys[i] = key_at(src, notes, i);
+        i += 1;
+    }
+    keys
+}
+
+fn widen(b: u8) -> u32
+    ensures { λ r. ⌜ (r ≡ b) × (r < 256) ⌝ }
+{
+    b as u32
+}
+
+// Two parts of the file have the same bytes: their lengths are compared first.
+pub fn same_parts(src: &[u8], w: Word, v: Word) -> bool
+    ensures { λ r. ⌜ r ≡ eqs (part (w .start) (w .end) (now (src .entry))) (part (v .start) (v .end) (now (src .entry))) ⌝ }
+{
+    let x = within(src, w);
+    let y = within(src, v);
+    let a = x.start;
+    let e = x.end;
+    let b = y.start;
+    let f = y.end;
+    if e - a != f - b {
+        return false;
+    }
+    words::same(&src[a..e], &src[b..f])
+}

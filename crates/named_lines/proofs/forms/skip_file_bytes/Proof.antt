@@ -1,0 +1,57 @@
+-- The front from i on is the front from the start: `front-more` at a turn, `front-stop` and `front-end` at the ways out.
+use Prim.Native.Nat.{_+_, _-_, _≤_}
+use mathlib.Core.Path.{_≡_, refl, sym, _∙_}
+use native.Mathlib.Omega.{arith}
+use lib.ListN.{length, drop}
+use borrow.Author.Needs.{needs}
+use borrow.Author.Tests.{not-true, not-false}
+use Rattle.line_rules.specs.Fields.{isFileByte}
+use Rattle.laws.specs.Lists.{front}
+use Rattle.laws.proofs.Fronts.{front-more, front-stop, front-end}
+use Rattle.named_lines.proofs.forms.skip_file_bytes.Statement.{statement}
+use Rattle.named_lines.proofs.forms.skip_file_bytes.Tie as tie
+
+abbrev Inv-loop : tie.InvT-loop
+Inv-loop s at i₀ i = ((at ≤ i) × (i ≤ length s)) × (i + length (front isFileByte (drop i s)) ≡ at + length (front isFileByte (drop at s)))
+
+abbrev μ-loop : tie.MeasureT-loop
+μ-loop s at i₀ i = length s - i
+
+loop-holds : tie.Need-loop-holds Inv-loop μ-loop
+loop-holds c = (omega arith, refl)
+
+shared-slice-read-file-byte : tie.Need-shared-slice-read-file-byte Inv-loop μ-loop
+shared-slice-read-file-byte c = search needs
+
+file-byte-requires : tie.Need-file-byte-requires Inv-loop μ-loop
+file-byte-requires c κs = search needs
+
+returns : tie.Need-returns Inv-loop μ-loop
+returns c = (sym (front-stop isFileByte _ _ 0 (c .before .before .before .loop-test .taken) (sym (c .before .file-byte .ensures) ∙ not-true (c .before .file-byte .result) (c .if1 .taken))) ∙ c .before .before .before .before .loop .inv .1, omega arith)
+
+add-i : tie.Need-add-i Inv-loop μ-loop
+add-i c = search needs
+
+loop-less : tie.Need-loop-less Inv-loop μ-loop
+loop-less c = search needs
+
+loop-again : tie.Need-loop-again Inv-loop μ-loop
+loop-again c = (omega arith, front-more isFileByte _ _ 0 (c .before .before .before .loop-test .taken) (sym (c .before .file-byte .ensures) ∙ not-false (c .before .file-byte .result) (c .if1 .left)) ∙ c .before .before .before .before .loop .inv .1)
+
+returns-2 : tie.Need-returns-2 Inv-loop μ-loop
+returns-2 c = (sym (front-end isFileByte _ _ (c .loop-test .left)) ∙ c .before .loop .inv .1, omega arith)
+
+pub skip-file-bytes-spec : {M : Type 1} → statement M
+skip-file-bytes-spec =
+    tie.close
+    (tie.spec
+    Inv-loop
+    μ-loop
+    loop-holds
+    shared-slice-read-file-byte
+    file-byte-requires
+    returns
+    add-i
+    loop-less
+    loop-again
+    returns-2)

@@ -1,0 +1,32 @@
+-- The words in the code are the table's, by computing both, so the place found stands for the meaning.
+use mathlib.Core.Path.{ap, _∙_}
+use borrow.Author.Needs.{needs}
+use denote.Ref.{now}
+use Rattle.laws.specs.Bytes.{isBlank}
+use Rattle.words.specs.Words.{words, grown, onto}
+use Rattle.name_table.specs.Names.{namesOf}
+use Rattle.line_rules.specs.Fields.{namedWord, orGiven}
+use Rattle.line_rules.specs.Tables.{enables}
+use Rattle.records.specs.declared.Enable.{Enable}
+use Rattle.records.specs.declared.Enable.the-variants.{NoEnable}
+use mathlib.Core.Option.{Option}
+use Rattle.named_lines.proofs.TableLaws.{word-found}
+use Rattle.named_lines.proofs.lookups.enable_of.Statement.{statement}
+use Rattle.named_lines.proofs.lookups.enable_of.Tie as tie
+
+slice-aggregate-word-in : tie.Need-slice-aggregate-word-in
+slice-aggregate-word-in c = search needs
+
+word-in-requires : tie.Need-word-in-requires
+word-in-requires c κs = search needs
+
+enable-at-requires : tie.Need-enable-at-requires
+enable-at-requires c κs = search needs
+
+returns : tie.Need-returns
+unfolding words grown onto isBlank namesOf enables
+returns c = c .enable-at .ensures ∙ ap (λ (o : Option Enable). orGiven o NoEnable) (word-found enables (namedWord (now (c .before .before .before .before .args .w))) _ (c .before .word-in .ensures))
+
+pub enable-of-spec : {M : Type 1} → statement M
+enable-of-spec =
+    tie.close (tie.spec slice-aggregate-word-in word-in-requires enable-at-requires returns)

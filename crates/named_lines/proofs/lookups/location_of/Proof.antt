@@ -1,0 +1,30 @@
+-- The words in the code are the table's, by computing both, so the place found stands for the meaning.
+use mathlib.Core.Path.{ap, _∙_}
+use borrow.Author.Needs.{needs}
+use denote.Ref.{now}
+use Rattle.laws.specs.Bytes.{isBlank}
+use Rattle.words.specs.Words.{words, grown, onto}
+use Rattle.name_table.specs.Names.{namesOf}
+use Rattle.line_rules.specs.Fields.{namedWord}
+use Rattle.line_rules.specs.Tables.{locations}
+use Rattle.named_lines.specs.Views.{asLocation}
+use Rattle.named_lines.proofs.TableLaws.{word-found}
+use Rattle.named_lines.proofs.lookups.location_of.Statement.{statement}
+use Rattle.named_lines.proofs.lookups.location_of.Tie as tie
+
+slice-aggregate-word-in : tie.Need-slice-aggregate-word-in
+slice-aggregate-word-in c = search needs
+
+word-in-requires : tie.Need-word-in-requires
+word-in-requires c κs = search needs
+
+location-at-requires : tie.Need-location-at-requires
+location-at-requires c κs = search needs
+
+returns : tie.Need-returns
+unfolding words grown onto isBlank namesOf locations
+returns c = c .location-at .ensures ∙ ap asLocation (word-found locations (namedWord (now (c .before .before .before .before .args .w))) _ (c .before .word-in .ensures))
+
+pub location-of-spec : {M : Type 1} → statement M
+location-of-spec =
+    tie.close (tie.spec slice-aggregate-word-in word-in-requires location-at-requires returns)

@@ -1,0 +1,32 @@
+-- The words in the code are the table's, by computing both, so the place found stands for the meaning.
+use mathlib.Core.Path.{ap, _∙_}
+use borrow.Author.Needs.{needs}
+use denote.Ref.{now}
+use Rattle.laws.specs.Bytes.{isBlank}
+use Rattle.words.specs.Words.{words, grown, onto}
+use Rattle.name_table.specs.Names.{namesOf}
+use Rattle.line_rules.specs.Fields.{namedWord, orGiven}
+use Rattle.line_rules.specs.Tables.{polarities}
+use Rattle.records.specs.declared.Polarity.{Polarity}
+use Rattle.records.specs.declared.Polarity.the-variants.{NoPolarity}
+use mathlib.Core.Option.{Option}
+use Rattle.named_lines.proofs.TableLaws.{word-found}
+use Rattle.named_lines.proofs.lookups.polarity_of.Statement.{statement}
+use Rattle.named_lines.proofs.lookups.polarity_of.Tie as tie
+
+slice-aggregate-word-in : tie.Need-slice-aggregate-word-in
+slice-aggregate-word-in c = search needs
+
+word-in-requires : tie.Need-word-in-requires
+word-in-requires c κs = search needs
+
+polarity-at-requires : tie.Need-polarity-at-requires
+polarity-at-requires c κs = search needs
+
+returns : tie.Need-returns
+unfolding words grown onto isBlank namesOf polarities
+returns c = c .polarity-at .ensures ∙ ap (λ (o : Option Polarity). orGiven o NoPolarity) (word-found polarities (namedWord (now (c .before .before .before .before .args .w))) _ (c .before .word-in .ensures))
+
+pub polarity-of-spec : {M : Type 1} → statement M
+polarity-of-spec =
+    tie.close (tie.spec slice-aggregate-word-in word-in-requires polarity-at-requires returns)

@@ -1,0 +1,165 @@
+// A line's name, and the word behind a name, looked up in document 01's lists. A list stands in one byte string, a blank between.
+ghost use mathlib.Core.Path.{_≡_};
+ghost use Rattle.words.specs.Words.{words};
+ghost use Rattle.name_table.specs.Names.{meaningOf};
+ghost use Rattle.line_rules.specs.Fields.{lineAt, namedWord, wordMeaning, orGiven};
+ghost use Rattle.line_rules.specs.Tables.{componentLines, packageLines, modelLines, rampLines, fixtures, locations, modelTypes, polarities, enables};
+ghost use Rattle.records.specs.declared.Polarity.the-variants.{NoPolarity};
+ghost use Rattle.records.specs.declared.Enable.the-variants.{NoEnable};
+ghost use Rattle.named_lines.specs.Views.{placeIn, asLocation, asType};
+use crate::LocationRead;
+use crate::TypeRead;
+use crate::WordRead;
+use crate::lines::named_in;
+use crate::lines::named_word;
+use name_table::Found;
+use records::Enable;
+use records::Location;
+use records::ModelType;
+use records::Polarity;
+
+// A component's first lines.
+pub fn component_line(w: &[u8]) -> Found
+    ensures { λ r. ⌜ r ≡ lineAt componentLines (now (w .entry)) ⌝ }
+{
+    named_in(w, b"Si_location Timing_location")
+}
+
+// A package's lines.
+pub fn package_line(w: &[u8]) -> Found
+    ensures { λ r. ⌜ r ≡ lineAt packageLines (now (w .entry)) ⌝ }
+{
+    named_in(w, b"R_pkg L_pkg C_pkg")
+}
+
+// A model's first lines.
+pub fn model_line(w: &[u8]) -> Found
+    ensures { λ r. ⌜ r ≡ lineAt modelLines (now (w .entry)) ⌝ }
+{
+    named_in(
+        w,
+        b"Model_type Polarity Enable C_comp Vinl Vinh Vmeas Cref Rref Vref",
+    )
+}
+
+// A ramp's lines.
+pub fn ramp_line(w: &[u8]) -> Found
+    ensures { λ r. ⌜ r ≡ lineAt rampLines (now (w .entry)) ⌝ }
+{
+    named_in(w, b"dV/dt_r dV/dt_f R_load")
+}
+
+// A waveform's lines before its rows.
+pub fn fixture_line(w: &[u8]) -> Found
+    ensures { λ r. ⌜ r ≡ lineAt fixtures (now (w .entry)) ⌝ }
+{
+    named_in(
+        w,
+        b"R_fixture V_fixture V_fixture_min V_fixture_max C_fixture L_fixture R_dut L_dut C_dut",
+    )
+}
+
+// The place of the word behind a line's name in a table of words.
+fn word_in(w: &[u8], table: &[u8]) -> Found
+    ensures { λ r. ⌜ r ≡ placeIn (namedWord (now (w .entry))) (words (now (table .entry))) ⌝ }
+{
+    match named_word(w) {
+        WordRead::One { start, end } => name_table::place(&w[start..end], table),
+        WordRead::NoWord => Found::Nothing,
+    }
+}
+
+fn location_at(found: Found) -> LocationRead
+    ensures { λ r. ⌜ r ≡ asLocation (meaningOf locations found) ⌝ }
+{
+    let Found::At(k) = found else {
+        return LocationRead::NoLocation;
+    };
+    match k {
+        0 => LocationRead::Located(Location::AtPin),
+        1 => LocationRead::Located(Location::AtDie),
+        _ => LocationRead::NoLocation,
+    }
+}
+
+// The word of Si_location and Timing_location.
+pub fn location_of(w: &[u8]) -> LocationRead
+    ensures { λ r. ⌜ r ≡ asLocation (wordMeaning locations (now (w .entry))) ⌝ }
+{
+    location_at(word_in(w, b"Pin Die"))
+}
+
+fn type_at(found: Found) -> TypeRead
+    ensures { λ r. ⌜ r ≡ asType (meaningOf modelTypes found) ⌝ }
+{
+    let Found::At(k) = found else {
+        return TypeRead::NoType;
+    };
+    match k {
+        0 => TypeRead::OfType(ModelType::Input),
+        1 => TypeRead::OfType(ModelType::Output),
+        2 => TypeRead::OfType(ModelType::InputOutput),
+        3 => TypeRead::OfType(ModelType::ThreeState),
+        4 => TypeRead::OfType(ModelType::OpenDrain),
+        5 => TypeRead::OfType(ModelType::InputOutputOpenDrain),
+        6 => TypeRead::OfType(ModelType::OpenSink),
+        7 => TypeRead::OfType(ModelType::InputOutputOpenSink),
+        8 => TypeRead::OfType(ModelType::OpenSource),
+        9 => TypeRead::OfType(ModelType::InputOutputOpenSource),
+        10 => TypeRead::OfType(ModelType::InputEcl),
+        11 => TypeRead::OfType(ModelType::OutputEcl),
+        12 => TypeRead::OfType(ModelType::InputOutputEcl),
+        13 => TypeRead::OfType(ModelType::ThreeStateEcl),
+        14 => TypeRead::OfType(ModelType::Terminator),
+        _ => TypeRead::NoType,
+    }
+}
+
+// The word of Model_type.
+pub fn type_of(w: &[u8]) -> TypeRead
+    ensures { λ r. ⌜ r ≡ asType (wordMeaning modelTypes (now (w .entry))) ⌝ }
+{
+    let names =
+        b"Input Output I/O 3-state Open_drain I/O_open_drain Open_sink I/O_open_sink Open_source I/O_open_source Input_ECL Output_ECL I/O_ECL 3-state_ECL Terminator";
+    type_at(word_in(w, names))
+}
+
+fn polarity_at(found: Found) -> Polarity
+    ensures { λ r. ⌜ r ≡ orGiven (meaningOf polarities found) NoPolarity ⌝ }
+{
+    let Found::At(k) = found else {
+        return Polarity::NoPolarity;
+    };
+    match k {
+        0 => Polarity::Inverting,
+        1 => Polarity::NonInverting,
+        _ => Polarity::NoPolarity,
+    }
+}
+
+// The word of Polarity.
+pub fn polarity_of(w: &[u8]) -> Polarity
+    ensures { λ r. ⌜ r ≡ orGiven (wordMeaning polarities (now (w .entry))) NoPolarity ⌝ }
+{
+    polarity_at(word_in(w, b"Inverting Non-Inverting"))
+}
+
+fn enable_at(found: Found) -> Enable
+    ensures { λ r. ⌜ r ≡ orGiven (meaningOf enables found) NoEnable ⌝ }
+{
+    let Found::At(k) = found else {
+        return Enable::NoEnable;
+    };
+    match k {
+        0 => Enable::ActiveHigh,
+        1 => Enable::ActiveLow,
+        _ => Enable::NoEnable,
+    }
+}
+
+// The word of Enable.
+pub fn enable_of(w: &[u8]) -> Enable
+    ensures { λ r. ⌜ r ≡ orGiven (wordMeaning enables (now (w .entry))) NoEnable ⌝ }
+{
+    enable_at(word_in(w, b"Active-High Active-Low"))
+}

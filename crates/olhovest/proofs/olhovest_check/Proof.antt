@@ -1,0 +1,38 @@
+-- By the verdict of `check`, at the lengths that the numbers give.
+use mathlib.Core.Path.{ap, _∙_}
+use borrow.Author.Needs.{needs}
+use denote.Ref.{now}
+use Rattle.rules.specs.Whole.{outcome}
+use Rattle.records.specs.declared.Lengths.{Lengths}
+use Rattle.file_answer.specs.Answered.{verdictOf}
+use Rattle.table_words.specs.Packed.{faultNumber, faultLine}
+use Rattle.olhovest.proofs.olhovest_check.Statement.{statement}
+use Rattle.olhovest.proofs.olhovest_check.Tie as tie
+use Rattle.olhovest.proofs.olhovest_check.Reads as reads
+use Rattle.olhovest.proofs.olhovest_check.Lts as lts
+use Rattle.file_answer.proofs.check.Reads as check-reads
+use Rattle.table_words.proofs.fault_line.Reads as fault-line-reads
+use Rattle.table_words.proofs.fault_number.Reads as fault-number-reads
+use Rattle.olhovest.proofs.lengths_of.Reads as lengths-of-reads
+
+lengths-of-requires : tie.Need-lengths-of-requires
+lengths-of-requires c κs = search needs
+
+check-requires : tie.Need-check-requires
+check-requires c κs = search needs
+
+fault-line-requires : tie.Need-fault-line-requires
+fault-line-requires c κs = search needs
+
+fault-number-requires : tie.Need-fault-number-requires
+fault-number-requires c κs = search needs
+
+returns : tie.Need-returns
+returns c =
+    let v = c .before .before .check .ensures ∙ ap (λ (l : Lengths). verdictOf (outcome l (now (c .before .before .before .before .before .args .src)))) (c .before .before .before .lengths-of .ensures) in
+    (c .fault-number .ensures ∙ ap faultNumber v, c .before .fault-line .ensures ∙ ap faultLine v)
+
+pub olhovest-check-spec : {M : Type 1} → statement M
+olhovest-check-spec =
+    tie.close
+    (tie.spec lengths-of-requires check-requires fault-line-requires fault-number-requires returns)

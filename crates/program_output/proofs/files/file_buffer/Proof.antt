@@ -1,0 +1,12 @@
+-- By computing.
+use mathlib.Core.Path.{refl}
+use Rattle.program_output.specs.Lent.{fileBuffer}
+use Rattle.program_output.proofs.files.file_buffer.Statement.{statement}
+use Rattle.program_output.proofs.files.file_buffer.Tie as tie
+
+returns : tie.Need-returns
+unfolding fileBuffer
+returns c = refl
+
+pub file-buffer-spec : {M : Type 1} → statement M
+file-buffer-spec = tie.close (tie.spec returns)

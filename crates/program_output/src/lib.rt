@@ -1,0 +1,225 @@
+// The dump of a shelf on standard output: the sections in file order, each with what is its own in other tables.
+ghost use mathlib.Core.Path.{_≡_};
+ghost use mathlib.Core.Bool.{_&&_};
+ghost use Prim.Native.Nat.{_-_, _≤_};
+ghost use lib.Dec.{ltb, leb};
+use program_tables::Shelf;
+use records::Choice;
+use records::Component;
+use records::Counts;
+use records::Model;
+use records::Pin;
+use records::Selector;
+use records::Span;
+use records::Table;
+use records::Waveform;
+
+pub mod files; // files.rt: the answer to a file
+pub mod listing; // listing.rt: the listing
+
+// Writes the first n bytes.
+pub fn put_out(out: &[u8], n: usize) {
+    if n <= out.len() {
+        io::write_all(1, &out[0..n]);
+    }
+}
+
+// Whether place i is one of a span's.
+pub fn holds(s: Span, i: usize) -> bool
+    ensures { λ r. ⌜ r ≡ leb (s .start) i && ltb (i - s .start) (s .count) ⌝ }
+{
+    if i < s.start {
+        return false;
+    }
+    i - s.start < s.count
+}
+
+fn print_pins(pins: [Pin; 512], span: Span) {
+    for i in 0..512 {
+        if holds(span, i) {
+            let mut out = io::buffer();
+            let n = dump_text::pin_line(&mut out, 0, pins[i]);
+            put_out(&out, n);
+        }
+    }
+}
+
+fn print_component(i: usize, c: Component, pins: [Pin; 512]) {
+    let mut out = io::buffer();
+    let n = dump_text::component_lines(&mut out, 0, i, c);
+    put_out(&out, n);
+    print_pins(pins, c.pins);
+}
+
+fn print_choices(choices: [Choice; 256], span: Span) {
+    for i in 0..256 {
+        if holds(span, i) {
+            let mut out = io::buffer();
+            let n = dump_text::choice_line(&mut out, 0, choices[i]);
+            put_out(&out, n);
+        }
+    }
+}
+
+fn print_selector(i: usize, s: Selector, choices: [Choice; 256]) {
+    let mut out = io::buffer();
+    let n = dump_text::selector_lines(&mut out, 0, i, s);
+    put_out(&out, n);
+    print_choices(choices, s.choices);
+}
+
+fn print_rows(rows: &[u64], span: Span) {
+    let n = rows.len() / 4;
+    for i in 0..n {
+        if holds(span, i) {
+            let mut out = io::buffer();
+            let n = dump_model_text::row_line(
+                &mut out,
+                0,
+                rows[4 * i],
+                rows[4 * i + 1],
+                rows[4 * i + 2],
+                rows[4 * i + 3],
+            );
+            put_out(&out, n);
+        }
+    }
+}
+
+fn print_table(name: &[u8], t: Table, rows: &[u64]) {
+    let mut out = io::buffer();
+    let n = dump_model_text::table_line(&mut out, 0, name, t);
+    put_out(&out, n);
+    print_rows(rows, t.rows);
+}
+
+fn print_waveforms(waveforms: [Waveform; 1024], span: Span, rows: &[u64]) {
+    for i in 0..1024 {
+        if holds(span, i) {
+            let w = waveforms[i];
+            let mut out = io::buffer();
+            let n = dump_model_text::waveform_lines(&mut out, 0, w);
+            put_out(&out, n);
+            print_rows(rows, w.rows);
+        }
+    }
+}
+
+fn print_model(i: usize, m: Model, waveforms: [Waveform; 1024], rows: &[u64]) {
+    let mut out = io::buffer();
+    let n = dump_model_text::model_lines(&mut out, 0, i, m);
+    put_out(&out, n);
+    print_table(b"Pulldown", m.pulldown, rows);
+    print_table(b"Pullup", m.pullup, rows);
+    print_table(b"GND_Clamp", m.ground, rows);
+    print_table(b"POWER_Clamp", m.power, rows);
+    let k = dump_model_text::ramp_lines(&mut out, 0, m.ramp);
+    put_out(&out, k);
+    let j = dump_model_text::waveforms_line(&mut out, 0, m);
+    put_out(&out, j);
+    print_waveforms(waveforms, m.waveforms, rows);
+}
+
+// ---- the section at place k of the file, in the table where it lies
+
+fn print_components(components: [Component; 8], n: usize, k: usize, pins: [Pin; 512]) {
+    for i in 0..8 {
+        let c = components[i];
+        if i < n {
+            if c.section == k {
+                print_component(i, c, pins);
+            }
+        }
+    }
+}
+
+fn print_selectors(selectors: [Selector; 32], n: usize, k: usize, choices: [Choice; 256]) {
+    for i in 0..32 {
+        let s = selectors[i];
+        if i < n {
+            if s.section == k {
+                print_selector(i, s, choices);
+            }
+        }
+    }
+}
+
+fn print_models(
+    models: [Model; 64],
+    n: usize,
+    k: usize,
+    waveforms: [Waveform; 1024],
+    rows: &[u64],
+) {
+    for i in 0..64 {
+        let m = models[i];
+        if i < n {
+            if m.section == k {
+                print_model(i, m, waveforms, rows);
+            }
+        }
+    }
+}
+
+fn at_most(a: usize, b: usize) -> usize
+    ensures { λ r. ⌜ r ≤ b ⌝ }
+{
+    if a < b {
+        return a;
+    }
+    b
+}
+
+// How many sections a file has.
+fn sections_in(c: Counts) -> usize {
+    at_most(c.components, 8) + at_most(c.selectors, 32) + at_most(c.models, 64)
+}
+
+// All sections: a file has at most 104.
+fn print_sections(
+    components: [Component; 8],
+    pins: [Pin; 512],
+    selectors: [Selector; 32],
+    choices: [Choice; 256],
+    models: [Model; 64],
+    waveforms: [Waveform; 1024],
+    rows: [u64; 32768],
+    c: Counts,
+) {
+    let n = sections_in(c);
+    for k in 0..104 {
+        if k < n {
+            print_components(components, c.components, k, pins);
+            print_selectors(selectors, c.selectors, k, choices);
+            print_models(models, c.models, k, waveforms, &rows);
+        }
+    }
+}
+
+// The dump of an accepted file.
+pub fn print_dump(t: Shelf) {
+    let a = t.answer;
+    let mut out = io::buffer();
+    let n = dump_text::accepted_line(&mut out, 0, a.counts);
+    let m = dump_text::header_lines(&mut out, n, a.header);
+    put_out(&out, m);
+    let components = t.components;
+    let pins = t.pins;
+    let selectors = t.selectors;
+    let choices = t.choices;
+    let models = t.models;
+    let waveforms = t.waveforms;
+    let rows = t.rows;
+    print_sections(
+        components,
+        pins,
+        selectors,
+        choices,
+        models,
+        waveforms,
+        rows,
+        a.counts,
+    );
+    let j = dump_text::end_line(&mut out, 0);
+    put_out(&out, j);
+}

@@ -1,0 +1,109 @@
+-- The tables of a program: blank at the limits of document 01, and as a file is read into them.
+use Prim.Native.Nat.{ℕ}
+use mathlib.Core.Bool.{false}
+use mathlib.Core.List.{List, []}
+use mathlib.Core.Option.{none}
+use lib.ListN.{replicate}
+use Rattle.decimal.specs.declared.Cell.the-variants.{Missing}
+use Rattle.records.specs.declared.Edge.the-variants.{Rising}
+use Rattle.rules.specs.Reading.{noCells}
+use Rattle.layout.specs.Laid.{rangeLaid, rampLaid}
+use Rattle.records.specs.Stored.{nameLaid, wordsLaid}
+use Rattle.records.specs.declared.Location.the-variants.{AtPin}
+use Rattle.records.specs.declared.Polarity.the-variants.{NoPolarity}
+use Rattle.records.specs.declared.Enable.the-variants.{NoEnable}
+use Rattle.records.specs.declared.ModelType.the-variants.{Input}
+use Rattle.records.specs.declared.Span.{Span}
+use Rattle.records.specs.declared.Table.{Table}
+use Rattle.records.specs.declared.Component.{Component}
+use Rattle.records.specs.declared.Pin.{Pin}
+use Rattle.records.specs.declared.Selector.{Selector}
+use Rattle.records.specs.declared.Choice.{Choice}
+use Rattle.records.specs.declared.Model.{Model}
+use Rattle.records.specs.declared.Waveform.{Waveform}
+use Rattle.records.specs.declared.Answer.{Answer}
+use Rattle.reader.specs.Promise.{Read}
+use Rattle.program_tables.specs.declared.Shelf.{Shelf}
+
+-- ---- blank records
+abbrev pub noSpan : Span
+noSpan = record { start = 0; count = 0 }
+
+abbrev pub noTable : Table
+noTable = record { given = false; rows = noSpan }
+
+abbrev pub blankComponent : Component
+blankComponent =
+    record { section = 0; name = nameLaid []; si = AtPin; timing = AtPin; manufacturer = nameLaid []; resistance = noCells; inductance = noCells; capacitance = noCells; pins = noSpan }
+
+abbrev pub blankPin : Pin
+blankPin = record { name = nameLaid []; signal = nameLaid []; model = nameLaid []; resistance = Missing; inductance = Missing; capacitance = Missing }
+
+abbrev pub blankSelector : Selector
+blankSelector = record { section = 0; name = nameLaid []; choices = noSpan }
+
+abbrev pub blankChoice : Choice
+blankChoice = record { model = nameLaid []; description = wordsLaid [] }
+
+abbrev pub blankModel : Model
+blankModel =
+    record {
+      section = 0;
+      name = nameLaid [];
+      kind = Input;
+      polarity = NoPolarity;
+      enable = NoEnable;
+      comp = noCells;
+      vinl = Missing;
+      vinh = Missing;
+      vmeas = Missing;
+      cref = Missing;
+      rref = Missing;
+      vref = Missing;
+      voltage = noCells;
+      temperature = rangeLaid none;
+      pulldown = noTable;
+      pullup = noTable;
+      ground = noTable;
+      power = noTable;
+      ramp = rampLaid none;
+      waveforms = noSpan;
+    }
+
+abbrev pub blankWaveform : Waveform
+blankWaveform =
+    record { edge = Rising; rfixture = Missing; vfixture = Missing; vmin = Missing; vmax = Missing; cfixture = Missing; lfixture = Missing; rdut = Missing; ldut = Missing; cdut = Missing; rows = noSpan }
+
+-- ---- blank tables, as long as a file may want them
+unfoldable pub blankComponents : List Component
+blankComponents = replicate 8 blankComponent
+
+unfoldable pub blankPins : List Pin
+blankPins = replicate 512 blankPin
+
+unfoldable pub blankSelectors : List Selector
+blankSelectors = replicate 32 blankSelector
+
+unfoldable pub blankChoices : List Choice
+blankChoices = replicate 256 blankChoice
+
+unfoldable pub blankModels : List Model
+blankModels = replicate 64 blankModel
+
+unfoldable pub blankWaveforms : List Waveform
+blankWaveforms = replicate 1024 blankWaveform
+
+-- 8192 rows, each of four words
+unfoldable pub blankRows : List ℕ
+blankRows = replicate 32768 0
+
+-- ---- the shelf
+abbrev pub shelfOf : Answer → List Component → List Pin → List Selector → List Choice → List Model → List Waveform → List ℕ → Shelf
+shelfOf a cs ps ss hs ms ws rs =
+    record { answer = a; components = cs; pins = ps; selectors = ss; choices = hs; models = ms; waveforms = ws; rows = rs }
+
+-- the shelf t holds the answer to file s, and the blank tables as the reading of s leaves them
+abbrev pub Loaded : List ℕ → Shelf → Type 0
+Loaded s t =
+    Read s blankComponents blankPins blankSelectors blankChoices blankModels blankWaveforms blankRows (t .answer) (t .components) (t .pins) (t .selectors) (t .choices) (t .models) (t .waveforms)
+    (t .rows)

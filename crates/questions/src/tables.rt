@@ -1,0 +1,79 @@
+// The model chosen for a pin in tables held by value, at document 01's bounds: for programs, which lend nothing.
+ghost use mathlib.Core.Path.{_≡_};
+ghost use lib.ListN.{take};
+ghost use Rattle.questions.specs.Chosen.{modelPlace, selectorRow, nameAt, nameFor, modelFor};
+use crate::Chosen;
+use crate::choose;
+use crate::nothing_yet;
+use crate::place_of;
+use crate::seeking;
+use crate::there;
+use crate::try_model;
+use crate::try_selector;
+use name_table::Found;
+use records::Choice;
+use records::Counts;
+use records::Model;
+use records::Name;
+use records::Pin;
+use records::Selector;
+
+fn find_model(models: [Model; 64], used: usize, name: Name) -> Found
+    ensures { λ r. ⌜ r ≡ modelPlace (take used models) name ⌝ }
+{
+    let mut f = nothing_yet();
+    let mut i = 0;
+    while seeking(f, i, used, 64) {
+        let m = models[i];
+        f = try_model(m, name, i);
+        i += 1;
+    }
+    f
+}
+
+fn find_row(selectors: [Selector; 32], used: usize, name: Name) -> Found
+    ensures { λ r. ⌜ r ≡ selectorRow (take used selectors) name ⌝ }
+{
+    let mut f = nothing_yet();
+    let mut i = 0;
+    while seeking(f, i, used, 32) {
+        let s = selectors[i];
+        f = try_selector(s, name, i);
+        i += 1;
+    }
+    f
+}
+
+fn name_in(choices: [Choice; 256], used: usize, row: Found, name: Name) -> Name
+    ensures { λ r. ⌜ r ≡ nameAt (take used choices) row name ⌝ }
+{
+    if there(row, used, 256) {
+        let k = place_of(row);
+        let c = choices[k];
+        return c.model;
+    }
+    name
+}
+
+// As `name_for`.
+pub fn name_for(selectors: [Selector; 32], choices: [Choice; 256], counts: Counts, pin: Pin) -> Name
+    ensures { λ r. ⌜ r ≡ nameFor (take (counts .selectors) selectors) (take (counts .choices) choices) pin ⌝ }
+{
+    let row = find_row(selectors, counts.selectors, pin.model);
+    name_in(choices, counts.choices, row, pin.model)
+}
+
+// As `model_for`.
+pub fn model_for(
+    selectors: [Selector; 32],
+    choices: [Choice; 256],
+    models: [Model; 64],
+    counts: Counts,
+    pin: Pin,
+) -> Chosen
+    ensures { λ r. ⌜ r ≡ modelFor (take (counts .selectors) selectors) (take (counts .choices) choices) (take (counts .models) models) pin ⌝ }
+{
+    let name = name_for(selectors, choices, counts, pin);
+    let f = find_model(models, counts.models, name);
+    choose(pin, f)
+}

@@ -1,0 +1,96 @@
+-- By eight bytes at a time.
+use borrow.Author.Needs.{needs}
+use Rattle.record_words.proofs.tables.text_words.Statement.{statement}
+use Rattle.record_words.proofs.tables.text_words.Tie as tie
+use Rattle.record_words.proofs.tables.text_words.Reads as reads
+use Rattle.record_words.proofs.tables.text_words.Lts as lts
+use Rattle.record_words.proofs.values.eights_at.Reads as eights-at-reads
+
+slice-aggregate-eights-at : tie.Need-slice-aggregate-eights-at
+slice-aggregate-eights-at c = search needs
+
+eights-at-requires : tie.Need-eights-at-requires
+eights-at-requires c κs = search needs
+
+slice-aggregate-eights-at-2 : tie.Need-slice-aggregate-eights-at-2
+slice-aggregate-eights-at-2 c = search needs
+
+eights-at-requires-2 : tie.Need-eights-at-requires-2
+eights-at-requires-2 c κs = search needs
+
+array-read-t12 : tie.Need-array-read-t12
+array-read-t12 c = search needs
+
+array-read-t15 : tie.Need-array-read-t15
+array-read-t15 c = search needs
+
+array-read-t18 : tie.Need-array-read-t18
+array-read-t18 c = search needs
+
+array-read-t21 : tie.Need-array-read-t21
+array-read-t21 c = search needs
+
+array-read-t24 : tie.Need-array-read-t24
+array-read-t24 c = search needs
+
+array-read-t27 : tie.Need-array-read-t27
+array-read-t27 c = search needs
+
+array-read-t30 : tie.Need-array-read-t30
+array-read-t30 c = search needs
+
+array-read-t33 : tie.Need-array-read-t33
+array-read-t33 c = search needs
+
+array-read-t36 : tie.Need-array-read-t36
+array-read-t36 c = search needs
+
+array-read-t39 : tie.Need-array-read-t39
+array-read-t39 c = search needs
+
+array-read-t42 : tie.Need-array-read-t42
+array-read-t42 c = search needs
+
+array-read-t45 : tie.Need-array-read-t45
+array-read-t45 c = search needs
+
+array-read-t48 : tie.Need-array-read-t48
+array-read-t48 c = search needs
+
+array-read-t51 : tie.Need-array-read-t51
+array-read-t51 c = search needs
+
+array-read-t54 : tie.Need-array-read-t54
+array-read-t54 c = search needs
+
+cast-t55 : tie.Need-cast-t55
+cast-t55 c = search needs
+
+returns : tie.Need-returns
+returns c = rw (c .before .before .before .eights-at .ensures, c .before .eights-at2 .ensures)
+
+pub text-words-spec : {M : Type 1} → statement M
+text-words-spec =
+    tie.close
+    (tie.spec
+    slice-aggregate-eights-at
+    eights-at-requires
+    slice-aggregate-eights-at-2
+    eights-at-requires-2
+    array-read-t12
+    array-read-t15
+    array-read-t18
+    array-read-t21
+    array-read-t24
+    array-read-t27
+    array-read-t30
+    array-read-t33
+    array-read-t36
+    array-read-t39
+    array-read-t42
+    array-read-t45
+    array-read-t48
+    array-read-t51
+    array-read-t54
+    cast-t55
+    returns)

@@ -1,0 +1,105 @@
+-- Records as words, in the order of their fields.
+use Prim.Native.Nat.{ℕ}
+use mathlib.Core.List.{List, [], _∷_, _++_, flatMap}
+use Rattle.decimal.specs.Decimal.{wordOf}
+use Rattle.records.specs.declared.Triple.{Triple}
+use Rattle.records.specs.declared.RampTriple.{RampTriple}
+use Rattle.records.specs.declared.Span.{Span}
+use Rattle.records.specs.declared.Table.{Table}
+use Rattle.records.specs.declared.Name.{Name}
+use Rattle.records.specs.declared.Words.{Words}
+use Rattle.records.specs.declared.Component.{Component}
+use Rattle.records.specs.declared.Pin.{Pin}
+use Rattle.records.specs.declared.Selector.{Selector}
+use Rattle.records.specs.declared.Choice.{Choice}
+use Rattle.records.specs.declared.Model.{Model}
+use Rattle.records.specs.declared.Waveform.{Waveform}
+use Rattle.record_words.specs.Values.{eightAt, flagNumber, locationNumber, polarityNumber, enableNumber, edgeNumber, typeNumber, dividendWord, divisorWord}
+
+-- ---- parts of records
+
+-- 40 bytes and their count: 6 words
+abbrev pub nameWords : Name → List ℕ
+nameWords n = eightAt (n .bytes) 0 ∷ eightAt (n .bytes) 8 ∷ eightAt (n .bytes) 16 ∷ eightAt (n .bytes) 24 ∷ eightAt (n .bytes) 32 ∷ n .len ∷ []
+
+-- 120 bytes and their count: 16 words
+abbrev pub textWords : Words → List ℕ
+textWords w =
+    eightAt (w .bytes) 0
+    ∷ eightAt (w .bytes) 8
+    ∷ eightAt (w .bytes) 16
+    ∷ eightAt (w .bytes) 24
+    ∷ eightAt (w .bytes) 32
+    ∷ eightAt (w .bytes) 40
+    ∷ eightAt (w .bytes) 48
+    ∷ eightAt (w .bytes) 56
+    ∷ eightAt (w .bytes) 64
+    ∷ eightAt (w .bytes) 72
+    ∷ eightAt (w .bytes) 80
+    ∷ eightAt (w .bytes) 88
+    ∷ eightAt (w .bytes) 96
+    ∷ eightAt (w .bytes) 104
+    ∷ eightAt (w .bytes) 112
+    ∷ w .len
+    ∷ []
+
+abbrev pub spanWords : Span → List ℕ
+spanWords p = p .start ∷ p .count ∷ []
+
+abbrev pub tripleWords : Triple → List ℕ
+tripleWords t = wordOf (t .typ) ∷ wordOf (t .min) ∷ wordOf (t .max) ∷ []
+
+abbrev pub slopeWords : RampTriple → List ℕ
+slopeWords t =
+    dividendWord (t .typ) ∷ divisorWord (t .typ) ∷ dividendWord (t .min) ∷ divisorWord (t .min) ∷ dividendWord (t .max) ∷ divisorWord (t .max) ∷ []
+
+abbrev pub tableWords : Table → List ℕ
+tableWords t = flagNumber (t .given) ∷ spanWords (t .rows)
+
+-- ---- records: 26, 21, 9, 22, 54 and 12 words
+
+abbrev pub componentWords : Component → List ℕ
+componentWords c =
+    (c .section ∷ nameWords (c .name))
+    ++ (locationNumber (c .si) ∷ locationNumber (c .timing) ∷ nameWords (c .manufacturer))
+    ++ tripleWords (c .resistance)
+    ++ tripleWords (c .inductance)
+    ++ tripleWords (c .capacitance)
+    ++ spanWords (c .pins)
+
+abbrev pub pinWords : Pin → List ℕ
+pinWords p =
+    nameWords (p .name) ++ nameWords (p .signal) ++ nameWords (p .model) ++ (wordOf (p .resistance) ∷ wordOf (p .inductance) ∷ wordOf (p .capacitance) ∷ [])
+
+abbrev pub selectorWords : Selector → List ℕ
+selectorWords s = (s .section ∷ nameWords (s .name)) ++ spanWords (s .choices)
+
+abbrev pub choiceWords : Choice → List ℕ
+choiceWords c = nameWords (c .model) ++ textWords (c .description)
+
+abbrev pub modelFirst : Model → List ℕ
+modelFirst m =
+    (m .section ∷ nameWords (m .name))
+    ++ (typeNumber (m .kind) ∷ polarityNumber (m .polarity) ∷ enableNumber (m .enable) ∷ tripleWords (m .comp))
+    ++ (wordOf (m .vinl) ∷ wordOf (m .vinh) ∷ wordOf (m .vmeas) ∷ wordOf (m .cref) ∷ wordOf (m .rref) ∷ wordOf (m .vref) ∷ [])
+
+abbrev pub modelTables : Model → List ℕ
+modelTables m =
+    tripleWords (m .voltage)
+    ++ (flagNumber (m .temperature .given) ∷ tripleWords (m .temperature .cells))
+    ++ tableWords (m .pulldown)
+    ++ tableWords (m .pullup)
+    ++ tableWords (m .ground)
+    ++ tableWords (m .power)
+
+abbrev pub modelRamp : Model → List ℕ
+modelRamp m =
+    (flagNumber (m .ramp .given) ∷ slopeWords (m .ramp .rise)) ++ slopeWords (m .ramp .fall) ++ (wordOf (m .ramp .load) ∷ spanWords (m .waveforms))
+
+abbrev pub modelWords : Model → List ℕ
+modelWords m = modelFirst m ++ modelTables m ++ modelRamp m
+
+abbrev pub waveformWords : Waveform → List ℕ
+waveformWords w =
+    (edgeNumber (w .edge) ∷ wordOf (w .rfixture) ∷ wordOf (w .vfixture) ∷ wordOf (w .vmin) ∷ wordOf (w .vmax) ∷ [])
+    ++ (wordOf (w .cfixture) ∷ wordOf (w .lfixture) ∷ wordOf (w .rdut) ∷ wordOf (w .ldut) ∷ wordOf (w .cdut) ∷ spanWords (w .rows))

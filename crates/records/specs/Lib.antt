@@ -1,0 +1,2 @@
+-- How texts and rows lie in records and tables.
+pub mod Stored

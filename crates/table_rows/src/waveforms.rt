@@ -1,0 +1,142 @@
+// The record of a waveform: its edge, the numbers of its named lines, and where its rows lie.
+ghost use mathlib.Core.Bool.{cond};
+ghost use mathlib.Core.Path.{_≡_};
+ghost use Prim.Native.Nat.{_^_, _<_};
+ghost use lib.Dec.{eqb};
+ghost use Rattle.cut_lines.specs.Texts.{rest};
+ghost use Rattle.cut_lines.specs.Cursors.{Placed};
+ghost use Rattle.rules.specs.Model.{numberIs};
+ghost use Rattle.rules.specs.Reading.{under, waveformIn};
+ghost use Rattle.layout.specs.Laid.{waveformLaid};
+ghost use Rattle.table_rows.specs.Waveforms.{bareWaveform, withFixture, withPoint, withLine};
+use crate::rows::named_line;
+use cut_lines::Cursor;
+use decimal::Cell;
+use decimal::NumberRead;
+use line_rules::RowRead;
+use lines_under::LineNext;
+use name_table::Found;
+use records::Edge;
+use records::Span;
+use records::Waveform;
+
+pub fn number_is(r: NumberRead) -> Cell
+    ensures { λ c. ⌜ c ≡ numberIs r ⌝ }
+{
+    match r {
+        NumberRead::Value(d) => Cell::Number(d),
+        NumberRead::Wrong(_) => Cell::Missing,
+    }
+}
+
+// The cell at a place, after a number came to place n.
+fn cell_at(place: usize, n: usize, number: Cell, before: Cell) -> Cell
+    ensures { λ c. ⌜ c ≡ cond (eqb n place) number before ⌝ }
+{
+    if n == place {
+        return number;
+    }
+    before
+}
+
+// Before its first line.
+fn bare_waveform(edge: Edge, row: usize) -> Waveform
+    ensures { λ r. ⌜ r ≡ bareWaveform edge row ⌝ }
+{
+    Waveform {
+        edge: edge,
+        rfixture: Cell::Missing,
+        vfixture: Cell::Missing,
+        vmin: Cell::Missing,
+        vmax: Cell::Missing,
+        cfixture: Cell::Missing,
+        lfixture: Cell::Missing,
+        rdut: Cell::Missing,
+        ldut: Cell::Missing,
+        cdut: Cell::Missing,
+        rows: Span {
+            start: row,
+            count: 0,
+        },
+    }
+}
+
+// A number goes to its place.
+fn with_fixture(x: Waveform, number: Cell, found: Found) -> Waveform
+    ensures { λ r. ⌜ r ≡ withFixture x number found ⌝ }
+{
+    let Found::At(n) = found else {
+        return x;
+    };
+    let edge = x.edge;
+    let rfixture = x.rfixture;
+    let vfixture = x.vfixture;
+    let vmin = x.vmin;
+    let vmax = x.vmax;
+    let cfixture = x.cfixture;
+    let lfixture = x.lfixture;
+    let rdut = x.rdut;
+    let ldut = x.ldut;
+    let cdut = x.cdut;
+    let rows = x.rows;
+    Waveform {
+        edge: edge,
+        rfixture: cell_at(0, n, number, rfixture),
+        vfixture: cell_at(1, n, number, vfixture),
+        vmin: cell_at(2, n, number, vmin),
+        vmax: cell_at(3, n, number, vmax),
+        cfixture: cell_at(4, n, number, cfixture),
+        lfixture: cell_at(5, n, number, lfixture),
+        rdut: cell_at(6, n, number, rdut),
+        ldut: cell_at(7, n, number, ldut),
+        cdut: cell_at(8, n, number, cdut),
+        rows: rows,
+    }
+}
+
+// A row more, if the line is one.
+fn with_point(x: Waveform, read: RowRead) -> Waveform
+    requires { ⌜ x .rows .count < 2 ^ 63 ⌝ }
+    ensures { λ r. ⌜ r ≡ withPoint x read ⌝ }
+{
+    match read {
+        RowRead::Line(_) => {
+            let mut next = x;
+            let count = x.rows.count + 1;
+            next.rows.count = count;
+            next
+        }
+        RowRead::Amiss(_) => x,
+    }
+}
+
+fn with_line(x: Waveform, w: &[u8]) -> Waveform
+    requires { ⌜ x .rows .count < 2 ^ 63 ⌝ }
+    ensures { λ r. ⌜ r ≡ withLine x (now (w .entry)) ⌝ }
+{
+    if named_line(w) {
+        let number = number_is(named_lines::assigned_number(w));
+        return with_fixture(x, number, named_lines::fixture_line(w));
+    }
+    with_point(x, line_cells::row_of(w))
+}
+
+// The waveform whose lines begin at a cursor; its first row's place is row.
+pub fn waveform_of(src: &[u8], c: Cursor, edge: Edge, row: usize) -> Waveform
+    requires { ⌜ Placed (now src) c ⌝ }
+    ensures { λ r. ⌜ r ≡ waveformLaid row (waveformIn edge (under (rest (now (src .entry)) c))) ⌝ }
+{
+    let mut x = bare_waveform(edge, row);
+    let mut d = c;
+    loop {
+        match lines_under::next_line(src, d) {
+            LineNext::Line { start, end, next } => {
+                d = next;
+                x = with_line(x, &src[start..end]);
+            }
+            LineNext::NoLine { next } => {
+                return x;
+            }
+        }
+    }
+}

@@ -1,0 +1,78 @@
+-- Each table by its fill.
+use borrow.Author.Needs.{needs}
+use Rattle.table_words.proofs.fill_tables.Statement.{statement}
+use Rattle.table_words.proofs.fill_tables.Tie as tie
+use Rattle.table_words.proofs.fill_tables.Reads as reads
+use Rattle.table_words.proofs.fill_tables.Lts as lts
+use Rattle.table_words.proofs.fills.fill_choices.Reads as fill-choices-reads
+use Rattle.table_words.proofs.fills.fill_components.Reads as fill-components-reads
+use Rattle.table_words.proofs.fills.fill_models.Reads as fill-models-reads
+use Rattle.table_words.proofs.fills.fill_pins.Reads as fill-pins-reads
+use Rattle.table_words.proofs.fills.fill_selectors.Reads as fill-selectors-reads
+use Rattle.table_words.proofs.fills.fill_waveforms.Reads as fill-waveforms-reads
+use Rattle.from_notes.proofs.fill_rows.Reads as fill-rows-reads
+
+fill-components-requires : tie.Need-fill-components-requires
+fill-components-requires c κs = search needs
+
+fill-pins-requires : tie.Need-fill-pins-requires
+fill-pins-requires c κs = search needs
+
+fill-selectors-requires : tie.Need-fill-selectors-requires
+fill-selectors-requires c κs = search needs
+
+fill-choices-requires : tie.Need-fill-choices-requires
+fill-choices-requires c κs = search needs
+
+fill-models-requires : tie.Need-fill-models-requires
+fill-models-requires c κs = search needs
+
+fill-waveforms-requires : tie.Need-fill-waveforms-requires
+fill-waveforms-requires c κs = search needs
+
+fill-rows-requires : tie.Need-fill-rows-requires
+fill-rows-requires c κs = c .before .before .before .before .before .before .before .before .before .before .before .before .before .before .before .before .before .before .before .before .before .before .before .before .before .before .before .before .before .before .before .before .before .before .pre .rows
+
+same-length : tie.Need-same-length
+same-length c = search needs
+
+same-length-2 : tie.Need-same-length-2
+same-length-2 c = search needs
+
+same-length-3 : tie.Need-same-length-3
+same-length-3 c = search needs
+
+same-length-4 : tie.Need-same-length-4
+same-length-4 c = search needs
+
+same-length-5 : tie.Need-same-length-5
+same-length-5 c = search needs
+
+same-length-6 : tie.Need-same-length-6
+same-length-6 c = search needs
+
+same-length-7 : tie.Need-same-length-7
+same-length-7 c = search needs
+
+returns : tie.Need-returns
+returns c = rw (c .before .before .before .before .before .before .before .before .before .before .before .before .before .before .before .before .before .before .before .before .before .before .before .before .before .before .fill-components .ensures, c .before .before .before .before .before .before .before .before .before .before .before .before .before .before .before .before .before .before .before .before .before .before .fill-pins .ensures, c .before .before .before .before .before .before .before .before .before .before .before .before .before .before .before .before .before .before .fill-selectors .ensures, c .before .before .before .before .before .before .before .before .before .before .before .before .before .before .fill-choices .ensures, c .before .before .before .before .before .before .before .before .before .before .fill-models .ensures, c .before .before .before .before .before .before .fill-waveforms .ensures, c .before .before .fill-rows .ensures)
+
+pub fill-tables-spec : {M : Type 1} → statement M
+fill-tables-spec =
+    tie.close
+    (tie.spec
+    fill-components-requires
+    fill-pins-requires
+    fill-selectors-requires
+    fill-choices-requires
+    fill-models-requires
+    fill-waveforms-requires
+    fill-rows-requires
+    same-length
+    same-length-2
+    same-length-3
+    same-length-4
+    same-length-5
+    same-length-6
+    same-length-7
+    returns)

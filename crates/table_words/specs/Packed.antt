@@ -1,0 +1,71 @@
+-- The answer and the tables in words.
+use Prim.Native.Nat.{ℕ, zero, suc, _*_, _≤_}
+use mathlib.Core.List.{List, [], _∷_, _++_}
+use lib.ListN.{length}
+use Rattle.records.specs.declared.Fault.{Fault}
+use Rattle.records.specs.declared.Counts.{Counts}
+use Rattle.records.specs.Stored.{stored, over}
+use Rattle.from_notes.specs.Made.{componentAt, pinAt, selectorAt, choiceAt, modelAt, waveformAt, rowsAt}
+use Rattle.records.specs.declared.Verdict.{Verdict}
+use Rattle.records.specs.declared.Verdict.the-variants.{Accepted, Refused}
+use Rattle.records.specs.declared.Answer.{Answer}
+use Rattle.record_words.specs.Records.{textWords, componentWords, pinWords, selectorWords, choiceWords, modelWords, waveformWords}
+
+-- the words of the first n records
+unfoldable pub wordsTo : (ℕ → List ℕ) → ℕ → List ℕ
+wordsTo f zero = []
+wordsTo f (suc n) = wordsTo f n ++ f n
+
+-- ---- the answer
+
+abbrev pub faultNumber : Verdict → ℕ
+faultNumber Accepted = 0
+faultNumber (Refused f) = f .number
+
+abbrev pub faultLine : Verdict → ℕ
+faultLine Accepted = 0
+faultLine (Refused f) = f .line
+
+abbrev pub countWords : ℕ → Counts → List ℕ
+countWords k c = k ∷ c .components ∷ c .pins ∷ c .selectors ∷ c .choices ∷ c .models ∷ c .waveforms ∷ c .rows ∷ []
+
+-- 40 words
+abbrev pub answerWords : Answer → List ℕ
+answerWords a = countWords (faultLine (a .verdict)) (a .counts) ++ textWords (a .header .name) ++ textWords (a .header .revision)
+
+-- ---- the lent tables
+
+pub record Lent : Type 0 where
+  pub components : List ℕ
+  pub pins : List ℕ
+  pub selectors : List ℕ
+  pub choices : List ℕ
+  pub models : List ℕ
+  pub waveforms : List ℕ
+  pub rows : List ℕ
+
+abbrev pub lent : List ℕ → List ℕ → List ℕ → List ℕ → List ℕ → List ℕ → List ℕ → Lent
+lent cs ps ss hs ms ws rs = record { components = cs; pins = ps; selectors = ss; choices = hs; models = ms; waveforms = ws; rows = rs }
+
+-- ---- what the fills ask, and leave of what is noted: ns are the notes, and o says how many records they hold
+
+pub record Room (s ns : List ℕ) (o : Counts) (t : Lent) : Type 0 where
+  pub components : 26 * o .components ≤ length (t .components)
+  pub pins : 21 * o .pins ≤ length (t .pins)
+  pub selectors : 9 * o .selectors ≤ length (t .selectors)
+  pub choices : 22 * o .choices ≤ length (t .choices)
+  pub models : 54 * o .models ≤ length (t .models)
+  pub waveforms : 12 * o .waveforms ≤ length (t .waveforms)
+  pub rows : length (stored (rowsAt s ns (o .models))) ≤ length (t .rows)
+
+abbrev pub filled : List ℕ → List ℕ → Counts → Lent → Lent
+filled s ns o t =
+    record {
+      components = over (t .components) (wordsTo (λ k. componentWords (componentAt s ns k)) (o .components));
+      pins = over (t .pins) (wordsTo (λ k. pinWords (pinAt s ns k)) (o .pins));
+      selectors = over (t .selectors) (wordsTo (λ k. selectorWords (selectorAt s ns k)) (o .selectors));
+      choices = over (t .choices) (wordsTo (λ k. choiceWords (choiceAt s ns k)) (o .choices));
+      models = over (t .models) (wordsTo (λ k. modelWords (modelAt s ns k)) (o .models));
+      waveforms = over (t .waveforms) (wordsTo (λ k. waveformWords (waveformAt s ns k)) (o .waveforms));
+      rows = over (t .rows) (stored (rowsAt s ns (o .models)));
+    }

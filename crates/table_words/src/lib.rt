@@ -1,0 +1,77 @@
+// The answer and the tables as words, for C: a record is as many words as its fields need, and a table has its records one after the other.
+ghost use mathlib.Core.Path.{_≡_};
+ghost use Rattle.table_words.specs.Packed.{faultNumber, faultLine, countWords, answerWords, lent, Room, filled};
+use records::Answer;
+use records::Counts;
+use records::Verdict;
+
+pub mod fills; // fills.rt: tables as words
+
+pub fn fault_number(v: Verdict) -> u8
+    ensures { λ r. ⌜ r ≡ faultNumber v ⌝ }
+{
+    match v {
+        Verdict::Accepted => 0,
+        Verdict::Refused(f) => f.number,
+    }
+}
+
+pub fn fault_line(v: Verdict) -> u64
+    ensures { λ r. ⌜ r ≡ faultLine v ⌝ }
+{
+    match v {
+        Verdict::Accepted => 0,
+        Verdict::Refused(f) => f.line,
+    }
+}
+
+fn count_words(line: u64, c: Counts) -> [u64; 8]
+    ensures { λ r. ⌜ r ≡ countWords line c ⌝ }
+{
+    [
+        line,
+        c.components as u64,
+        c.pins as u64,
+        c.selectors as u64,
+        c.choices as u64,
+        c.models as u64,
+        c.waveforms as u64,
+        c.rows as u64,
+    ]
+}
+
+pub fn put_answer(answer: &mut [u64; 40], a: Answer)
+    ensures { λ _. ⌜ now (answer .exit) ≡ answerWords a ⌝ }
+{
+    let v = a.verdict;
+    let head = count_words(fault_line(v), a.counts);
+    let name = record_words::tables::text_words(a.header.name);
+    let revision = record_words::tables::text_words(a.header.revision);
+    fills::put(answer, 0, &head);
+    fills::put(answer, 8, &name);
+    fills::put(answer, 24, &revision);
+}
+
+pub fn fill_tables(
+    src: &[u8],
+    notes: &[u32],
+    o: Counts,
+    components: &mut [u64],
+    pins: &mut [u64],
+    selectors: &mut [u64],
+    choices: &mut [u64],
+    models: &mut [u64],
+    waveforms: &mut [u64],
+    rows: &mut [u64],
+)
+    requires { ⌜ Room (now src) (now notes) o (lent (now components) (now pins) (now selectors) (now choices) (now models) (now waveforms) (now rows)) ⌝ }
+    ensures { λ _. ⌜ lent (now (components .exit)) (now (pins .exit)) (now (selectors .exit)) (now (choices .exit)) (now (models .exit)) (now (waveforms .exit)) (now (rows .exit)) ≡ filled (now (src .entry)) (now (notes .entry)) o (lent (now (components .entry)) (now (pins .entry)) (now (selectors .entry)) (now (choices .entry)) (now (models .entry)) (now (waveforms .entry)) (now (rows .entry))) ⌝ }
+{
+    fills::fill_components(components, src, notes, o.components);
+    fills::fill_pins(pins, src, notes, o.pins);
+    fills::fill_selectors(selectors, src, notes, o.selectors);
+    fills::fill_choices(choices, src, notes, o.choices);
+    fills::fill_models(models, src, notes, o.models);
+    fills::fill_waveforms(waveforms, src, notes, o.waveforms);
+    from_notes::fill_rows(rows, src, notes, o.models);
+}

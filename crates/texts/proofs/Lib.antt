@@ -1,4 +1,0 @@
--- Laws on texts, cited by the crates above.
-
-pub mod ChangeLaws
-pub mod Laws

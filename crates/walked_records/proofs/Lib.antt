@@ -1,0 +1,2 @@
+-- The records of the tables, for the walks.
+pub mod Tables

@@ -1,3 +1,0 @@
-// Values and records as words, for C: a record is as many words as its fields need.
-pub mod values; // values.rt: values as words
-pub mod records; // records.rt: records as words
