@@ -7,7 +7,7 @@ cd "$(dirname "$0")/.." || exit 2
 cases=${CASES:-$PWD/../shared/cases}
 out=target/bench
 library || exit 2
-build "$out/agree" bench/agree.c second/reader.c && build "$out/example" bench/example.c || exit 2
+build "$out/agree" bench/agree.c second/reader.c && build "$out/example" c/example.c || exit 2
 python3 bench/files.py "$out/files" || exit 2
 mkdir -p "$out/made"
 PYTHONPATH=compare python3 - "$out/made" <<'END' || exit 2

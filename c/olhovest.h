@@ -2,7 +2,7 @@
  * Olhovest for C: one IBIS 5.0 file read into tables that the caller lends, or the fault that stands first.
  *
  * Every function is proved to do what is said here, for any bytes and tables of any length. The archive is for x86-64
- * Linux; `rt staticlib exported` writes it to target/staticlib/libexported.a. It calls nothing but memcpy and memset,
+ * Linux; `rt staticlib olhovest` writes it to target/staticlib/libolhovest.a. It calls nothing but memcpy and memset,
  * allocates nothing, keeps nothing between calls, and needs less than 64 KiB of stack.
  */
 #ifndef OLHOVEST_H
