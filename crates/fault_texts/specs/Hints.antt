@@ -1,16 +1,13 @@
 -- A hint for each fault of document 01: what to look at.
 use Prim.Native.Nat.{ℕ}
 use mathlib.Core.List.{List, [], _∷_}
-use lib.ListN.{getD}
 use Rattle.laws.specs.Bytes.{bytes}
-
-abbrev pub noHint : List ℕ
-noHint = bytes "Look at the line and at the keyword above it."
+use Rattle.fault_texts.specs.Texts.{textOf}
 
 -- by the fault's number; the first is for every number that no fault has
 unfoldable pub hints : List (List ℕ)
 hints =
-    noHint
+    bytes "Look at the line and at the keyword above it."
     ∷ bytes "Leave out comments, or split the file."
     ∷ bytes "Allowed are tab, the characters from space to ~, and a CR before the line's end only; look for accents and for UTF-16."
     ∷ bytes "A tab counts as one, and a comment counts too: break the line."
@@ -34,4 +31,4 @@ hints =
     ∷ []
 
 unfoldable pub hintOf : ℕ → List ℕ
-hintOf n = getD hints n noHint
+hintOf n = textOf hints n

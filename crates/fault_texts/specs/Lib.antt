@@ -1,3 +1,4 @@
 -- Sentences and hints for faults.
 pub mod Hints
 pub mod Sentences
+pub mod Texts

@@ -1,16 +1,13 @@
 -- The sentence for each fault of document 01.
 use Prim.Native.Nat.{ℕ}
 use mathlib.Core.List.{List, [], _∷_}
-use lib.ListN.{getD}
 use Rattle.laws.specs.Bytes.{bytes}
-
-abbrev pub noSentence : List ℕ
-noSentence = bytes "No fault has this number."
+use Rattle.fault_texts.specs.Texts.{textOf}
 
 -- by the fault's number; the first is for every number that no fault has
 unfoldable pub sentences : List (List ℕ)
 sentences =
-    noSentence
+    bytes "No fault has this number."
     ∷ bytes "The file has more than 65,536 bytes."
     ∷ bytes "The line has a forbidden byte."
     ∷ bytes "The line is longer than 120 characters."
@@ -34,4 +31,4 @@ sentences =
     ∷ []
 
 unfoldable pub sentenceOf : ℕ → List ℕ
-sentenceOf n = getD sentences n noSentence
+sentenceOf n = textOf sentences n

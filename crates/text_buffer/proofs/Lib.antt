@@ -1,3 +1,4 @@
--- Laws of what is written and of numbers as texts.
+-- Laws of what is written, of numbers as texts, and of texts in tables.
 pub mod Laws
 pub mod NumeralLaws
+pub mod PartLaws

@@ -1,4 +1,5 @@
--- What is written where, numbers as texts, and lines.
+-- What is written where, numbers as texts, lines, and texts in tables.
 pub mod Lines
 pub mod Numerals
+pub mod Parts
 pub mod Put

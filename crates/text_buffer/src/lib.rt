@@ -3,6 +3,7 @@
 pub mod bytes; // bytes.rt: bytes, names and texts
 pub mod listing; // listing.rt: the listing's lines
 pub mod numbers; // numbers.rt: numbers, decimals and cells
+pub mod tables; // tables.rt: texts that stand in one table of bytes
 
 pub use bytes::put_byte;
 pub use bytes::put_bytes;
@@ -19,3 +20,5 @@ pub use numbers::put_cell;
 pub use numbers::put_decimal;
 pub use numbers::put_number;
 pub use numbers::put_plain_decimal;
+pub use tables::part_at;
+pub use tables::put_part;

@@ -1,0 +1,2 @@
+-- Laws of a fault's text.
+pub mod Laws
