@@ -1,9 +1,11 @@
 -- The dump of models: their own lines, tables, ramps, waveforms and rows.
 use Prim.Native.Nat.{ℕ}
-use mathlib.Core.List.{List, _++_}
+use mathlib.Core.List.{List, [], _++_}
 use mathlib.Core.Bool.{cond}
+use lib.ListN.{getD}
 use Rattle.laws.specs.Bytes.{bytes}
 use Rattle.decimal.specs.Decimal.{cellIn}
+use Rattle.records.specs.Types.{typeNumber}
 use Rattle.records.specs.declared.Edge.{Edge}
 use Rattle.records.specs.declared.Edge.the-variants.{Rising, Falling}
 use Rattle.records.specs.declared.Polarity.{Polarity}
@@ -12,35 +14,23 @@ use Rattle.records.specs.declared.Enable.{Enable}
 use Rattle.records.specs.declared.Enable.the-variants.{NoEnable, ActiveHigh, ActiveLow}
 use Rattle.records.specs.declared.Model.{Model}
 use Rattle.records.specs.declared.ModelType.{ModelType}
-use Rattle.records.specs.declared.ModelType.the-variants.{Input, Output, InputOutput, ThreeState, OpenDrain, InputOutputOpenDrain, OpenSink, InputOutputOpenSink, OpenSource, InputOutputOpenSource, InputEcl, OutputEcl, InputOutputEcl, ThreeStateEcl, Terminator}
 use Rattle.records.specs.declared.RampCell.{RampCell}
 use Rattle.records.specs.declared.RampCell.the-variants.{Ratio, Absent}
 use Rattle.records.specs.declared.RampTable.{RampTable}
 use Rattle.records.specs.declared.RampTriple.{RampTriple}
 use Rattle.records.specs.declared.Table.{Table}
 use Rattle.records.specs.declared.Waveform.{Waveform}
+use Rattle.name_table.specs.Names.{namesOf}
+use Rattle.line_rules.specs.Tables.{modelTypes}
 use Rattle.text_buffer.specs.Lines.{countText, nextCell}
 use Rattle.text_buffer.specs.Numerals.{decimalText}
 use Rattle.dump_text.specs.Labelled.{cellLine, tripleLine, countLine, sectionLine, rangeLine}
 
 -- ---- a model's own lines
 
-abbrev pub typeText : ModelType → List ℕ
-typeText Input = bytes "Input"
-typeText Output = bytes "Output"
-typeText InputOutput = bytes "I/O"
-typeText ThreeState = bytes "3-state"
-typeText OpenDrain = bytes "Open_drain"
-typeText InputOutputOpenDrain = bytes "I/O_open_drain"
-typeText OpenSink = bytes "Open_sink"
-typeText InputOutputOpenSink = bytes "I/O_open_sink"
-typeText OpenSource = bytes "Open_source"
-typeText InputOutputOpenSource = bytes "I/O_open_source"
-typeText InputEcl = bytes "Input_ECL"
-typeText OutputEcl = bytes "Output_ECL"
-typeText InputOutputEcl = bytes "I/O_ECL"
-typeText ThreeStateEcl = bytes "3-state_ECL"
-typeText Terminator = bytes "Terminator"
+-- as document 01 spells it: the name at its place in document 01's list
+unfoldable pub typeText : ModelType → List ℕ
+typeText k = getD (namesOf modelTypes) (typeNumber k) []
 
 unfoldable pub typeLine : ModelType → List ℕ
 typeLine k = bytes "MODEL_TYPE " ++ typeText k ++ bytes "\n"

@@ -17,33 +17,21 @@ use records::RampTable;
 use records::RampTriple;
 use records::Table;
 use records::Waveform;
+use records::type_number;
 use text_buffer::put_byte;
 use text_buffer::put_bytes;
 use text_buffer::put_count;
 use text_buffer::put_decimal;
 use text_buffer::put_next_cell;
+use text_buffer::put_part;
 
 // A model type as document 01 spells it.
 pub fn put_type(out: &mut [u8], at: usize, kind: ModelType) -> usize
     ensures { λ r. ⌜ Put (now (out .entry)) (now (out .exit)) at (typeText kind) r ⌝ }
 {
-    match kind {
-        ModelType::Input => put_bytes(out, at, b"Input"),
-        ModelType::Output => put_bytes(out, at, b"Output"),
-        ModelType::InputOutput => put_bytes(out, at, b"I/O"),
-        ModelType::ThreeState => put_bytes(out, at, b"3-state"),
-        ModelType::OpenDrain => put_bytes(out, at, b"Open_drain"),
-        ModelType::InputOutputOpenDrain => put_bytes(out, at, b"I/O_open_drain"),
-        ModelType::OpenSink => put_bytes(out, at, b"Open_sink"),
-        ModelType::InputOutputOpenSink => put_bytes(out, at, b"I/O_open_sink"),
-        ModelType::OpenSource => put_bytes(out, at, b"Open_source"),
-        ModelType::InputOutputOpenSource => put_bytes(out, at, b"I/O_open_source"),
-        ModelType::InputEcl => put_bytes(out, at, b"Input_ECL"),
-        ModelType::OutputEcl => put_bytes(out, at, b"Output_ECL"),
-        ModelType::InputOutputEcl => put_bytes(out, at, b"I/O_ECL"),
-        ModelType::ThreeStateEcl => put_bytes(out, at, b"3-state_ECL"),
-        ModelType::Terminator => put_bytes(out, at, b"Terminator"),
-    }
+    let names = b"Input Output I/O 3-state Open_drain I/O_open_drain Open_sink I/O_open_sink \
+        Open_source I/O_open_source Input_ECL Output_ECL I/O_ECL 3-state_ECL Terminator";
+    put_part(out, at, names, b' ', type_number(kind) as usize)
 }
 
 fn type_line(out: &mut [u8], at: usize, kind: ModelType) -> usize

@@ -2,6 +2,7 @@
 use Prim.Native.Nat.{ℕ}
 use mathlib.Core.List.{List, [], _∷_, _++_, flatMap}
 use Rattle.decimal.specs.Decimal.{wordOf}
+use Rattle.records.specs.Types.{typeNumber}
 use Rattle.records.specs.declared.Triple.{Triple}
 use Rattle.records.specs.declared.RampTriple.{RampTriple}
 use Rattle.records.specs.declared.Span.{Span}
@@ -14,7 +15,7 @@ use Rattle.records.specs.declared.Selector.{Selector}
 use Rattle.records.specs.declared.Choice.{Choice}
 use Rattle.records.specs.declared.Model.{Model}
 use Rattle.records.specs.declared.Waveform.{Waveform}
-use Rattle.record_words.specs.Values.{eightAt, flagNumber, locationNumber, polarityNumber, enableNumber, edgeNumber, typeNumber, dividendWord, divisorWord}
+use Rattle.record_words.specs.Values.{eightAt, flagNumber, locationNumber, polarityNumber, enableNumber, edgeNumber, dividendWord, divisorWord}
 
 -- ---- parts of records
 

@@ -13,8 +13,6 @@ use Rattle.records.specs.declared.Polarity.{Polarity}
 use Rattle.records.specs.declared.Polarity.the-variants.{NoPolarity, Inverting, NonInverting}
 use Rattle.records.specs.declared.Enable.{Enable}
 use Rattle.records.specs.declared.Enable.the-variants.{NoEnable, ActiveHigh, ActiveLow}
-use Rattle.records.specs.declared.ModelType.{ModelType}
-use Rattle.records.specs.declared.ModelType.the-variants.{Input, Output, InputOutput, ThreeState, OpenDrain, InputOutputOpenDrain, OpenSink, InputOutputOpenSink, OpenSource, InputOutputOpenSource, InputEcl, OutputEcl, InputOutputEcl, ThreeStateEcl, Terminator}
 use Rattle.records.specs.declared.RampCell.{RampCell}
 use Rattle.records.specs.declared.RampCell.the-variants.{Ratio, Absent}
 use Rattle.records.specs.declared.RampTriple.{RampTriple}
@@ -62,23 +60,6 @@ enableNumber ActiveLow = 2
 abbrev pub edgeNumber : Edge → ℕ
 edgeNumber Rising = 0
 edgeNumber Falling = 1
-
-abbrev pub typeNumber : ModelType → ℕ
-typeNumber Input = 0
-typeNumber Output = 1
-typeNumber InputOutput = 2
-typeNumber ThreeState = 3
-typeNumber OpenDrain = 4
-typeNumber InputOutputOpenDrain = 5
-typeNumber OpenSink = 6
-typeNumber InputOutputOpenSink = 7
-typeNumber OpenSource = 8
-typeNumber InputOutputOpenSource = 9
-typeNumber InputEcl = 10
-typeNumber OutputEcl = 11
-typeNumber InputOutputEcl = 12
-typeNumber ThreeStateEcl = 13
-typeNumber Terminator = 14
 
 -- ---- a slope: its dividend and its divisor
 

@@ -12,7 +12,6 @@ use crate::values::max_word;
 use crate::values::min_word;
 use crate::values::polarity_number;
 use crate::values::typ_word;
-use crate::values::type_number;
 use decimal::word_of;
 use records::Choice;
 use records::Component;
@@ -25,6 +24,7 @@ use records::Table;
 use records::Triple;
 use records::Waveform;
 use records::Words;
+use records::type_number;
 
 // ---- parts of records
 

@@ -2,13 +2,12 @@
 ghost use mathlib.Core.Path.{_≡_};
 ghost use Prim.Native.Nat.{_+_, _*_, _≤_, _<_};
 ghost use lib.ListN.{getD};
-ghost use Rattle.record_words.specs.Values.{twoAt, fourAt, eightAt, eightsAt, locationNumber, polarityNumber, enableNumber, edgeNumber, typeNumber, flagNumber, dividendWord, divisorWord};
+ghost use Rattle.record_words.specs.Values.{twoAt, fourAt, eightAt, eightsAt, locationNumber, polarityNumber, enableNumber, edgeNumber, flagNumber, dividendWord, divisorWord};
 ghost use Rattle.decimal.specs.Decimal.{wordOf};
 use decimal::Cell;
 use records::Edge;
 use records::Enable;
 use records::Location;
-use records::ModelType;
 use records::Polarity;
 use records::RampCell;
 use records::Triple;
@@ -155,27 +154,5 @@ pub(crate) fn edge_number(e: Edge) -> u64
     match e {
         Edge::Rising => 0,
         Edge::Falling => 1,
-    }
-}
-
-pub(crate) fn type_number(t: ModelType) -> u64
-    ensures { λ r. ⌜ r ≡ typeNumber t ⌝ }
-{
-    match t {
-        ModelType::Input => 0,
-        ModelType::Output => 1,
-        ModelType::InputOutput => 2,
-        ModelType::ThreeState => 3,
-        ModelType::OpenDrain => 4,
-        ModelType::InputOutputOpenDrain => 5,
-        ModelType::OpenSink => 6,
-        ModelType::InputOutputOpenSink => 7,
-        ModelType::OpenSource => 8,
-        ModelType::InputOutputOpenSource => 9,
-        ModelType::InputEcl => 10,
-        ModelType::OutputEcl => 11,
-        ModelType::InputOutputEcl => 12,
-        ModelType::ThreeStateEcl => 13,
-        ModelType::Terminator => 14,
     }
 }

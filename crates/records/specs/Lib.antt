@@ -1,2 +1,3 @@
--- How texts and rows lie in records and tables.
+-- How texts and rows lie in records and tables, and model types by number.
 pub mod Stored
+pub mod Types

@@ -1,4 +1,7 @@
-// The types that everybody needs: the records of the tables, the counts, what is named in a file, and a fault with its line. No code.
+// The types that everybody needs: the records of the tables, the counts, what is named in a file, and a fault with its line; and model
+// types by number.
+ghost use mathlib.Core.Path.{_≡_};
+ghost use Rattle.records.specs.Types.{typeNumber};
 use decimal::Cell;
 use decimal::Decimal;
 
@@ -117,6 +120,29 @@ pub enum ModelType {
     InputOutputEcl,
     ThreeStateEcl,
     Terminator,
+}
+
+// A model type's place in document 01's list, from 0.
+pub fn type_number(t: ModelType) -> u64
+    ensures { λ r. ⌜ r ≡ typeNumber t ⌝ }
+{
+    match t {
+        ModelType::Input => 0,
+        ModelType::Output => 1,
+        ModelType::InputOutput => 2,
+        ModelType::ThreeState => 3,
+        ModelType::OpenDrain => 4,
+        ModelType::InputOutputOpenDrain => 5,
+        ModelType::OpenSink => 6,
+        ModelType::InputOutputOpenSink => 7,
+        ModelType::OpenSource => 8,
+        ModelType::InputOutputOpenSource => 9,
+        ModelType::InputEcl => 10,
+        ModelType::OutputEcl => 11,
+        ModelType::InputOutputEcl => 12,
+        ModelType::ThreeStateEcl => 13,
+        ModelType::Terminator => 14,
+    }
 }
 
 // Polarity and Enable may be left out.

@@ -9,7 +9,6 @@ use Rattle.record_words.proofs.tables.name_words.Reads as name-words-re
 use Rattle.record_words.proofs.tables.triple_words.Reads as triple-words-reads
 use Rattle.record_words.proofs.values.enable_number.Reads as enable-number-reads
 use Rattle.record_words.proofs.values.polarity_number.Reads as polarity-number-reads
-use Rattle.record_words.proofs.values.type_number.Reads as type-number-reads
 
 name-words-requires : tie.Need-name-words-requires
 name-words-requires c κs = search needs

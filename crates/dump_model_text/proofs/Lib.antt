@@ -1,0 +1,2 @@
+-- What the dump's definitions must keep.
+pub mod Sanity
