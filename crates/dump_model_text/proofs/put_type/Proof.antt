@@ -1,4 +1,4 @@
--- The table's names are the list's, by computing both; the type's number is its place there.
+-- The table's names are the list's, by computing both: where `returns` is refused, they differ. The type's number is its place there.
 use Prim.Native.Nat.{ℕ}
 use mathlib.Core.Path.{ap}
 use mathlib.Core.List.{[]}

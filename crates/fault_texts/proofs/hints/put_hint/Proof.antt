@@ -1,4 +1,4 @@
--- The table's lines are the list, by computing both.
+-- The table's lines are the list, by computing both: where `returns` is refused, they differ.
 use borrow.Author.Needs.{needs}
 use Rattle.laws.specs.Lists.{other}
 use Rattle.words.specs.Words.{onto}
