@@ -1,21 +1,18 @@
--- Lists of named lines: a line more, and the end.
+-- Lists of named lines, as folds over the lines.
 use Prim.Native.Nat.{ℕ}
-use mathlib.Core.Path.{_≡_, refl, sym, ap, _∙_}
+use mathlib.Core.Path.{_≡_, refl}
 use mathlib.Core.List.{List}
 use mathlib.Core.Option.{Option, none, some}
-use Rattle.laws.specs.Lists.{part}
-use Rattle.cut_lines.specs.Texts.{rest}
-use Rattle.cut_lines.specs.declared.Cursor.{Cursor}
 use Rattle.line_rules.specs.Fields.{lineAt, wordMeaning, namedCells, orGiven}
 use Rattle.line_rules.specs.Tables.{componentLines, locations, packageLines}
-use Rattle.rules.specs.Reading.{tripleIs, atPlace, under, locationsIn, packageIn}
+use Rattle.rules.specs.Reading.{tripleIs, atPlace, locationsIn, packageIn}
 use Rattle.records.specs.declared.Triple.{Triple}
 use Rattle.records.specs.declared.Location.{Location}
 use Rattle.records.specs.declared.Location.the-variants.{AtPin}
 use Rattle.named_lines.specs.Views.{asLocation}
 use Rattle.named_lines.specs.declared.LocationRead.{LocationRead}
 use Rattle.named_lines.specs.declared.LocationRead.the-variants.{Located, NoLocation}
-use Rattle.lines_under.specs.Under.{LineIs, NoLineIs}
+use Rattle.lines_under.proofs.Folds.{Folds}
 
 -- ---- the word behind a location's name, as the code answers it
 
@@ -27,24 +24,12 @@ pub location-or : (o : Option Location) → locationIs (asLocation o) ≡ orGive
 location-or none = refl
 location-or (some l) = refl
 
--- ---- one line more
+-- ---- a line more
 
-module _ {s : List ℕ} {d n : Cursor} {a e : ℕ} (l : LineIs s d a e n) where
-  pub package-more : (x y : List Triple) → y ≡ atPlace x (tripleIs (namedCells (part a e s))) (lineAt packageLines (part a e s))
-      → packageIn x (under (rest s d)) ≡ packageIn y (under (rest s n))
-  unfolding packageIn
-  package-more x y h = ap (packageIn x) (l .more) ∙ ap (λ (z : List Triple). packageIn z (under (rest s n))) (sym h)
+pub package-fold : Folds packageIn (λ (x : List Triple) (w : List ℕ). atPlace x (tripleIs (namedCells w)) (lineAt packageLines w))
+unfolding packageIn
+package-fold = record { none = λ x. refl; more = λ x w ws. refl }
 
-  pub locations-more : (x y : List Location) → y ≡ atPlace x (orGiven (wordMeaning locations (part a e s)) AtPin) (lineAt componentLines (part a e s))
-      → locationsIn x (under (rest s d)) ≡ locationsIn y (under (rest s n))
-  unfolding locationsIn
-  locations-more x y h = ap (locationsIn x) (l .more) ∙ ap (λ (z : List Location). locationsIn z (under (rest s n))) (sym h)
-
-module _ {s : List ℕ} {d n : Cursor} (l : NoLineIs s d n) where
-  pub package-end : (x : List Triple) → packageIn x (under (rest s d)) ≡ x
-  unfolding packageIn
-  package-end x = ap (packageIn x) (l .more)
-
-  pub locations-end : (x : List Location) → locationsIn x (under (rest s d)) ≡ x
-  unfolding locationsIn
-  locations-end x = ap (locationsIn x) (l .more)
+pub location-fold : Folds locationsIn (λ (x : List Location) (w : List ℕ). atPlace x (orGiven (wordMeaning locations w) AtPin) (lineAt componentLines w))
+unfolding locationsIn
+location-fold = record { none = λ x. refl; more = λ x w ws. refl }

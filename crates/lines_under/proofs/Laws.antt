@@ -5,7 +5,6 @@ use mathlib.Core.List.{List, [], _∷_}
 use mathlib.Core.Bool.{Bool, true, false, cond, not, _&&_}
 use mathlib.Core.Option.{Option, none, some}
 use native.Mathlib.Omega.{arith}
-use lib.ListN.{length}
 use borrow.Author.Tests.{not-true}
 use Rattle.laws.specs.Lists.{front, after, part}
 use Rattle.laws.proofs.Tests.{by-test, cond-yes, cond-no, cond-map, and-right}
@@ -21,7 +20,7 @@ use Rattle.line_rules.specs.Fields.{isBracketed, isSome}
 use Rattle.rules.specs.Reading.{isLine, plainLines, under, keyIn, keyAt, isEnd, isWithin}
 use Rattle.laws.proofs.Fronts.{front-front}
 use Rattle.keywords.proofs.Arguments.{key-within, key-argument}
-use Rattle.lines_under.specs.Under.{keyRead, isKeyless, LineIs, StopsAt, NoLineIs, LinesAre, KeyIs}
+use Rattle.lines_under.specs.Under.{keyRead, isKeyless, LineIs, StopsAt, NoLineIs, KeyIs}
 
 -- ---- the lines under a keyword, by the first text
 
@@ -126,21 +125,6 @@ module _ {s : List ℕ} {c d : Cursor} (p : Passed s c d) where
   passed-out t =
       let u = under-end (t .more) in
       record { more = p .lines ∙ u .0; stops = along-here (p .along) (u .1) }
-
--- the same with n lines counted: each has a byte
-pub record Counted (s : List ℕ) (c d : Cursor) (n : ℕ) : Type 0 where
-  pub along : Along s c d
-  pub count : length (under (rest s c)) ≡ n + length (under (rest s d))
-  pub bounded : c .at + n ≤ d .at
-
-module _ {s : List ℕ} {c d : Cursor} {n : ℕ} (p : Counted s c d n) where
-  pub counted-line : {a e : ℕ} {m : Cursor} → LineIs s d a e m → Counted s c m (n + 1)
-  counted-line l =
-      record { along = along-line (p .along) l; count = omega (arith, p .count, ap length (l .more)); bounded = omega (arith, p .bounded, l .rises) }
-
-  pub counted-end : {m : Cursor} → NoLineIs s d m → LinesAre s c (record { count = n; next = m })
-  counted-end l =
-      record { count = omega (arith, p .count, ap length (l .more)); stops = along-end (p .along) l; bounded = omega (arith, p .bounded, l .stops .rises) }
 
 -- ---- a search for the next keyword that has come to d
 

@@ -1,2 +1,3 @@
 -- Laws on what stands under a keyword, cited by the crates above.
 pub mod Laws
+pub mod Folds

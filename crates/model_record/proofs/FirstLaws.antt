@@ -2,7 +2,7 @@
 use Prim.Native.Nat.{ℕ, _+_, _-_, _≤_, _<_}
 use mathlib.Core.Path.{_≡_, refl, sym, ap, _∙_}
 use mathlib.Core.List.{List, [], _∷_}
-use mathlib.Core.Bool.{Bool, true, false, cond}
+use mathlib.Core.Bool.{cond}
 use mathlib.Core.Option.{Option, none, some}
 use native.Mathlib.Omega.{arith}
 use lib.ListN.{length, set, getD, length-set}
@@ -15,14 +15,15 @@ use Rattle.decimal.specs.declared.Cell.the-variants.{Number, Missing}
 use Rattle.name_table.specs.Names.{meaning}
 use Rattle.name_table.specs.declared.Found.{Found}
 use Rattle.name_table.specs.declared.Found.the-variants.{At, Nothing}
-use Rattle.line_rules.specs.Fields.{lineAt, namedWord, meaningIn, wordMeaning, assignedNumber, orGiven}
-use Rattle.line_rules.specs.Tables.{modelLines, modelTypes, polarities, enables}
+use Rattle.line_rules.specs.Fields.{lineAt, namedWord, meaningIn, assignedNumber, orGiven}
+use Rattle.line_rules.specs.Tables.{modelLines, modelTypes}
 use Rattle.rules.specs.Model.{orNothing, isInput, numberIs, orElse, defaultVinl, defaultVinh}
 use Rattle.rules.specs.Reading.{FirstIs, onFirstLine, firstIn, withDefaults, bareFirst}
 use Rattle.records.specs.declared.ModelType.{ModelType}
 use Rattle.records.specs.declared.ModelType.the-variants.{Terminator}
 use Rattle.named_lines.specs.Views.{asType}
 use Rattle.named_lines.specs.declared.TypeRead.the-variants.{OfType, NoType}
+use Rattle.lines_under.proofs.Folds.{Folds}
 use Rattle.table_rows.proofs.Places.{set-at}
 use Rattle.model_record.specs.Firsts.{firstLaid, bareLines, withFirstLine, firstsFrom, defaulted}
 use Rattle.model_record.specs.declared.FirstLines.{FirstLines}
@@ -133,13 +134,9 @@ first-laid ls = ap defaulted (firsts-laid ls bareFirst refl) ∙ defaults-laid (
 
 -- ---- a line more
 
-pub firsts-more : (f : FirstLines) (w : List ℕ) (ws : List (List ℕ)) → firstsFrom f (w ∷ ws) ≡ firstsFrom (withFirstLine f w (lineAt modelLines w)) ws
+pub first-fold : Folds firstsFrom (λ (f : FirstLines) (w : List ℕ). withFirstLine f w (lineAt modelLines w))
 unfolding firstsFrom
-firsts-more f w ws = refl
-
-pub firsts-none : (f : FirstLines) → firstsFrom f [] ≡ f
-unfolding firstsFrom
-firsts-none f = refl
+first-fold = record { none = λ f. refl; more = λ f w ws. refl }
 
 -- ---- what the code answers of a word
 

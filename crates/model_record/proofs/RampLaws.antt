@@ -18,6 +18,7 @@ use Rattle.rules.specs.Reading.{noSlopes, slopesAre, RampIs, onRampLine, rampIn
 use Rattle.layout.specs.Laid.{rampLaid}
 use Rattle.records.specs.declared.RampTriple.{RampTriple}
 use Rattle.records.specs.declared.RampTable.{RampTable}
+use Rattle.lines_under.proofs.Folds.{Folds}
 use Rattle.table_rows.proofs.Places.{set-at}
 use Rattle.model_record.specs.Ramps.{bareRamp, withRampLine, rampFrom}
 
@@ -63,10 +64,6 @@ ramp-laid ls = ramp-from ls (record { slopes = replicate 2 noSlopes; load = Miss
 
 -- ---- a line more
 
-pub ramp-more : (r : RampTable) (w : List ℕ) (ws : List (List ℕ)) → rampFrom r (w ∷ ws) ≡ rampFrom (withRampLine r w (lineAt rampLines w)) ws
+pub ramp-fold : Folds rampFrom (λ (r : RampTable) (w : List ℕ). withRampLine r w (lineAt rampLines w))
 unfolding rampFrom
-ramp-more r w ws = refl
-
-pub ramp-none : (r : RampTable) → rampFrom r [] ≡ r
-unfolding rampFrom
-ramp-none r = refl
+ramp-fold = record { none = λ r. refl; more = λ r w ws. refl }

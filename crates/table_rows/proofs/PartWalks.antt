@@ -1,11 +1,11 @@
 -- The search for a model's next keyword, and its rows written table by table.
 use Prim.Native.Nat.{ℕ, _+_, _-_, _≤_}
 use mathlib.Core.Path.{_≡_, refl, sym, ap, _∙_}
-use mathlib.Core.List.{List, [], _++_}
+use mathlib.Core.List.{List, [], _++_, append-assoc, append-nil}
 use mathlib.Core.Bool.{Bool}
 use mathlib.Core.Option.{some}
 use native.Mathlib.Omega.{arith}
-use lib.ListN.{length, length-append}
+use lib.ListN.{length}
 use borrow.Rule.Slice.PartMut.{putMid, midOf}
 use Rattle.laws.specs.Lists.{after}
 use Rattle.keywords.specs.declared.Keyword.{Keyword}
@@ -22,7 +22,7 @@ use Rattle.table_rows.specs.Rows.{rowsAt, FillIs}
 use Rattle.table_rows.specs.Parts.{PartIs, ontoParts, partsIn, partRows, rowsOver, modelWords, PartAt, PartFilled}
 use Rattle.table_rows.specs.declared.Filled.{Filled}
 use Rattle.table_rows.proofs.Stores.{over-none}
-use Rattle.table_rows.proofs.RowWalks.{Writes, writes-start, writes-fit, writes-length, writes-more, writes-same, writes-end}
+use Rattle.table_rows.proofs.RowWalks.{Lies, lies-start, lies-length, lies-fit, lies-more}
 use Rattle.table_rows.proofs.PartLaws.{parts-behind, parts-next, parts-out, stored-append, model-words}
 
 -- ---- a search that has come from c to d
@@ -65,27 +65,32 @@ wordsAt s c = stored (rowsOver (partsIn (rest s c)))
 
 pub record FillsModel (s : List ℕ) (c d : Cursor) (before now : List ℕ) (used : ℕ) : Type 0 where
   pub placed : Placed s d
-  pub writes : Writes before now used (modelWords (rest s c)) (wordsAt s d)
+  pub written : List ℕ
+  pub whole : modelWords (rest s c) ≡ written ++ wordsAt s d
+  pub lies : Lies before now used written
 
 pub model-start : (s : List ℕ) (c : Cursor) (before : List ℕ) → Placed s c → FillsModel s c c before before 0
-model-start s c before h =
-    record { placed = h; writes = writes-same (wordsAt s c) (writes-start before (modelWords (rest s c))) (model-words (rest s c)) }
+model-start s c before h = record { placed = h; written = []; whole = model-words (rest s c); lies = lies-start before }
 
 module _ {s : List ℕ} {c d : Cursor} {before now : List ℕ} {used : ℕ} (p : FillsModel s c d before now used) where
+  pub model-length : length (modelWords (rest s c)) ≤ length before → length now ≡ length before
+  model-length h = lies-length (p .lies) h (wordsAt s d) (p .whole)
+
   module _ {m : ModelPart} {a e : ℕ} {n : Cursor} (l : PartAt s d m a e n) (h : length (modelWords (rest s c)) ≤ length before) where
     -- the words of this keyword's rows
     abbrev here : List ℕ
     here = stored (partRows (under (rest s n)) m)
 
-    part-ahead : wordsAt s d ≡ here ++ wordsAt s n
+    whole-here : modelWords (rest s c) ≡ (p .written ++ here) ++ wordsAt s n
     unfolding rowsOver
-    part-ahead =
-        ap (λ (ps : List PartIs). stored (rowsOver ps)) (l .more)
-        ∙ stored-append (partRows (under (rest s n)) m) (rowsOver (partsIn (rest s n)))
+    whole-here =
+        p .whole
+        ∙ ap (λ (ps : List PartIs). p .written ++ stored (rowsOver ps)) (l .more)
+        ∙ ap (λ (v : List ℕ). p .written ++ v) (stored-append (partRows (under (rest s n)) m) (rowsOver (partsIn (rest s n))))
+        ∙ sym (append-assoc (p .written) here (wordsAt s n))
 
     pub model-fit : used + length here ≤ length now
-    model-fit =
-        omega (arith, writes-fit (p .writes) h, writes-length (p .writes) h, ap length part-ahead, length-append here (wordsAt s n))
+    model-fit = lies-fit (p .lies) h here (wordsAt s n) whole-here
 
     pub model-part : {before' behind : List ℕ} {r : Filled} → PartFilled s n m before' behind r
         → before' ≡ midOf used (length now - used) now
@@ -93,12 +98,16 @@ module _ {s : List ℕ} {c d : Cursor} {before now : List ℕ} {used : ℕ} (p :
     model-part {before'} {behind} {r} t q =
         record {
           placed = t .placed;
-          writes = rw (t .words, t .rows, q) (writes-more (p .writes) h here (wordsAt s (r .next)) (part-ahead ∙ ap (λ (ps : List PartIs). here ++ stored (rowsOver ps)) (t .more)));
+          written = p .written ++ here;
+          whole = whole-here ∙ ap (λ (ps : List PartIs). (p .written ++ here) ++ stored (rowsOver ps)) (t .more);
+          lies = rw (t .words, t .rows, q) (lies-more (p .lies) h here (wordsAt s n) whole-here);
         }
 
   pub model-end : partsIn (rest s d) ≡ [] → (used ≡ length (modelWords (rest s c))) × (now ≡ over before (modelWords (rest s c)))
   unfolding rowsOver stored
-  model-end q = writes-end (p .writes) (ap (λ (ps : List PartIs). stored (rowsOver ps)) q)
+  model-end q =
+      let e = sym (p .whole ∙ ap (λ (ps : List PartIs). p .written ++ stored (rowsOver ps)) q ∙ append-nil (p .written)) in
+      (p .lies .used ∙ ap length e, p .lies .store ∙ ap (over before) e)
 
 -- ---- the rows under one keyword
 

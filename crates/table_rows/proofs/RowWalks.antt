@@ -1,129 +1,86 @@
--- Rows counted and written, line by line: those so far and those from here on are those from the start.
+-- Rows written into the row store, line by line: the words so far lie over the row store as it was.
 use Prim.Native.Nat.{ℕ, _+_, _-_, _≤_}
 use mathlib.Core.Path.{_≡_, refl, sym, ap, _∙_}
-use mathlib.Core.List.{List, [], _∷_, _++_, append-assoc, append-nil}
+use mathlib.Core.List.{List, [], _++_, append-assoc}
 use mathlib.Core.Bool.{Bool}
 use native.Mathlib.Omega.{arith}
 use lib.ListN.{length, length-append}
 use borrow.Rule.Slice.PartMut.{putMid, midOf}
 use Rattle.laws.specs.Lists.{part}
-use Rattle.cut_lines.specs.Texts.{rest}
 use Rattle.cut_lines.specs.Cursors.{Placed}
 use Rattle.cut_lines.specs.declared.Cursor.{Cursor}
-use Rattle.rules.specs.Reading.{under}
 use Rattle.records.specs.Stored.{rowWords, stored, over}
 use Rattle.records.specs.declared.Row.{Row}
+use Rattle.line_rules.specs.declared.RowRead.{RowRead}
 use Rattle.line_rules.specs.declared.RowRead.the-variants.{Line, Amiss}
-use Rattle.lines_under.specs.Under.{LineIs, NoLineIs}
-use Rattle.lines_under.proofs.Laws.{Along, along-start, along-line, along-end}
-use Rattle.table_rows.specs.Rows.{rowIn, tableRows, rowsAt, CountIs, FillIs}
+use Rattle.lines_under.specs.Under.{LineNextIs}
+use Rattle.lines_under.specs.declared.LineNext.{LineNext}
+use Rattle.lines_under.specs.declared.LineNext.the-variants as next
+use Rattle.lines_under.proofs.Folds.{Gathers, gathers-start, gathers-line, gathers-end}
+use Rattle.table_rows.specs.Rows.{rowIn, rowsAt, FillIs}
 use Rattle.table_rows.proofs.Stores.{over-none, over-length, over-rest}
-use Rattle.table_rows.proofs.RowLaws.{rows-none, rows-more, rows-skip, stored-none, stored-more}
+use Rattle.table_rows.proofs.RowLaws.{row-fold, worded, words-fold}
 
--- ---- the rows from a line on
+-- ---- words over the row store
 
-module _ (named : Bool) {s : List ℕ} {d : Cursor} where
-  module _ {a e : ℕ} {n : Cursor} (l : LineIs s d a e n) where
-    pub at-row : (r : Row) → rowIn named (part a e s) ≡ Line r → rowsAt named s d ≡ r ∷ rowsAt named s n
-    at-row r h = ap (tableRows named) (l .more) ∙ rows-more named (part a e s) (under (rest s n)) r h
-
-    pub at-none : (k : ℕ) → rowIn named (part a e s) ≡ Amiss k → rowsAt named s d ≡ rowsAt named s n
-    at-none k h = ap (tableRows named) (l .more) ∙ rows-skip named (part a e s) (under (rest s n)) k h
-
-  pub at-end : {n : Cursor} → NoLineIs s d n → rowsAt named s d ≡ []
-  at-end l = ap (tableRows named) (l .more) ∙ rows-none named
-
--- ---- counted; each row has a byte
-
-pub record Counts (named : Bool) (s : List ℕ) (c d : Cursor) (n : ℕ) : Type 0 where
-  pub along : Along s c d
-  pub count : length (rowsAt named s c) ≡ n + length (rowsAt named s d)
-  pub bounded : c .at + n ≤ d .at
-
-pub counts-start : (named : Bool) (s : List ℕ) (c : Cursor) → Placed s c → Counts named s c c 0
-counts-start named s c h = record { along = along-start s c h; count = omega arith; bounded = omega arith }
-
-module _ {named : Bool} {s : List ℕ} {c d : Cursor} {n : ℕ} (p : Counts named s c d n) where
-  module _ {a e : ℕ} {m : Cursor} (l : LineIs s d a e m) where
-    pub counts-row : (r : Row) → rowIn named (part a e s) ≡ Line r → Counts named s c m (n + 1)
-    counts-row r h =
-        record { along = along-line (p .along) l; count = omega (arith, p .count, ap length (at-row named l r h)); bounded = omega (arith, p .bounded, l .rises) }
-
-    pub counts-none : (k : ℕ) → rowIn named (part a e s) ≡ Amiss k → Counts named s c m n
-    counts-none k h =
-        record { along = along-line (p .along) l; count = omega (arith, p .count, ap length (at-none named l k h)); bounded = omega (arith, p .bounded, l .rises) }
-
-  pub counts-end : {m : Cursor} → NoLineIs s d m → CountIs named s c (record { count = n; next = m })
-  counts-end l =
-      record { count = omega (arith, p .count, ap length (at-end named l)); stops = along-end (p .along) l; bounded = omega (arith, p .bounded, l .stops .rises) }
-
--- ---- written: the words so far lie over the row store as it was
-
-pub record Writes (before now : List ℕ) (n : ℕ) (all ahead : List ℕ) : Type 0 where
-  pub written : List ℕ
+pub record Lies (before now : List ℕ) (n : ℕ) (written : List ℕ) : Type 0 where
   pub used : n ≡ length written
   pub store : now ≡ over before written
-  pub whole : all ≡ written ++ ahead
 
-pub writes-start : (before all : List ℕ) → Writes before before 0 all all
-writes-start before all = record { written = []; used = refl; store = sym (over-none before); whole = refl }
+pub lies-start : (before : List ℕ) → Lies before before 0 []
+lies-start before = record { used = refl; store = sym (over-none before) }
 
-module _ {before now : List ℕ} {used : ℕ} {all ahead : List ℕ} (p : Writes before now used all ahead) (h : length all ≤ length before) where
-  pub writes-fit : used + length ahead ≤ length before
-  writes-fit = omega (arith, p .used, ap length (p .whole), length-append (p .written) ahead)
+-- what is written is the front of what there is room for
+module _ {before now : List ℕ} {used : ℕ} {written all : List ℕ} (p : Lies before now used written) (h : length all ≤ length before) where
+  pub lies-length : (ahead : List ℕ) → all ≡ written ++ ahead → length now ≡ length before
+  lies-length ahead e =
+      ap length (p .store) ∙ over-length before written (omega (arith, ap length e, length-append written ahead))
 
-  pub writes-length : length now ≡ length before
-  writes-length =
-      ap length (p .store) ∙ over-length before (p .written) (omega (arith, p .used, writes-fit))
+  -- v is next
+  module _ (v ahead : List ℕ) (e : all ≡ (written ++ v) ++ ahead) where
+    pub lies-fit : used + length v ≤ length now
+    lies-fit =
+        omega (arith, p .used, ap length e, length-append (written ++ v) ahead, length-append written v, lies-length (v ++ ahead) (e ∙ append-assoc written v ahead))
 
-  -- v is written into the rest of the store
-  pub writes-more : (v more : List ℕ) → ahead ≡ v ++ more
-      → Writes before (putMid used (length now - used) now (over (midOf used (length now - used) now) v)) (used + length v) all more
-  writes-more v more e =
-      record {
-        written = p .written ++ v;
-        used = omega (arith, p .used, length-append (p .written) v);
-        store = over-rest before (p .written) v used (p .used) (omega (arith, writes-fit)) now (p .store);
-        whole = p .whole ∙ ap (λ (l : List ℕ). p .written ++ l) e ∙ sym (append-assoc (p .written) v more);
-      }
-
--- nothing of this is a row
-pub writes-same : {before now : List ℕ} {used : ℕ} {all ahead : List ℕ} (more : List ℕ) → Writes before now used all ahead → ahead ≡ more → Writes before now used all more
-writes-same more p e = record { written = p .written; used = p .used; store = p .store; whole = p .whole ∙ ap (λ (l : List ℕ). p .written ++ l) e }
-
-pub writes-end : {before now : List ℕ} {used : ℕ} {all ahead : List ℕ} → Writes before now used all ahead → ahead ≡ [] → (used ≡ length all) × (now ≡ over before all)
-writes-end p e =
-    let q = p .whole ∙ ap (λ (l : List ℕ). p .written ++ l) e ∙ append-nil (p .written) in
-    (p .used ∙ ap length (sym q), p .store ∙ ap (over _) (sym q))
+    pub lies-more : Lies before (putMid used (length now - used) now (over (midOf used (length now - used) now) v)) (used + length v) (written ++ v)
+    lies-more =
+        record {
+          used = omega (arith, p .used, length-append written v);
+          store = over-rest before written v used (p .used) (omega (arith, lies-fit, lies-length (v ++ ahead) (e ∙ append-assoc written v ahead))) now (p .store);
+        }
 
 -- ---- a table's rows
 
 pub record Fills (named : Bool) (s : List ℕ) (c d : Cursor) (before now : List ℕ) (used : ℕ) : Type 0 where
-  pub along : Along s c d
-  pub writes : Writes before now used (stored (rowsAt named s c)) (stored (rowsAt named s d))
+  pub written : List ℕ
+  pub gathers : Gathers (row-fold words-fold named) s c d [] written
+  pub lies : Lies before now used written
 
 pub fills-start : (named : Bool) (s : List ℕ) (c : Cursor) (before : List ℕ) → Placed s c → Fills named s c c before before 0
-fills-start named s c before h = record { along = along-start s c h; writes = writes-start before (stored (rowsAt named s c)) }
+fills-start named s c before h =
+    record { written = []; gathers = gathers-start (row-fold words-fold named) s c [] h; lies = lies-start before }
 
 module _ {named : Bool} {s : List ℕ} {c d : Cursor} {before now : List ℕ} {used : ℕ} (p : Fills named s c d before now used) where
-  module _ {a e : ℕ} {m : Cursor} (l : LineIs s d a e m) where
-    module _ (h : length (stored (rowsAt named s c)) ≤ length before) (r : Row) (q : rowIn named (part a e s) ≡ Line r) where
-      ahead-row : stored (rowsAt named s d) ≡ rowWords r ++ stored (rowsAt named s m)
-      ahead-row = ap stored (at-row named l r q) ∙ stored-more r (rowsAt named s m)
+  pub fills-length : length (stored (rowsAt named s c)) ≤ length before → length now ≡ length before
+  fills-length h = lies-length (p .lies) h (stored (rowsAt named s d)) (p .gathers .same)
+
+  module _ {r : LineNext} {a e : ℕ} {n : Cursor} (q : r ≡ next.Line a e n) (l : LineNextIs s d r) {read : RowRead} (i : read ≡ rowIn named (part a e s)) where
+    module _ {row : Row} (j : read ≡ Line row) (h : length (stored (rowsAt named s c)) ≤ length before) where
+      with-row : Gathers (row-fold words-fold named) s c n [] (p .written ++ rowWords row)
+      with-row = gathers-line (p .gathers) q l (ap (worded (p .written)) (sym j ∙ i))
 
       pub fills-fit : used + 4 ≤ length now
-      fills-fit =
-          omega (arith, writes-fit (p .writes) h, writes-length (p .writes) h, ap length ahead-row)
+      fills-fit = lies-fit (p .lies) h (rowWords row) (stored (rowsAt named s n)) (with-row .same)
 
-      pub fills-row : Fills named s c m before (putMid used (length now - used) now (over (midOf used (length now - used) now) (rowWords r))) (used + 4)
+      pub fills-row : Fills named s c n before (putMid used (length now - used) now (over (midOf used (length now - used) now) (rowWords row))) (used + 4)
       fills-row =
-          record { along = along-line (p .along) l; writes = writes-more (p .writes) h (rowWords r) (stored (rowsAt named s m)) ahead-row }
+          record { written = p .written ++ rowWords row; gathers = with-row; lies = lies-more (p .lies) h (rowWords row) (stored (rowsAt named s n)) (with-row .same) }
 
-    pub fills-none : (k : ℕ) → rowIn named (part a e s) ≡ Amiss k → Fills named s c m before now used
-    fills-none k q =
-        record { along = along-line (p .along) l; writes = writes-same (stored (rowsAt named s m)) (p .writes) (ap stored (at-none named l k q)) }
+    pub fills-none : {k : ℕ} → read ≡ Amiss k → Fills named s c n before now used
+    fills-none j =
+        record { written = p .written; gathers = gathers-line (p .gathers) q l (ap (worded (p .written)) (sym j ∙ i)); lies = p .lies }
 
-  pub fills-end : {m : Cursor} → NoLineIs s d m → FillIs named s c before now (record { words = used; next = m })
-  fills-end l =
-      let w = writes-end (p .writes) (ap stored (at-end named l) ∙ stored-none) in
-      record { words = w .0; rows = w .1; stops = along-end (p .along) l }
+  pub fills-end : {r : LineNext} {n : Cursor} → r ≡ next.NoLine n → LineNextIs s d r → FillIs named s c before now (record { words = used; next = n })
+  fills-end q l =
+      let g = gathers-end (p .gathers) q l in
+      record { words = p .lies .used ∙ ap length (g .whole); rows = p .lies .store ∙ ap (over before) (g .whole); stops = g .stops }

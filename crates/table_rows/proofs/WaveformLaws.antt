@@ -1,12 +1,10 @@
 -- A waveform's record, line by line, is the one that document 01's definition gives.
-use Prim.Native.Nat.{ℕ, _+_, _≤_, _<_}
+use Prim.Native.Nat.{ℕ, _+_, _≤_}
 use mathlib.Core.Path.{_≡_, refl, sym, ap, _∙_}
 use mathlib.Core.List.{List, [], _∷_}
-use mathlib.Core.Bool.{cond}
 use native.Mathlib.Omega.{arith}
 use lib.ListN.{length, set, getD, replicate, length-set}
-use lib.Dec.{eqb}
-use Rattle.laws.proofs.Tests.{by-test, cond-yes, cond-no, cond-all}
+use Rattle.laws.proofs.Tests.{by-test, cond-all}
 use Rattle.decimal.specs.declared.Cell.{Cell}
 use Rattle.decimal.specs.declared.Cell.the-variants.{Missing}
 use Rattle.words.specs.Words.{words}
@@ -16,13 +14,14 @@ use Rattle.records.specs.declared.Edge.{Edge}
 use Rattle.line_rules.specs.Fields.{lineAt, assignedNumber, rowOf}
 use Rattle.line_rules.specs.Tables.{fixtures}
 use Rattle.rules.specs.Model.{numberIs}
-use Rattle.rules.specs.Reading.{atPlace, isNamedLine, fixturesIn, rowLines, rowsIn, ontoRow, waveformIn}
+use Rattle.rules.specs.Reading.{atPlace, isNamedLine, fixturesIn, rowLines, rowsIn, waveformIn}
 use Rattle.layout.specs.Laid.{waveformLaid}
-use Rattle.records.specs.declared.Row.{Row}
 use Rattle.line_rules.specs.declared.RowRead.{RowRead}
 use Rattle.line_rules.specs.declared.RowRead.the-variants.{Line, Amiss}
 use Rattle.records.specs.declared.Waveform.{Waveform}
+use Rattle.lines_under.proofs.Folds.{Folds, Small, count-fold}
 use Rattle.table_rows.proofs.Places.{set-at}
+use Rattle.table_rows.proofs.RowLaws.{onto-row, counted}
 use Rattle.table_rows.specs.Waveforms.{bareWaveform, withFixture, withPoint, withLine, waveformFrom}
 
 -- the record that has these numbers, and so many rows
@@ -55,18 +54,9 @@ module _ (e : Edge) (n : ℕ) where
   place-length ns v Nothing = refl
   place-length ns v (At m) = length-set ns m v
 
-  -- a row more
-  abbrev pointed : ℕ → RowRead → ℕ
-  pointed k (Amiss m) = k
-  pointed k (Line r) = k + 1
-
-  point-step : (ns : List Cell) (k : ℕ) (r : RowRead) → withPoint (shaped e n ns k) r ≡ shaped e n ns (pointed k r)
+  point-step : (ns : List Cell) (k : ℕ) (r : RowRead) → withPoint (shaped e n ns k) r ≡ shaped e n ns (counted k r)
   point-step ns k (Amiss m) = refl
   point-step ns k (Line r) = refl
-
-  point-count : (k : ℕ) (r : RowRead) (l : List Row) → pointed k r + length l ≡ k + length (ontoRow r l)
-  point-count k (Amiss m) l = refl
-  point-count k (Line r) l = omega arith
 
   -- the lines from here on
   shaped-from : (ls : List (List ℕ)) (ns : List Cell) (k : ℕ) → length ns ≡ 9
@@ -82,8 +72,8 @@ module _ (e : Edge) (n : ℕ) where
       ∙ shaped-from ws (atPlace ns v f) k (place-length ns v f ∙ h)))
       (λ t. rw t
       (ap (λ (x : Waveform). waveformFrom x ws) (point-step ns k (rowOf (words w)))
-      ∙ shaped-from ws ns (pointed k (rowOf (words w))) h
-      ∙ ap (shaped e n (fixturesIn ns ws)) (point-count k (rowOf (words w)) (rowsIn (rowLines ws)))))
+      ∙ shaped-from ws ns (counted k (rowOf (words w))) h
+      ∙ ap (shaped e n (fixturesIn ns ws)) (sym (onto-row count-fold k (rowOf (words w)) (rowsIn (rowLines ws))))))
 
   pub waveform-laid : (ls : List (List ℕ)) → waveformFrom (bareWaveform e n) ls ≡ waveformLaid n (waveformIn e ls)
   unfolding waveformLaid waveformIn
@@ -93,13 +83,9 @@ module _ (e : Edge) (n : ℕ) where
 
 -- ---- a line more
 
-pub waveform-more : (x : Waveform) (w : List ℕ) (ws : List (List ℕ)) → waveformFrom x (w ∷ ws) ≡ waveformFrom (withLine x w) ws
+pub waveform-fold : Folds waveformFrom withLine
 unfolding waveformFrom
-waveform-more x w ws = refl
-
-pub waveform-none : (x : Waveform) → waveformFrom x [] ≡ x
-unfolding waveformFrom
-waveform-none x = refl
+waveform-fold = record { none = λ x. refl; more = λ x w ws. refl }
 
 -- ---- a line adds at most one row
 
@@ -111,7 +97,7 @@ fixture-count-le : (x : Waveform) (v : Cell) (f : Found) → withFixture x v f .
 fixture-count-le x v Nothing = omega arith
 fixture-count-le x v (At m) = omega arith
 
-pub line-count : (x : Waveform) (w : List ℕ) → withLine x w .rows .count ≤ x .rows .count + 1
+pub line-count : Small withLine (λ (x : Waveform). x .rows .count)
 unfolding withLine
 line-count x w =
     cond-all (λ (y : Waveform). y .rows .count ≤ x .rows .count + 1) (isNamedLine w) _ _

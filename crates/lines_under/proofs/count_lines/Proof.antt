@@ -1,23 +1,21 @@
--- The lines counted and those from this cursor on are those from the first: `counted-line` at a turn.
+-- The lines counted and those from this cursor on are those from the first: a fold that adds one a line.
 use Prim.Native.Nat.{_-_}
+use mathlib.Core.Path.{refl}
 use lib.ListN.{length}
 use native.Mathlib.Omega.{arith}
 use borrow.Author.Needs.{needs}
-use mathlib.Core.Path.{subst}
-use denote.Ref.{now}
-use Rattle.lines_under.specs.Under.{LineNextIs}
-use Rattle.lines_under.proofs.Laws.{along-start, Counted, counted-line, counted-end}
+use Rattle.lines_under.proofs.Folds.{Gathers, gathers-start, line-less, gathers-line, gathers-room, gathers-end, count-fold, count-small}
 use Rattle.lines_under.proofs.count_lines.Statement.{statement}
 use Rattle.lines_under.proofs.count_lines.Tie as tie
 
 abbrev Inv-loop : tie.InvT-loop
-Inv-loop src d₀ count₀ d count = Counted src d₀ d count
+Inv-loop src d₀ count₀ d count = Gathers count-fold src d₀ d count₀ count
 
 abbrev μ-loop : tie.MeasureT-loop
 μ-loop src d₀ count₀ d count = length src - d .at
 
 loop-holds : tie.Need-loop-holds Inv-loop μ-loop
-loop-holds c = record { along = along-start _ _ (c .before .pre); count = omega arith; bounded = omega arith }
+loop-holds c = gathers-start count-fold _ _ _ (c .before .pre)
 
 next-line-requires : tie.Need-next-line-requires Inv-loop μ-loop
 next-line-requires c κs = c .loop .inv .along .placed
@@ -26,27 +24,21 @@ enum-known-start : tie.Need-enum-known-start Inv-loop μ-loop
 enum-known-start c = search needs
 
 add-count : tie.Need-add-count Inv-loop μ-loop
-add-count c =
-    let l = subst (LineNextIs (now (c .before .before .before .before .before .before .args .src)) (c .before .before .before .before .loop .d)) (c .before .start .given .1) (c .before .before .before .next-line .ensures) in
-    omega (arith, l .rises, l .placed .within, c .before .before .before .before .loop .inv .bounded)
+add-count c = omega (arith, gathers-room (c .before .before .before .before .loop .inv) (c .before .start .given .1) (c .before .before .before .next-line .ensures) _ count-small)
 
 loop-less : tie.Need-loop-less Inv-loop μ-loop
-loop-less c =
-    let l = subst (LineNextIs (now (c .before .before .before .before .before .before .args .src)) (c .before .before .before .before .loop .d)) (c .before .start .given .1) (c .before .before .before .next-line .ensures) in
-    omega (arith, l .rises, l .placed .within)
+loop-less c = line-less (c .before .before .before .before .loop .inv) (c .before .start .given .1) (c .before .before .before .next-line .ensures)
 
 loop-again : tie.Need-loop-again Inv-loop μ-loop
-loop-again c =
-    let l = subst (LineNextIs (now (c .before .before .before .before .before .before .args .src)) (c .before .before .before .before .loop .d)) (c .before .start .given .1) (c .before .before .before .next-line .ensures) in
-    counted-line (c .before .before .before .before .loop .inv) l
+loop-again c = gathers-line (c .before .before .before .before .loop .inv) (c .before .start .given .1) (c .before .before .before .next-line .ensures) refl
 
 enum-known-next : tie.Need-enum-known-next Inv-loop μ-loop
 enum-known-next c = search needs
 
 returns : tie.Need-returns Inv-loop μ-loop
 returns c =
-    let l = subst (LineNextIs (now (c .before .before .before .before .before .before .args .src)) (c .before .before .before .before .loop .d)) (c .before .next .given .1) (c .before .before .before .next-line .ensures) in
-    counted-end (c .before .before .before .before .loop .inv) l
+    let g = gathers-end (c .before .before .before .before .loop .inv) (c .before .next .given .1) (c .before .before .before .next-line .ensures) in
+    record { count = omega (arith, g .whole); stops = g .stops; bounded = omega (arith, g .grows _ count-small) }
 
 pub count-lines-spec : {M : Type 1} → statement M
 count-lines-spec =

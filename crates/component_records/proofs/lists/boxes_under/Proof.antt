@@ -1,69 +1,53 @@
--- The list from this cursor on with what is read is that from the first: `package-more` at a turn.
+-- A fold over the lines (`package-fold`) that holds the list as boxes.
 use Prim.Native.Nat.{_-_}
-use mathlib.Core.Path.{_≡_, refl, sym, _∙_, subst}
 use lib.ListN.{length}
-use native.Mathlib.Omega.{arith}
 use borrow.Author.Needs.{needs}
-use denote.Ref.{now}
-use Rattle.cut_lines.specs.Texts.{rest}
-use Rattle.rules.specs.Reading.{under, packageIn}
-use Rattle.lines_under.specs.Under.{LineNextIs}
-use Rattle.lines_under.proofs.Laws.{Along, along-start, along-line, along-end}
+use Rattle.lines_under.proofs.Folds.{Gathers, gathers-start, line-starts, line-fits, line-less, gathers-line, gathers-end}
 use Rattle.component_records.specs.Views.{boxesOf}
-use Rattle.component_records.proofs.Lines.{package-more, package-end}
+use Rattle.component_records.proofs.Lines.{package-fold}
 use Rattle.component_records.proofs.lists.boxes_under.Statement.{statement}
 use Rattle.component_records.proofs.lists.boxes_under.Tie as tie
 
 abbrev Inv-loop : tie.InvT-loop
-Inv-loop src boxes₀ d₀ boxes d = Along src d₀ d × (packageIn (boxesOf boxes₀) (under (rest src d₀)) ≡ packageIn (boxesOf boxes) (under (rest src d)))
+Inv-loop src boxes₀ d₀ boxes d = Gathers package-fold src d₀ d (boxesOf boxes₀) (boxesOf boxes)
 
 abbrev μ-loop : tie.MeasureT-loop
 μ-loop src boxes₀ d₀ boxes d = length src - d .at
 
 loop-holds : tie.Need-loop-holds Inv-loop μ-loop
-loop-holds c = (along-start _ _ (c .before .pre), refl)
+loop-holds c = gathers-start package-fold _ _ _ (c .before .pre)
 
 next-line-requires : tie.Need-next-line-requires Inv-loop μ-loop
-next-line-requires c κs = c .loop .inv .0 .placed
+next-line-requires c κs = c .loop .inv .along .placed
 
 enum-known-start : tie.Need-enum-known-start Inv-loop μ-loop
 enum-known-start c = search needs
 
 sub-box-line : tie.Need-sub-box-line Inv-loop μ-loop
-sub-box-line c =
-    let l = subst (LineNextIs (now (c .before .before .before .before .before .before .args .src)) (c .before .before .before .before .loop .d)) (c .before .start .given .1) (c .before .before .before .next-line .ensures) in
-    omega (arith, l .starts, l .fits)
+sub-box-line c = line-starts (c .before .before .before .before .loop .inv) (c .before .start .given .1) (c .before .before .before .next-line .ensures)
 
 part-box-line-start : tie.Need-part-box-line-start Inv-loop μ-loop
-part-box-line-start c =
-    let l = subst (LineNextIs (now (c .before .before .before .before .before .before .args .src)) (c .before .before .before .before .loop .d)) (c .before .start .given .1) (c .before .before .before .next-line .ensures) in
-    omega (arith, l .starts, l .fits)
+part-box-line-start c = line-starts (c .before .before .before .before .loop .inv) (c .before .start .given .1) (c .before .before .before .next-line .ensures)
 
 part-box-line-end : tie.Need-part-box-line-end Inv-loop μ-loop
-part-box-line-end c =
-    let l = subst (LineNextIs (now (c .before .before .before .before .before .before .args .src)) (c .before .before .before .before .loop .d)) (c .before .start .given .1) (c .before .before .before .next-line .ensures) in
-    omega (arith, l .starts, l .fits)
+part-box-line-end c = line-fits (c .before .before .before .before .loop .inv) (c .before .start .given .1) (c .before .before .before .next-line .ensures)
 
 box-line-requires : tie.Need-box-line-requires Inv-loop μ-loop
 box-line-requires c κs = search needs
 
 loop-less : tie.Need-loop-less Inv-loop μ-loop
-loop-less c =
-    let l = subst (LineNextIs (now (c .before .before .before .before .before .before .before .before .args .src)) (c .before .before .before .before .before .before .loop .d)) (c .before .before .before .start .given .1) (c .before .before .before .before .before .next-line .ensures) in
-    omega (arith, l .rises, l .placed .within)
+loop-less c = line-less (c .before .before .before .before .before .before .loop .inv) (c .before .before .before .start .given .1) (c .before .before .before .before .before .next-line .ensures)
 
 loop-again : tie.Need-loop-again Inv-loop μ-loop
-loop-again c =
-    let l = subst (LineNextIs (now (c .before .before .before .before .before .before .before .before .args .src)) (c .before .before .before .before .before .before .loop .d)) (c .before .before .before .start .given .1) (c .before .before .before .before .before .next-line .ensures) in
-    (along-line (c .before .before .before .before .before .before .loop .inv .0) l, c .before .before .before .before .before .before .loop .inv .1 ∙ package-more l _ _ (c .box-line .ensures))
+loop-again c = gathers-line (c .before .before .before .before .before .before .loop .inv) (c .before .before .before .start .given .1) (c .before .before .before .before .before .next-line .ensures) (c .box-line .ensures)
 
 enum-known-next : tie.Need-enum-known-next Inv-loop μ-loop
 enum-known-next c = search needs
 
 returns : tie.Need-returns Inv-loop μ-loop
 returns c =
-    let l = subst (LineNextIs (now (c .before .before .before .before .before .before .args .src)) (c .before .before .before .before .loop .d)) (c .before .next .given .1) (c .before .before .before .next-line .ensures) in
-    record { boxes = sym (c .before .before .before .before .loop .inv .1 ∙ package-end l _); stops = along-end (c .before .before .before .before .loop .inv .0) l }
+    let g = gathers-end (c .before .before .before .before .loop .inv) (c .before .next .given .1) (c .before .before .before .next-line .ensures) in
+    record { boxes = g .whole; stops = g .stops }
 
 pub boxes-under-spec : {M : Type 1} → statement M
 boxes-under-spec =

@@ -1,69 +1,53 @@
--- The list from this cursor on with what is read is that from the first: `locations-more` at a turn.
+-- A fold over the lines (`location-fold`) that holds the list as sites.
 use Prim.Native.Nat.{_-_}
-use mathlib.Core.Path.{_≡_, refl, sym, _∙_, subst}
 use lib.ListN.{length}
-use native.Mathlib.Omega.{arith}
 use borrow.Author.Needs.{needs}
-use denote.Ref.{now}
-use Rattle.cut_lines.specs.Texts.{rest}
-use Rattle.rules.specs.Reading.{under, locationsIn}
-use Rattle.lines_under.specs.Under.{LineNextIs}
-use Rattle.lines_under.proofs.Laws.{Along, along-start, along-line, along-end}
+use Rattle.lines_under.proofs.Folds.{Gathers, gathers-start, line-starts, line-fits, line-less, gathers-line, gathers-end}
 use Rattle.component_records.specs.Views.{sitesOf}
-use Rattle.component_records.proofs.Lines.{locations-more, locations-end}
+use Rattle.component_records.proofs.Lines.{location-fold}
 use Rattle.component_records.proofs.lists.sites_under.Statement.{statement}
 use Rattle.component_records.proofs.lists.sites_under.Tie as tie
 
 abbrev Inv-loop : tie.InvT-loop
-Inv-loop src sites₀ d₀ sites d = Along src d₀ d × (locationsIn (sitesOf sites₀) (under (rest src d₀)) ≡ locationsIn (sitesOf sites) (under (rest src d)))
+Inv-loop src sites₀ d₀ sites d = Gathers location-fold src d₀ d (sitesOf sites₀) (sitesOf sites)
 
 abbrev μ-loop : tie.MeasureT-loop
 μ-loop src sites₀ d₀ sites d = length src - d .at
 
 loop-holds : tie.Need-loop-holds Inv-loop μ-loop
-loop-holds c = (along-start _ _ (c .before .pre), refl)
+loop-holds c = gathers-start location-fold _ _ _ (c .before .pre)
 
 next-line-requires : tie.Need-next-line-requires Inv-loop μ-loop
-next-line-requires c κs = c .loop .inv .0 .placed
+next-line-requires c κs = c .loop .inv .along .placed
 
 enum-known-start : tie.Need-enum-known-start Inv-loop μ-loop
 enum-known-start c = search needs
 
 sub-site-line : tie.Need-sub-site-line Inv-loop μ-loop
-sub-site-line c =
-    let l = subst (LineNextIs (now (c .before .before .before .before .before .before .args .src)) (c .before .before .before .before .loop .d)) (c .before .start .given .1) (c .before .before .before .next-line .ensures) in
-    omega (arith, l .starts, l .fits)
+sub-site-line c = line-starts (c .before .before .before .before .loop .inv) (c .before .start .given .1) (c .before .before .before .next-line .ensures)
 
 part-site-line-start : tie.Need-part-site-line-start Inv-loop μ-loop
-part-site-line-start c =
-    let l = subst (LineNextIs (now (c .before .before .before .before .before .before .args .src)) (c .before .before .before .before .loop .d)) (c .before .start .given .1) (c .before .before .before .next-line .ensures) in
-    omega (arith, l .starts, l .fits)
+part-site-line-start c = line-starts (c .before .before .before .before .loop .inv) (c .before .start .given .1) (c .before .before .before .next-line .ensures)
 
 part-site-line-end : tie.Need-part-site-line-end Inv-loop μ-loop
-part-site-line-end c =
-    let l = subst (LineNextIs (now (c .before .before .before .before .before .before .args .src)) (c .before .before .before .before .loop .d)) (c .before .start .given .1) (c .before .before .before .next-line .ensures) in
-    omega (arith, l .starts, l .fits)
+part-site-line-end c = line-fits (c .before .before .before .before .loop .inv) (c .before .start .given .1) (c .before .before .before .next-line .ensures)
 
 site-line-requires : tie.Need-site-line-requires Inv-loop μ-loop
 site-line-requires c κs = search needs
 
 loop-less : tie.Need-loop-less Inv-loop μ-loop
-loop-less c =
-    let l = subst (LineNextIs (now (c .before .before .before .before .before .before .before .before .args .src)) (c .before .before .before .before .before .before .loop .d)) (c .before .before .before .start .given .1) (c .before .before .before .before .before .next-line .ensures) in
-    omega (arith, l .rises, l .placed .within)
+loop-less c = line-less (c .before .before .before .before .before .before .loop .inv) (c .before .before .before .start .given .1) (c .before .before .before .before .before .next-line .ensures)
 
 loop-again : tie.Need-loop-again Inv-loop μ-loop
-loop-again c =
-    let l = subst (LineNextIs (now (c .before .before .before .before .before .before .before .before .args .src)) (c .before .before .before .before .before .before .loop .d)) (c .before .before .before .start .given .1) (c .before .before .before .before .before .next-line .ensures) in
-    (along-line (c .before .before .before .before .before .before .loop .inv .0) l, c .before .before .before .before .before .before .loop .inv .1 ∙ locations-more l _ _ (c .site-line .ensures))
+loop-again c = gathers-line (c .before .before .before .before .before .before .loop .inv) (c .before .before .before .start .given .1) (c .before .before .before .before .before .next-line .ensures) (c .site-line .ensures)
 
 enum-known-next : tie.Need-enum-known-next Inv-loop μ-loop
 enum-known-next c = search needs
 
 returns : tie.Need-returns Inv-loop μ-loop
 returns c =
-    let l = subst (LineNextIs (now (c .before .before .before .before .before .before .args .src)) (c .before .before .before .before .loop .d)) (c .before .next .given .1) (c .before .before .before .next-line .ensures) in
-    record { sites = sym (c .before .before .before .before .loop .inv .1 ∙ locations-end l _); stops = along-end (c .before .before .before .before .loop .inv .0) l }
+    let g = gathers-end (c .before .before .before .before .loop .inv) (c .before .next .given .1) (c .before .before .before .next-line .ensures) in
+    record { sites = g .whole; stops = g .stops }
 
 pub sites-under-spec : {M : Type 1} → statement M
 sites-under-spec =

@@ -1,23 +1,14 @@
--- What the lines from here on give is what they give from the first: `ramp-more` at a turn.
+-- A fold over the lines (`ramp-fold`) that begins with nothing given.
 use Prim.Native.Nat.{_-_}
-use mathlib.Core.Path.{sym, ap, _∙_, subst}
 use lib.ListN.{length}
-use native.Mathlib.Omega.{arith}
 use borrow.Author.Needs.{needs}
-use denote.Ref.{now}
-use Rattle.lines_under.specs.Under.{LineNextIs}
-use Rattle.laws.specs.Lists.{part}
-use Rattle.cut_lines.specs.Texts.{rest}
-use Rattle.rules.specs.Reading.{under}
-use Rattle.lines_under.proofs.Laws.{along-end}
-use Rattle.table_rows.proofs.Folds.{Gathers, gathers-start, gathers-line, gathers-end}
-use Rattle.model_record.specs.Ramps.{withRampLine, rampFrom}
-use Rattle.model_record.proofs.RampLaws.{ramp-more, ramp-none}
+use Rattle.lines_under.proofs.Folds.{Gathers, gathers-start, line-starts, line-fits, line-less, gathers-line, gathers-end}
+use Rattle.model_record.proofs.RampLaws.{ramp-fold}
 use Rattle.model_record.proofs.ramps.ramp_lines.Statement.{statement}
 use Rattle.model_record.proofs.ramps.ramp_lines.Tie as tie
 
 abbrev Inv-loop : tie.InvT-loop
-Inv-loop src ramp₀ d₀ ramp d = Gathers rampFrom src d₀ d ramp₀ ramp
+Inv-loop src ramp₀ d₀ ramp d = Gathers ramp-fold src d₀ d ramp₀ ramp
 
 abbrev μ-loop : tie.MeasureT-loop
 μ-loop src ramp₀ d₀ ramp d = length src - d .at
@@ -26,7 +17,7 @@ bare-ramp-requires : tie.Need-bare-ramp-requires Inv-loop μ-loop
 bare-ramp-requires c κs = search needs
 
 loop-holds : tie.Need-loop-holds Inv-loop μ-loop
-loop-holds c = gathers-start rampFrom _ _ _ (c .before .before .pre)
+loop-holds c = gathers-start ramp-fold _ _ _ (c .before .before .pre)
 
 next-line-requires : tie.Need-next-line-requires Inv-loop μ-loop
 next-line-requires c κs = c .loop .inv .along .placed
@@ -35,22 +26,13 @@ enum-known-start : tie.Need-enum-known-start Inv-loop μ-loop
 enum-known-start c = search needs
 
 sub-w : tie.Need-sub-w Inv-loop μ-loop
-sub-w c =
-    let s = now (c .before .before .before .before .before .before .before .args .src) in
-    let l = subst (LineNextIs s (c .before .before .before .before .loop .d)) (c .before .start .given .1) (c .before .before .before .next-line .ensures) in
-    omega (arith, l .starts)
+sub-w c = line-starts (c .before .before .before .before .loop .inv) (c .before .start .given .1) (c .before .before .before .next-line .ensures)
 
 part-w-start : tie.Need-part-w-start Inv-loop μ-loop
-part-w-start c =
-    let s = now (c .before .before .before .before .before .before .before .args .src) in
-    let l = subst (LineNextIs s (c .before .before .before .before .loop .d)) (c .before .start .given .1) (c .before .before .before .next-line .ensures) in
-    omega (arith, l .starts)
+part-w-start c = line-starts (c .before .before .before .before .loop .inv) (c .before .start .given .1) (c .before .before .before .next-line .ensures)
 
 part-w-end : tie.Need-part-w-end Inv-loop μ-loop
-part-w-end c =
-    let s = now (c .before .before .before .before .before .before .before .args .src) in
-    let l = subst (LineNextIs s (c .before .before .before .before .loop .d)) (c .before .start .given .1) (c .before .before .before .next-line .ensures) in
-    l .fits
+part-w-end c = line-fits (c .before .before .before .before .loop .inv) (c .before .start .given .1) (c .before .before .before .next-line .ensures)
 
 ramp-line-requires : tie.Need-ramp-line-requires Inv-loop μ-loop
 ramp-line-requires c κs = search needs
@@ -59,26 +41,18 @@ with-ramp-line-requires : tie.Need-with-ramp-line-requires Inv-loop μ-loop
 with-ramp-line-requires c κs = search needs
 
 loop-less : tie.Need-loop-less Inv-loop μ-loop
-loop-less c =
-    let s = now (c .before .before .before .before .before .before .before .before .before .before .args .src) in
-    let l = subst (LineNextIs s (c .before .before .before .before .before .before .before .loop .d)) (c .before .before .before .before .start .given .1) (c .before .before .before .before .before .before .next-line .ensures) in
-    omega (arith, l .rises, l .placed .within)
+loop-less c = line-less (c .before .before .before .before .before .before .before .loop .inv) (c .before .before .before .before .start .given .1) (c .before .before .before .before .before .before .next-line .ensures)
 
 loop-again : tie.Need-loop-again Inv-loop μ-loop
-loop-again c =
-    let s = now (c .before .before .before .before .before .before .before .before .before .before .args .src) in
-    let l = subst (LineNextIs s (c .before .before .before .before .before .before .before .loop .d)) (c .before .before .before .before .start .given .1) (c .before .before .before .before .before .before .next-line .ensures) in
-    let w = part (c .before .before .before .before .start .given .0 .0) (c .before .before .before .before .start .given .0 .1 .0) s in
-    gathers-line (c .before .before .before .before .before .before .before .loop .inv) (c .with-ramp-line .result) l (λ ws. ramp-more (c .before .before .before .before .before .before .before .loop .ramp) w ws ∙ ap (λ (x : _). rampFrom x ws) (sym (c .with-ramp-line .ensures ∙ ap (withRampLine (c .before .before .before .before .before .before .before .loop .ramp) w) (c .before .ramp-line .ensures))))
+loop-again c = gathers-line (c .before .before .before .before .before .before .before .loop .inv) (c .before .before .before .before .start .given .1) (c .before .before .before .before .before .before .next-line .ensures) (rw (c .before .ramp-line .ensures) at (c .with-ramp-line .ensures))
 
 enum-known-next : tie.Need-enum-known-next Inv-loop μ-loop
 enum-known-next c = search needs
 
 returns : tie.Need-returns Inv-loop μ-loop
 returns c =
-    let s = now (c .before .before .before .before .before .before .before .args .src) in
-    let l = subst (LineNextIs s (c .before .before .before .before .loop .d)) (c .before .next .given .1) (c .before .before .before .next-line .ensures) in
-    record { ramp = gathers-end (c .before .before .before .before .loop .inv) l (ramp-none (c .before .before .before .before .loop .ramp)) ∙ ap (λ (x : _). rampFrom x (under (rest s (c .before .before .before .before .before .before .before .args .c)))) (c .before .before .before .before .before .bare-ramp .ensures); stops = along-end (c .before .before .before .before .loop .inv .along) l }
+    let g = gathers-end (c .before .before .before .before .loop .inv) (c .before .next .given .1) (c .before .before .before .next-line .ensures) in
+    record { ramp = rw (c .before .before .before .before .before .bare-ramp .ensures) at (g .whole); stops = g .stops }
 
 pub ramp-lines-spec : {M : Type 1} → statement M
 ramp-lines-spec =

@@ -7,8 +7,7 @@ use borrow.Author.Needs.{needs}
 use denote.Ref.{now}
 use Rattle.table_rows.specs.Parts.{PartNextIs}
 use Rattle.table_rows.proofs.Stores.{rest-room}
-use Rattle.table_rows.proofs.RowWalks.{writes-length}
-use Rattle.table_rows.proofs.PartWalks.{FillsModel, model-start, model-fit, model-part, model-end}
+use Rattle.table_rows.proofs.PartWalks.{FillsModel, model-start, model-length, model-fit, model-part, model-end}
 use Rattle.table_rows.proofs.parts.fill_model.Statement.{statement}
 use Rattle.table_rows.proofs.parts.fill_model.Tie as tie
 
@@ -32,7 +31,7 @@ mul-fill-part c =
     let s = now (c .before .before .before .before .before .before .before .args .src) in
     let l = subst (PartNextIs s (c .before .before .before .before .loop .d)) (c .before .part .given .1) (c .before .before .before .next-part .ensures) in
     let f = model-fit (c .before .before .before .before .loop .inv) l (c .before .before .before .before .before .before .before .pre .1) in
-    omega (arith, f, writes-length (c .before .before .before .before .loop .inv .writes) (c .before .before .before .before .before .before .before .pre .1), c .before .before .before .before .before .before .before .good)
+    omega (arith, f, model-length (c .before .before .before .before .loop .inv) (c .before .before .before .before .before .before .before .pre .1), c .before .before .before .before .before .before .before .good)
 
 sub-fill-part : tie.Need-sub-fill-part Inv-loop μ-loop
 sub-fill-part c =
@@ -62,7 +61,7 @@ add-used c =
     let s = now (c .before .before .before .before .before .before .before .before .before .before .before .before .args .src) in
     let l = subst (PartNextIs s (c .before .before .before .before .before .before .before .before .before .loop .d)) (c .before .before .before .before .before .before .part .given .1) (c .before .before .before .before .before .before .before .before .next-part .ensures) in
     let f = model-fit (c .before .before .before .before .before .before .before .before .before .loop .inv) l (c .before .before .before .before .before .before .before .before .before .before .before .before .pre .1) in
-    omega (arith, f, c .before .before .before .fill-part .ensures .words, writes-length (c .before .before .before .before .before .before .before .before .before .loop .inv .writes) (c .before .before .before .before .before .before .before .before .before .before .before .before .pre .1), c .before .before .before .before .before .before .before .before .before .before .before .before .good)
+    omega (arith, f, c .before .before .before .fill-part .ensures .words, model-length (c .before .before .before .before .before .before .before .before .before .loop .inv) (c .before .before .before .before .before .before .before .before .before .before .before .before .pre .1), c .before .before .before .before .before .before .before .before .before .before .before .before .good)
 
 loop-less : tie.Need-loop-less Inv-loop μ-loop
 loop-less c =
@@ -80,7 +79,7 @@ enum-told : tie.Need-enum-told Inv-loop μ-loop
 enum-told c = search needs
 
 same-length : tie.Need-same-length Inv-loop μ-loop
-same-length c = writes-length (c .before .before .before .loop .inv .writes) (c .before .before .before .before .before .before .pre .1)
+same-length c = model-length (c .before .before .before .loop .inv) (c .before .before .before .before .before .before .pre .1)
 
 returns : tie.Need-returns Inv-loop μ-loop
 returns c = model-end (c .before .before .before .loop .inv) (subst (PartNextIs (now (c .before .before .before .before .before .before .args .src)) (c .before .before .before .loop .d)) (c .enum-told .given .1) (c .before .before .next-part .ensures))

@@ -1,23 +1,22 @@
--- The rows counted and those from this cursor on are those from the first: `counts-row` and `counts-none` at a turn.
+-- A fold over the lines: one with a row adds one (`counted`).
 use Prim.Native.Nat.{_-_}
-use mathlib.Core.Path.{sym, _∙_, subst}
+use mathlib.Core.Path.{sym, ap, _∙_}
 use lib.ListN.{length}
 use native.Mathlib.Omega.{arith}
 use borrow.Author.Needs.{needs}
-use denote.Ref.{now}
-use Rattle.lines_under.specs.Under.{LineNextIs}
-use Rattle.table_rows.proofs.RowWalks.{Counts, counts-start, counts-row, counts-none, counts-end}
+use Rattle.lines_under.proofs.Folds.{Gathers, gathers-start, line-starts, line-fits, line-less, gathers-line, gathers-room, gathers-end, count-fold}
+use Rattle.table_rows.proofs.RowLaws.{row-fold, counted, row-small}
 use Rattle.table_rows.proofs.rows.count_rows.Statement.{statement}
 use Rattle.table_rows.proofs.rows.count_rows.Tie as tie
 
 abbrev Inv-loop : tie.InvT-loop
-Inv-loop src named d₀ count₀ d count = Counts named src d₀ d count
+Inv-loop src named d₀ count₀ d count = Gathers (row-fold count-fold named) src d₀ d count₀ count
 
 abbrev μ-loop : tie.MeasureT-loop
 μ-loop src named d₀ count₀ d count = length src - d .at
 
 loop-holds : tie.Need-loop-holds Inv-loop μ-loop
-loop-holds c = counts-start _ _ _ (c .before .pre)
+loop-holds c = gathers-start (row-fold count-fold _) _ _ _ (c .before .pre)
 
 next-line-requires : tie.Need-next-line-requires Inv-loop μ-loop
 next-line-requires c κs = c .loop .inv .along .placed
@@ -26,22 +25,13 @@ enum-known-start : tie.Need-enum-known-start Inv-loop μ-loop
 enum-known-start c = search needs
 
 sub-row-in : tie.Need-sub-row-in Inv-loop μ-loop
-sub-row-in c =
-    let s = now (c .before .before .before .before .before .before .args .src) in
-    let l = subst (LineNextIs s (c .before .before .before .before .loop .d)) (c .before .start .given .1) (c .before .before .before .next-line .ensures) in
-    omega (arith, l .starts)
+sub-row-in c = line-starts (c .before .before .before .before .loop .inv) (c .before .start .given .1) (c .before .before .before .next-line .ensures)
 
 part-row-in-start : tie.Need-part-row-in-start Inv-loop μ-loop
-part-row-in-start c =
-    let s = now (c .before .before .before .before .before .before .args .src) in
-    let l = subst (LineNextIs s (c .before .before .before .before .loop .d)) (c .before .start .given .1) (c .before .before .before .next-line .ensures) in
-    omega (arith, l .starts)
+part-row-in-start c = line-starts (c .before .before .before .before .loop .inv) (c .before .start .given .1) (c .before .before .before .next-line .ensures)
 
 part-row-in-end : tie.Need-part-row-in-end Inv-loop μ-loop
-part-row-in-end c =
-    let s = now (c .before .before .before .before .before .before .args .src) in
-    let l = subst (LineNextIs s (c .before .before .before .before .loop .d)) (c .before .start .given .1) (c .before .before .before .next-line .ensures) in
-    l .fits
+part-row-in-end c = line-fits (c .before .before .before .before .loop .inv) (c .before .start .given .1) (c .before .before .before .next-line .ensures)
 
 row-in-requires : tie.Need-row-in-requires Inv-loop μ-loop
 row-in-requires c κs = search needs
@@ -50,46 +40,30 @@ enum-known-row : tie.Need-enum-known-row Inv-loop μ-loop
 enum-known-row c = search needs
 
 add-count : tie.Need-add-count Inv-loop μ-loop
-add-count c =
-    let s = now (c .before .before .before .before .before .before .before .before .before .before .before .args .src) in
-    let l = subst (LineNextIs s (c .before .before .before .before .before .before .before .before .before .loop .d)) (c .before .before .before .before .before .before .start .given .1) (c .before .before .before .before .before .before .before .before .next-line .ensures) in
-    omega (arith, l .rises, l .placed .within, c .before .before .before .before .before .before .before .before .before .loop .inv .bounded, c .before .before .before .before .before .before .before .before .before .before .before .good)
+add-count c = omega (arith, gathers-room (c .before .before .before .before .before .before .before .before .before .loop .inv) (c .before .before .before .before .before .before .start .given .1) (c .before .before .before .before .before .before .before .before .next-line .ensures) _ (row-small _), c .before .before .before .before .before .before .before .before .before .before .before .good)
 
 loop-less : tie.Need-loop-less Inv-loop μ-loop
-loop-less c =
-    let s = now (c .before .before .before .before .before .before .before .before .before .before .before .args .src) in
-    let l = subst (LineNextIs s (c .before .before .before .before .before .before .before .before .before .loop .d)) (c .before .before .before .before .before .before .start .given .1) (c .before .before .before .before .before .before .before .before .next-line .ensures) in
-    omega (arith, l .rises, l .placed .within)
+loop-less c = line-less (c .before .before .before .before .before .before .before .before .before .loop .inv) (c .before .before .before .before .before .before .start .given .1) (c .before .before .before .before .before .before .before .before .next-line .ensures)
 
 loop-again : tie.Need-loop-again Inv-loop μ-loop
-loop-again c =
-    let s = now (c .before .before .before .before .before .before .before .before .before .before .before .args .src) in
-    let l = subst (LineNextIs s (c .before .before .before .before .before .before .before .before .before .loop .d)) (c .before .before .before .before .before .before .start .given .1) (c .before .before .before .before .before .before .before .before .next-line .ensures) in
-    counts-row (c .before .before .before .before .before .before .before .before .before .loop .inv) l _ (sym (c .before .before .before .row-in .ensures) ∙ c .before .row .given .1)
+loop-again c = gathers-line (c .before .before .before .before .before .before .before .before .before .loop .inv) (c .before .before .before .before .before .before .start .given .1) (c .before .before .before .before .before .before .before .before .next-line .ensures) (ap (counted _) (sym (c .before .row .given .1) ∙ c .before .before .before .row-in .ensures))
 
 enum-known-fault : tie.Need-enum-known-fault Inv-loop μ-loop
 enum-known-fault c = search needs
 
 loop-less-2 : tie.Need-loop-less-2 Inv-loop μ-loop
-loop-less-2 c =
-    let s = now (c .before .before .before .before .before .before .before .before .before .before .before .args .src) in
-    let l = subst (LineNextIs s (c .before .before .before .before .before .before .before .before .before .loop .d)) (c .before .before .before .before .before .before .start .given .1) (c .before .before .before .before .before .before .before .before .next-line .ensures) in
-    omega (arith, l .rises, l .placed .within)
+loop-less-2 c = line-less (c .before .before .before .before .before .before .before .before .before .loop .inv) (c .before .before .before .before .before .before .start .given .1) (c .before .before .before .before .before .before .before .before .next-line .ensures)
 
 loop-again-2 : tie.Need-loop-again-2 Inv-loop μ-loop
-loop-again-2 c =
-    let s = now (c .before .before .before .before .before .before .before .before .before .before .before .args .src) in
-    let l = subst (LineNextIs s (c .before .before .before .before .before .before .before .before .before .loop .d)) (c .before .before .before .before .before .before .start .given .1) (c .before .before .before .before .before .before .before .before .next-line .ensures) in
-    counts-none (c .before .before .before .before .before .before .before .before .before .loop .inv) l _ (sym (c .before .before .before .row-in .ensures) ∙ c .before .fault .given .1)
+loop-again-2 c = gathers-line (c .before .before .before .before .before .before .before .before .before .loop .inv) (c .before .before .before .before .before .before .start .given .1) (c .before .before .before .before .before .before .before .before .next-line .ensures) (ap (counted _) (sym (c .before .fault .given .1) ∙ c .before .before .before .row-in .ensures))
 
 enum-known-next : tie.Need-enum-known-next Inv-loop μ-loop
 enum-known-next c = search needs
 
 returns : tie.Need-returns Inv-loop μ-loop
 returns c =
-    let s = now (c .before .before .before .before .before .before .args .src) in
-    let l = subst (LineNextIs s (c .before .before .before .before .loop .d)) (c .before .next .given .1) (c .before .before .before .next-line .ensures) in
-    counts-end (c .before .before .before .before .loop .inv) l
+    let g = gathers-end (c .before .before .before .before .loop .inv) (c .before .next .given .1) (c .before .before .before .next-line .ensures) in
+    record { count = omega (arith, g .whole); stops = g .stops; bounded = omega (arith, g .grows _ (row-small _)) }
 
 pub count-rows-spec : {M : Type 1} → statement M
 count-rows-spec =
