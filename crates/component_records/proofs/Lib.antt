@@ -1,5 +1,5 @@
 -- Laws on the records, cited by the crates above.
-pub mod Copies
+pub mod Kept
 pub mod Words
 pub mod Lines
 pub mod Keys

@@ -3,9 +3,9 @@ use Prim.Native.Nat.{ℕ}
 use mathlib.Core.Path.{_≡_, refl}
 use mathlib.Core.List.{List}
 use mathlib.Core.Option.{Option, none, some}
-use Rattle.line_rules.specs.Fields.{lineAt, wordMeaning, namedCells, orGiven}
+use Rattle.line_rules.specs.Fields.{lineAt, wordMeaning, namedCells, orGiven, tripleIs}
 use Rattle.line_rules.specs.Tables.{componentLines, locations, packageLines}
-use Rattle.rules.specs.Reading.{tripleIs, atPlace, locationsIn, packageIn}
+use Rattle.rules.specs.Reading.{atPlace, locationsIn, packageIn}
 use Rattle.records.specs.declared.Triple.{Triple}
 use Rattle.records.specs.declared.Location.{Location}
 use Rattle.records.specs.declared.Location.the-variants.{AtPin}

@@ -16,8 +16,8 @@ use Rattle.words.specs.Places.{WordAt}
 use Rattle.words.specs.declared.Word.{Word}
 use Rattle.words.proofs.Laws.{words-none, words-some}
 use Rattle.line_cells.specs.Threes.{bytesOf, Within}
-use Rattle.line_rules.specs.Fields.{firstWord, otherWords}
-use Rattle.rules.specs.Reading.{cellIs, cellFrom, pinIn, keptModel}
+use Rattle.line_rules.specs.Fields.{firstWord, otherWords, cellIs}
+use Rattle.rules.specs.Reading.{cellFrom, pinIn, keptModel}
 use Rattle.layout.specs.Laid.{pinLaid}
 use Rattle.records.specs.Stored.{nameLaid}
 

@@ -5,7 +5,7 @@ use mathlib.Core.List.{List, [], _∷_, map}
 use mathlib.Core.Bool.{Bool, false}
 use lib.ListN.{length, replicate}
 use lib.Dec.{eqb}
-use Rattle.laws.specs.Lists.{front, after, part}
+use Rattle.laws.specs.Lists.{front, after}
 use Rattle.keywords.specs.declared.Keyword.{Keyword}
 use Rattle.keywords.specs.declared.Keyword.the-variants as key
 use Rattle.keywords.specs.declared.ComponentPart.{ComponentPart}
@@ -13,8 +13,8 @@ use Rattle.cut_lines.specs.Texts.{Text, rest}
 use Rattle.cut_lines.specs.Cursors.{Placed}
 use Rattle.cut_lines.specs.declared.Cursor.{Cursor}
 use Rattle.rules.specs.Header.{headerPlace}
-use Rattle.rules.specs.Reading.{noCells, under, isWithin, locationsIn, packageIn, ComponentIs, onComponentPart, withComponentKeys, choiceIn, SelectorIs, headerIn}
-use Rattle.records.specs.Stored.{nameLaid, wordsLaid}
+use Rattle.rules.specs.Reading.{under, isWithin, locationsIn, packageIn, ComponentIs, onComponentPart, withComponentKeys, choiceIn, SelectorIs, headerIn}
+use Rattle.records.specs.Stored.{noCells, nameLaid, wordsLaid}
 use Rattle.records.specs.declared.Triple.{Triple}
 use Rattle.records.specs.declared.Location.{Location}
 use Rattle.records.specs.declared.Location.the-variants.{AtPin}

@@ -6,14 +6,14 @@ ghost use Rattle.cut_lines.specs.Cursors.{Placed};
 ghost use Rattle.rules.specs.Reading.{headerIn};
 ghost use Rattle.records.specs.Stored.{wordsLaid};
 ghost use Rattle.component_records.specs.Views.{isHead, headerLaid};
-use crate::held::no_words;
-use crate::held::words_of;
 use cut_lines::Cursor;
 use keywords::HeaderPart;
 use keywords::Keyword;
 use lines_under::KeyNext;
 use records::Header;
 use records::Words;
+use records::no_words;
+use records::words_of;
 
 // The keyword at place n of the header: [File Name] at 0, [File Rev] at 1.
 fn is_head(k: Keyword, n: usize) -> bool

@@ -1,67 +1,9 @@
-// Texts as they lie in a record: their bytes, then zeros. What is longer than the record is cut.
+// A pin's model as it lies in its record.
 ghost use mathlib.Core.Path.{_≡_};
-ghost use mathlib.Core.List.{[]};
-ghost use Prim.Native.Nat.{min};
 ghost use Rattle.rules.specs.Reading.{keptModel};
-ghost use Rattle.records.specs.Stored.{nameLaid, wordsLaid};
+ghost use Rattle.records.specs.Stored.{nameLaid};
 use records::Name;
-use records::Words;
-
-fn at_most(n: usize, most: usize) -> usize
-    ensures { λ r. ⌜ r ≡ min most n ⌝ }
-{
-    if n < most { n } else { most }
-}
-
-pub fn name_of(w: &[u8]) -> Name
-    ensures { λ r. ⌜ r ≡ nameLaid (now (w .entry)) ⌝ }
-{
-    let n = at_most(w.len(), 40);
-    let mut bytes = [0u8; 40];
-    let mut i = 0;
-    while i < n {
-        bytes[i] = w[i];
-        i += 1;
-    }
-    Name {
-        bytes: bytes,
-        len: n as u8,
-    }
-}
-
-pub fn words_of(w: &[u8]) -> Words
-    ensures { λ r. ⌜ r ≡ wordsLaid (now (w .entry)) ⌝ }
-{
-    let n = at_most(w.len(), 120);
-    let mut bytes = [0u8; 120];
-    let mut i = 0;
-    while i < n {
-        bytes[i] = w[i];
-        i += 1;
-    }
-    Words {
-        bytes: bytes,
-        len: n as u8,
-    }
-}
-
-pub fn no_name() -> Name
-    ensures { λ r. ⌜ r ≡ nameLaid [] ⌝ }
-{
-    Name {
-        bytes: [0u8; 40],
-        len: 0,
-    }
-}
-
-pub fn no_words() -> Words
-    ensures { λ r. ⌜ r ≡ wordsLaid [] ⌝ }
-{
-    Words {
-        bytes: [0u8; 120],
-        len: 0,
-    }
-}
+use records::name_of;
 
 // A pin's model: the words for none are kept in capitals.
 pub(crate) fn model_kept(w: &[u8]) -> Name

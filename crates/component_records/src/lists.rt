@@ -2,14 +2,12 @@
 ghost use mathlib.Core.Path.{_≡_};
 ghost use lib.ListN.{set};
 ghost use Rattle.cut_lines.specs.Cursors.{Placed};
-ghost use Rattle.line_rules.specs.Fields.{lineAt, wordMeaning, namedCells, orGiven};
+ghost use Rattle.line_rules.specs.Fields.{lineAt, wordMeaning, namedCells, orGiven, tripleIs};
 ghost use Rattle.line_rules.specs.Tables.{componentLines, locations, packageLines};
-ghost use Rattle.rules.specs.Reading.{noCells, tripleIs, atPlace};
+ghost use Rattle.rules.specs.Reading.{atPlace};
 ghost use Rattle.records.specs.declared.Location.the-variants.{AtPin};
 ghost use Rattle.component_records.specs.Views.{boxesOf, sitesOf, BoxesAre, SitesAre};
 use cut_lines::Cursor;
-use decimal::Cell;
-use line_rules::TripleRead;
 use lines_under::LineNext;
 use name_table::Found;
 use named_lines::LocationRead;
@@ -39,26 +37,6 @@ pub struct SitesRead {
     pub next: Cursor,
 }
 
-pub fn no_cells() -> Triple
-    ensures { λ r. ⌜ r ≡ noCells ⌝ }
-{
-    Triple {
-        typ: Cell::Missing,
-        min: Cell::Missing,
-        max: Cell::Missing,
-    }
-}
-
-// The cells of a line that has passed its checks.
-pub fn triple_is(r: TripleRead) -> Triple
-    ensures { λ t. ⌜ t ≡ tripleIs r ⌝ }
-{
-    match r {
-        TripleRead::Cells(t) => t,
-        TripleRead::Flawed(_) => no_cells(),
-    }
-}
-
 // The cells at place n; there are three places.
 fn box_at(b: Boxes, n: usize, cells: Triple) -> Boxes
     ensures { λ r. ⌜ boxesOf r ≡ set (boxesOf b) n cells ⌝ }
@@ -83,7 +61,7 @@ fn box_line(b: Boxes, w: &[u8]) -> Boxes
     ensures { λ r. ⌜ boxesOf r ≡ atPlace (boxesOf b) (tripleIs (namedCells (now (w .entry)))) (lineAt packageLines (now (w .entry))) ⌝ }
 {
     match named_lines::package_line(w) {
-        Found::At(n) => box_at(b, n, triple_is(line_faults::named_cells(w))),
+        Found::At(n) => box_at(b, n, line_cells::triple_is(line_faults::named_cells(w))),
         Found::Nothing => b,
     }
 }

@@ -2,17 +2,18 @@
 ghost use mathlib.Core.Path.{_≡_};
 ghost use Rattle.decimal.specs.Decimal.{cellOf};
 ghost use Rattle.line_cells.specs.Threes.{bytesOf, Within};
-ghost use Rattle.rules.specs.Reading.{cellIs, keptModel, pinIn, choiceIn};
+ghost use Rattle.rules.specs.Reading.{keptModel, pinIn, choiceIn};
+ghost use Rattle.line_rules.specs.Fields.{cellIs};
 ghost use Rattle.layout.specs.Laid.{pinLaid, choiceLaid};
 ghost use Rattle.records.specs.Stored.{nameLaid};
 use crate::held::model_kept;
-use crate::held::name_of;
-use crate::held::words_of;
 use decimal::Cell;
 use decimal::CellRead;
 use records::Choice;
 use records::Name;
 use records::Pin;
+use records::name_of;
+use records::words_of;
 use words::Word;
 
 fn name_at(w: &[u8], r: Word) -> Name

@@ -9,11 +9,8 @@ ghost use Rattle.cut_lines.specs.Cursors.{Placed};
 ghost use Rattle.rules.specs.Reading.{isWithin, componentIn};
 ghost use Rattle.layout.specs.Laid.{selectorLaid, componentLaid};
 ghost use Rattle.component_records.specs.Views.{selectorIn, noParts, PartIs, PartsAre};
-use crate::held::name_of;
-use crate::held::no_name;
 use crate::lists::Boxes;
 use crate::lists::boxes_under;
-use crate::lists::no_cells;
 use crate::lists::sites_under;
 use cut_lines::Cursor;
 use keywords::ComponentPart;
@@ -23,6 +20,9 @@ use records::Component;
 use records::Name;
 use records::Selector;
 use records::Span;
+use records::name_of;
+use records::no_cells;
+use records::no_name;
 
 pub fn selector_of(src: &[u8], c: Cursor, name: &[u8], section: usize, start: usize) -> Selector
     requires { ⌜ Placed (now src) c ⌝ }

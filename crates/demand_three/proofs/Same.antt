@@ -18,7 +18,7 @@ use Rattle.keywords.specs.declared.Keyword.the-variants as key
 use Rattle.keywords.specs.declared.Section.{Section}
 use Rattle.keywords.specs.declared.Section.the-variants.{Component, Selector, Model}
 use Rattle.cut_lines.specs.Change.{isChange}
-use Rattle.cut_lines.specs.Texts.{Text, plain, change, onto, textsFrom}
+use Rattle.cut_lines.specs.Texts.{Text, plain, onto, textsFrom}
 use Rattle.line_rules.specs.Fields.{isBracketed, isSome, firstWord}
 use Rattle.rules.specs.Reading.{keyAt, modelIn, ModelIs, SectionIs, model, opens, isWithin, ontoSections, sectionsIn, fileIn}
 use Rattle.demand_three.specs.Lines.{keywordOn, charAfterLine, isModel, sectionsOn, isModelSection}

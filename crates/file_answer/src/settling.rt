@@ -39,8 +39,8 @@ fn refused(f: Fault) -> Answer
             rows: 0,
         },
         header: Header {
-            name: component_records::words_of(b""),
-            revision: component_records::words_of(b""),
+            name: records::words_of(b""),
+            revision: records::words_of(b""),
         },
     }
 }

@@ -1,7 +1,7 @@
 -- How a file lies in the lent tables: each record, and each table from its start on.
 use Prim.Native.Nat.{ℕ, _+_}
 use mathlib.Core.List.{List, [], _∷_, _++_, map}
-use mathlib.Core.Bool.{Bool, true, false, cond}
+use mathlib.Core.Bool.{true, false, cond}
 use mathlib.Core.Option.{Option, none, some}
 use lib.ListN.{length, getD}
 use lib.Dec.{eqb}
@@ -11,9 +11,9 @@ use Rattle.keywords.specs.declared.CurrentTable.{CurrentTable}
 use Rattle.keywords.specs.declared.CurrentTable.the-variants.{Pulldown, Pullup, GndClamp, PowerClamp}
 use Rattle.line_rules.specs.Tables.{modelTypes}
 use Rattle.rules.specs.Model.{tablePlace}
-use Rattle.rules.specs.Reading.{noCells, noSlopes, PinIs, ComponentIs, ChoiceIs, SelectorIs, RampIs, WaveformIs, TableIs, current, waveform, ModelIs, SectionIs, component, selector, model, FileIs}
+use Rattle.rules.specs.Reading.{PinIs, ComponentIs, ChoiceIs, SelectorIs, RampIs, WaveformIs, TableIs, current, waveform, ModelIs, SectionIs, component, selector, model, FileIs}
+use Rattle.records.specs.Stored.{noSlopes, noCells, nameLaid, wordsLaid}
 use Rattle.line_rules.specs.Fields.{orGiven}
-use Rattle.records.specs.Stored.{nameLaid, wordsLaid}
 use Rattle.records.specs.declared.Location.the-variants.{AtPin}
 use Rattle.records.specs.declared.ModelType.the-variants.{Terminator}
 use Rattle.records.specs.declared.Triple.{Triple}

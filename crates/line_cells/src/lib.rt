@@ -5,7 +5,7 @@ ghost use lib.ListN.{length, drop};
 ghost use Rattle.laws.specs.Lists.{eqs};
 ghost use Rattle.decimal.specs.Decimal.{numberOf, cellOf};
 ghost use Rattle.words.specs.Words.{words};
-ghost use Rattle.line_rules.specs.Fields.{threeCells, withTyp, withMin, withMax, tableCells, onRow, withNumber, rowOf, slopeOf, slopeOrMissing, ratioOf, twoFaults, isUpward, upward, slopesTyp, slopesMin, slopesMax, threeSlopes, numberFault, cellFault, tripleFault, rampFault, heading};
+ghost use Rattle.line_rules.specs.Fields.{threeCells, withTyp, withMin, withMax, tableCells, onRow, withNumber, rowOf, slopeOf, slopeOrMissing, ratioOf, twoFaults, isUpward, upward, slopesTyp, slopesMin, slopesMax, threeSlopes, numberFault, cellFault, tripleFault, rampFault, heading, numberIs, tripleIs};
 ghost use Rattle.line_cells.specs.Headings.{headingRead, restRead};
 ghost use Rattle.line_cells.specs.Threes.{bytesOf, Within, ThreeFrom};
 use decimal::Cell;
@@ -409,4 +409,24 @@ pub fn heading_of(w: &[u8]) -> HeadingRead
         return HeadingRead::NoHeading;
     }
     rest_of(w, b.end)
+}
+
+// ---- what a line that has passed its checks gives; missing stays missing
+
+pub fn number_is(r: NumberRead) -> Cell
+    ensures { λ c. ⌜ c ≡ numberIs r ⌝ }
+{
+    match r {
+        NumberRead::Value(d) => Cell::Number(d),
+        NumberRead::Wrong(_) => Cell::Missing,
+    }
+}
+
+pub fn triple_is(r: TripleRead) -> Triple
+    ensures { λ t. ⌜ t ≡ tripleIs r ⌝ }
+{
+    match r {
+        TripleRead::Cells(t) => t,
+        TripleRead::Flawed(_) => records::no_cells(),
+    }
 }

@@ -5,10 +5,10 @@ use Prim.Native.String.{String}
 use mathlib.Core.List.{List, [], _∷_, map}
 use mathlib.Core.Bool.{Bool, true, false, cond, not, _&&_, _||_}
 use mathlib.Core.Option.{Option, none, some}
-use lib.ListN.{length, take, drop}
+use lib.ListN.{length, drop}
 use lib.Dec.{eqb, leb}
 use Rattle.laws.specs.Bytes.{bytes, isBlank, isDigit, isSmall, capital}
-use Rattle.laws.specs.Lists.{front, after, all, among, other, eqs}
+use Rattle.laws.specs.Lists.{front, after, among, other, eqs}
 use Rattle.decimal.specs.Decimal.{numberOf, cellOf, isMissing, aboveZero}
 use Rattle.decimal.specs.declared.Decimal.{Decimal}
 use Rattle.decimal.specs.declared.Cell.{Cell}
@@ -20,6 +20,7 @@ use Rattle.decimal.specs.declared.CellRead.the-variants.{Read, Bad}
 use Rattle.words.specs.Words.{words}
 use Rattle.name_table.specs.Names.{Entry, meaning, placeFrom}
 use Rattle.name_table.specs.declared.Found.{Found}
+use Rattle.records.specs.Stored.{noCells, noSlopes}
 use Rattle.records.specs.declared.Triple.{Triple}
 use Rattle.line_rules.specs.declared.TripleRead.{TripleRead}
 use Rattle.line_rules.specs.declared.TripleRead.the-variants.{Cells, Flawed}
@@ -282,3 +283,21 @@ rampFault (Refused n) = n
 -- a word that is none of a table's is 10
 unfoldable pub wordFault : {A : Type 0} → List (Entry A) → List ℕ → ℕ
 wordFault table w = cond (isSome (wordMeaning table w)) 0 10
+
+-- ---- values, where a line has passed its checks; missing stays missing
+
+abbrev pub numberIs : NumberRead → Cell
+numberIs (Value d) = Number d
+numberIs (Wrong n) = Missing
+
+abbrev pub cellIs : CellRead → Cell
+cellIs (Read c) = c
+cellIs (Bad n) = Missing
+
+abbrev pub tripleIs : TripleRead → Triple
+tripleIs (Cells t) = t
+tripleIs (Flawed n) = noCells
+
+abbrev pub slopesAre : RampRead → RampTriple
+slopesAre (Slopes t) = t
+slopesAre (Refused n) = noSlopes

@@ -11,10 +11,10 @@ use Rattle.keywords.specs.declared.CurrentTable.the-variants.{Pulldown, Pullup,
 use Rattle.keywords.specs.declared.ModelPart.{ModelPart}
 use Rattle.keywords.specs.declared.ModelPart.the-variants.{VoltageRange, TemperatureRange, Current, Ramp, Waveform}
 use Rattle.cut_lines.specs.Texts.{Text}
-use Rattle.rules.specs.Reading.{noCells, under, isWithin, firstIn, withDefaults, bareFirst, rowsIn, waveformIn, current, waveform, ModelIs, onModelPart, modelIn}
+use Rattle.rules.specs.Reading.{under, isWithin, firstIn, withDefaults, bareFirst, rowsIn, waveformIn, current, waveform, ModelIs, onModelPart, modelIn}
+use Rattle.records.specs.Stored.{noCells, nameLaid}
 use Rattle.rules.specs.Same.{waveformsOf}
 use Rattle.layout.specs.Laid.{allRows, tableAt, rangeLaid, rampLaid, modelLaid}
-use Rattle.records.specs.Stored.{nameLaid}
 use Rattle.lines_under.proofs.Laws.{under-within}
 use Rattle.table_rows.specs.Parts.{PartIs, partsIn, withParts}
 use Rattle.table_rows.proofs.RowLaws.{current-rows, waveform-rows}

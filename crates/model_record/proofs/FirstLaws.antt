@@ -15,9 +15,9 @@ use Rattle.decimal.specs.declared.Cell.the-variants.{Number, Missing}
 use Rattle.name_table.specs.Names.{meaning}
 use Rattle.name_table.specs.declared.Found.{Found}
 use Rattle.name_table.specs.declared.Found.the-variants.{At, Nothing}
-use Rattle.line_rules.specs.Fields.{lineAt, namedWord, meaningIn, assignedNumber, orGiven}
+use Rattle.line_rules.specs.Fields.{lineAt, namedWord, meaningIn, assignedNumber, orGiven, numberIs}
 use Rattle.line_rules.specs.Tables.{modelLines, modelTypes}
-use Rattle.rules.specs.Model.{orNothing, isInput, numberIs, orElse, defaultVinl, defaultVinh}
+use Rattle.rules.specs.Model.{orNothing, isInput, orElse, defaultVinl, defaultVinh}
 use Rattle.rules.specs.Reading.{FirstIs, onFirstLine, firstIn, withDefaults, bareFirst}
 use Rattle.records.specs.declared.ModelType.{ModelType}
 use Rattle.records.specs.declared.ModelType.the-variants.{Terminator}

@@ -12,9 +12,10 @@ use Rattle.laws.proofs.Tests.{by-test, cond-yes, cond-no}
 use Rattle.decimal.specs.declared.Cell.the-variants.{Missing}
 use Rattle.name_table.specs.declared.Found.{Found}
 use Rattle.name_table.specs.declared.Found.the-variants.{At, Nothing}
-use Rattle.line_rules.specs.Fields.{lineAt, namedSlopes}
+use Rattle.line_rules.specs.Fields.{lineAt, namedSlopes, slopesAre}
 use Rattle.line_rules.specs.Tables.{rampLines}
-use Rattle.rules.specs.Reading.{noSlopes, slopesAre, RampIs, onRampLine, rampIn}
+use Rattle.rules.specs.Reading.{RampIs, onRampLine, rampIn}
+use Rattle.records.specs.Stored.{noSlopes}
 use Rattle.layout.specs.Laid.{rampLaid}
 use Rattle.records.specs.declared.RampTriple.{RampTriple}
 use Rattle.records.specs.declared.RampTable.{RampTable}

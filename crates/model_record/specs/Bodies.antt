@@ -13,8 +13,9 @@ use Rattle.keywords.specs.declared.ModelPart.the-variants.{VoltageRange, Temper
 use Rattle.cut_lines.specs.Texts.{rest}
 use Rattle.cut_lines.specs.Cursors.{Placed}
 use Rattle.cut_lines.specs.declared.Cursor.{Cursor}
-use Rattle.line_rules.specs.Fields.{threeCells}
-use Rattle.rules.specs.Reading.{tripleIs, noCells, under}
+use Rattle.line_rules.specs.Fields.{threeCells, tripleIs}
+use Rattle.rules.specs.Reading.{under}
+use Rattle.records.specs.Stored.{noCells}
 use Rattle.layout.specs.Laid.{rangeLaid, rampLaid}
 use Rattle.records.specs.declared.Name.{Name}
 use Rattle.records.specs.declared.RampTable.{RampTable}

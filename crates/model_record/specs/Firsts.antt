@@ -11,10 +11,11 @@ use Rattle.name_table.specs.declared.Found.{Found}
 use Rattle.name_table.specs.declared.Found.the-variants.{At, Nothing}
 use Rattle.cut_lines.specs.Texts.{rest}
 use Rattle.cut_lines.specs.declared.Cursor.{Cursor}
-use Rattle.line_rules.specs.Fields.{lineAt, namedWord, wordMeaning, namedCells, assignedNumber, orGiven}
+use Rattle.line_rules.specs.Fields.{lineAt, namedWord, wordMeaning, namedCells, assignedNumber, orGiven, numberIs, tripleIs}
 use Rattle.line_rules.specs.Tables.{modelLines, modelTypes, polarities, enables}
-use Rattle.rules.specs.Model.{orNothing, isInput, numberIs, orElse, defaultVinl, defaultVinh}
-use Rattle.rules.specs.Reading.{tripleIs, noCells, under, FirstIs}
+use Rattle.rules.specs.Model.{orNothing, isInput, orElse, defaultVinl, defaultVinh}
+use Rattle.rules.specs.Reading.{under, FirstIs}
+use Rattle.records.specs.Stored.{noCells}
 use Rattle.records.specs.declared.ModelType.the-variants.{Terminator}
 use Rattle.records.specs.declared.Polarity.the-variants.{NoPolarity}
 use Rattle.records.specs.declared.Enable.the-variants.{NoEnable}

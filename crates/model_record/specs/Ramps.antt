@@ -9,10 +9,10 @@ use Rattle.name_table.specs.declared.Found.{Found}
 use Rattle.name_table.specs.declared.Found.the-variants.{At, Nothing}
 use Rattle.cut_lines.specs.Texts.{rest}
 use Rattle.cut_lines.specs.declared.Cursor.{Cursor}
-use Rattle.line_rules.specs.Fields.{lineAt, namedSlopes, assignedNumber}
+use Rattle.line_rules.specs.Fields.{lineAt, namedSlopes, assignedNumber, numberIs, slopesAre}
 use Rattle.line_rules.specs.Tables.{rampLines}
-use Rattle.rules.specs.Model.{numberIs}
-use Rattle.rules.specs.Reading.{noSlopes, slopesAre, under}
+use Rattle.rules.specs.Reading.{under}
+use Rattle.records.specs.Stored.{noSlopes}
 use Rattle.records.specs.declared.RampTable.{RampTable}
 use Rattle.lines_under.specs.Under.{StopsAt}
 use Rattle.model_record.specs.declared.RampLinesRead.{RampLinesRead}

@@ -34,10 +34,10 @@ fn bare_body(row: usize) -> Body
     ensures { λ r. ⌜ r ≡ bareBody row ⌝ }
 {
     Body {
-        voltage: component_records::no_cells(),
+        voltage: records::no_cells(),
         temperature: Range {
             given: false,
-            cells: component_records::no_cells(),
+            cells: records::no_cells(),
         },
         pulldown: no_table(),
         pullup: no_table(),
@@ -152,14 +152,14 @@ fn take_part(b: Body, src: &[u8], c: Cursor, part: ModelPart, argument: &[u8]) -
         ModelPart::VoltageRange => Taken {
             body: with_voltage(
                 b,
-                component_records::triple_is(line_cells::three_cells(argument, 0)),
+                line_cells::triple_is(line_cells::three_cells(argument, 0)),
             ),
             next: c,
         },
         ModelPart::TemperatureRange => Taken {
             body: with_temperature(
                 b,
-                component_records::triple_is(line_cells::three_cells(argument, 0)),
+                line_cells::triple_is(line_cells::three_cells(argument, 0)),
             ),
             next: c,
         },

@@ -4,10 +4,9 @@ ghost use mathlib.Core.Path.{_≡_};
 ghost use lib.Dec.{eqb};
 ghost use Rattle.decimal.specs.declared.Cell.the-variants.{Number};
 ghost use Rattle.cut_lines.specs.Cursors.{Placed};
-ghost use Rattle.line_rules.specs.Fields.{namedWord, wordMeaning, namedCells, assignedNumber, orGiven};
+ghost use Rattle.line_rules.specs.Fields.{namedWord, wordMeaning, namedCells, assignedNumber, orGiven, numberIs, tripleIs};
 ghost use Rattle.line_rules.specs.Tables.{modelTypes, polarities, enables};
-ghost use Rattle.rules.specs.Model.{orNothing, isInput, numberIs, orElse};
-ghost use Rattle.rules.specs.Reading.{tripleIs};
+ghost use Rattle.rules.specs.Model.{orNothing, isInput, orElse};
 ghost use Rattle.records.specs.declared.Polarity.the-variants.{NoPolarity};
 ghost use Rattle.records.specs.declared.Enable.the-variants.{NoEnable};
 ghost use Rattle.records.specs.declared.ModelType.the-variants.{Terminator};
@@ -70,7 +69,7 @@ fn comp_after(n: usize, w: &[u8], before: Triple) -> Triple
     ensures { λ r. ⌜ r ≡ cond (eqb n 3) (tripleIs (namedCells (now (w .entry)))) before ⌝ }
 {
     if n == 3 {
-        return component_records::triple_is(line_faults::named_cells(w));
+        return line_cells::triple_is(line_faults::named_cells(w));
     }
     before
 }
@@ -80,7 +79,7 @@ pub(crate) fn number_after(place: usize, n: usize, w: &[u8], before: Cell) -> Ce
     ensures { λ r. ⌜ r ≡ cond (eqb n place) (numberIs (assignedNumber (now (w .entry)))) before ⌝ }
 {
     if n == place {
-        return table_rows::number_is(named_lines::assigned_number(w));
+        return line_cells::number_is(named_lines::assigned_number(w));
     }
     before
 }
@@ -95,7 +94,7 @@ fn bare_lines() -> FirstLines
         input: false,
         polarity: Polarity::NoPolarity,
         enable: Enable::NoEnable,
-        comp: component_records::no_cells(),
+        comp: records::no_cells(),
         vinl: Cell::Missing,
         vinh: Cell::Missing,
         vmeas: Cell::Missing,

@@ -82,5 +82,5 @@ pub fn model_of(
     let next = first.next;
     let f = with_defaults(lines);
     let b = body_of(src, next, row);
-    model_over(section, start, component_records::name_of(name), f, b)
+    model_over(section, start, records::name_of(name), f, b)
 }

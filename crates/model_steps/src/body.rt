@@ -3,16 +3,15 @@ ghost use mathlib.Core.Bool.{cond};
 ghost use mathlib.Core.Path.{_≡_};
 ghost use lib.Dec.{eqb};
 ghost use Rattle.words.specs.Words.{words};
-ghost use Rattle.line_rules.specs.Fields.{firstWord, namedWord, assignedNumber, lineAt, rowOf};
+ghost use Rattle.line_rules.specs.Fields.{firstWord, namedWord, assignedNumber, lineAt, rowOf, numberIs};
 ghost use Rattle.line_rules.specs.Tables.{modelLines, rampLines, fixtures};
-ghost use Rattle.rules.specs.Model.{orNothing, isInput, isDriven, numberIs, withFirst, firstLine, rowLine, rampLine, fixtureLine, beginsLetter, waveformLine, modelLine};
+ghost use Rattle.rules.specs.Model.{orNothing, isInput, isDriven, withFirst, firstLine, rowLine, rampLine, fixtureLine, beginsLetter, waveformLine, modelLine};
 ghost use Rattle.rules.specs.declared.ModelList.the-variants.{CurrentRows, WaveformRows};
 use crate::RowStep;
 use crate::rows::row_step;
 use crate::state::quiet;
 use crate::state::with_list;
 use decimal::Cell;
-use decimal::NumberRead;
 use given::Given;
 use name_table::Found;
 use rules::Event;
@@ -24,21 +23,12 @@ use rules::Went;
 
 // ---- the first lines
 
-fn number_is(r: NumberRead) -> Cell
-    ensures { λ c. ⌜ c ≡ numberIs r ⌝ }
-{
-    match r {
-        NumberRead::Value(d) => Cell::Number(d),
-        NumberRead::Wrong(_) => Cell::Missing,
-    }
-}
-
 // A threshold's cell after the line at place n: its own line stands at `place`.
 fn threshold(place: usize, n: usize, w: &[u8], before: Cell) -> Cell
     ensures { λ c. ⌜ c ≡ cond (eqb n place) (numberIs (assignedNumber (now (w .entry)))) before ⌝ }
 {
     if n == place {
-        return number_is(named_lines::assigned_number(w));
+        return line_cells::number_is(named_lines::assigned_number(w));
     }
     before
 }

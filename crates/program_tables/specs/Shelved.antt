@@ -6,9 +6,8 @@ use mathlib.Core.Option.{none}
 use lib.ListN.{replicate}
 use Rattle.decimal.specs.declared.Cell.the-variants.{Missing}
 use Rattle.records.specs.declared.Edge.the-variants.{Rising}
-use Rattle.rules.specs.Reading.{noCells}
+use Rattle.records.specs.Stored.{noCells, nameLaid, wordsLaid}
 use Rattle.layout.specs.Laid.{rangeLaid, rampLaid}
-use Rattle.records.specs.Stored.{nameLaid, wordsLaid}
 use Rattle.records.specs.declared.Location.the-variants.{AtPin}
 use Rattle.records.specs.declared.Polarity.the-variants.{NoPolarity}
 use Rattle.records.specs.declared.Enable.the-variants.{NoEnable}

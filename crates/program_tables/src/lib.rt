@@ -56,8 +56,8 @@ fn no_ramp() -> RampTable
 pub fn blank_component() -> Component
     ensures { λ r. ⌜ r ≡ blankComponent ⌝ }
 {
-    let name = component_records::no_name();
-    let cells = component_records::no_cells();
+    let name = records::no_name();
+    let cells = records::no_cells();
     Component {
         section: 0,
         name: name,
@@ -74,7 +74,7 @@ pub fn blank_component() -> Component
 pub fn blank_pin() -> Pin
     ensures { λ r. ⌜ r ≡ blankPin ⌝ }
 {
-    let name = component_records::no_name();
+    let name = records::no_name();
     Pin {
         name: name,
         signal: name,
@@ -90,7 +90,7 @@ pub fn blank_selector() -> Selector
 {
     Selector {
         section: 0,
-        name: component_records::no_name(),
+        name: records::no_name(),
         choices: Span { start: 0, count: 0 },
     }
 }
@@ -99,22 +99,22 @@ pub fn blank_choice() -> Choice
     ensures { λ r. ⌜ r ≡ blankChoice ⌝ }
 {
     Choice {
-        model: component_records::no_name(),
-        description: component_records::no_words(),
+        model: records::no_name(),
+        description: records::no_words(),
     }
 }
 
 pub fn blank_model() -> Model
     ensures { λ r. ⌜ r ≡ blankModel ⌝ }
 {
-    let cells = component_records::no_cells();
+    let cells = records::no_cells();
     let table = Table {
         given: false,
         rows: Span { start: 0, count: 0 },
     };
     Model {
         section: 0,
-        name: component_records::no_name(),
+        name: records::no_name(),
         kind: ModelType::Input,
         polarity: Polarity::NoPolarity,
         enable: Enable::NoEnable,

@@ -1,2 +1,3 @@
--- What the definitions must keep.
+-- Laws of the code, and what the definitions must keep.
+pub mod Copies
 pub mod Sanity

@@ -1,9 +1,12 @@
--- How a text lies in a record, a row in the row store, and what is new over what a table held.
+-- How a text lies in a record, a row in the row store, what is new over what a table held, and what stands where nothing is given.
 use Prim.Native.Nat.{ℕ, _-_}
 use mathlib.Core.List.{List, [], _∷_, _++_}
 use lib.ListN.{length, take, drop, replicate}
 use Rattle.decimal.specs.Decimal.{wordOf}
-use Rattle.decimal.specs.declared.Cell.the-variants.{Number}
+use Rattle.decimal.specs.declared.Cell.the-variants.{Number, Missing}
+use Rattle.records.specs.declared.Triple.{Triple}
+use Rattle.records.specs.declared.RampCell.the-variants.{Absent}
+use Rattle.records.specs.declared.RampTriple.{RampTriple}
 use Rattle.records.specs.declared.Row.{Row}
 use Rattle.records.specs.declared.Name.{Name}
 use Rattle.records.specs.declared.Words.{Words}
@@ -33,3 +36,11 @@ stored (r ∷ rs) = rowWords r ++ stored rs
 
 unfoldable pub over : {A : Type 0} → List A → List A → List A
 over table new = new ++ drop (length new) table
+
+-- ---- where nothing is given
+
+abbrev pub noCells : Triple
+noCells = record { typ = Missing; min = Missing; max = Missing }
+
+abbrev pub noSlopes : RampTriple
+noSlopes = record { typ = Absent; min = Absent; max = Absent }

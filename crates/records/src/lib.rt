@@ -5,6 +5,14 @@ ghost use Rattle.records.specs.Types.{typeNumber};
 use decimal::Cell;
 use decimal::Decimal;
 
+pub mod texts; // texts.rt: texts as they lie in a record, and what stands where nothing is given
+
+pub use texts::name_of;
+pub use texts::no_cells;
+pub use texts::no_name;
+pub use texts::no_words;
+pub use texts::words_of;
+
 // ---- faults and answers
 
 // A fault of document 01: its number and the line told.

@@ -3,7 +3,7 @@ use mathlib.Core.Path.{_≡_, refl}
 use mathlib.Core.List.{[]}
 use Rattle.lines.specs.Lines.{linesOf, faultFrom, bytesFault}
 use Rattle.cut_lines.specs.Texts.{textsFrom}
-use Rattle.rules.specs.Whole.{Outcome, refused, runs, textsOf, outcome}
+use Rattle.rules.specs.Whole.{refused, runs, textsOf, outcome}
 use Rattle.records.specs.declared.Lengths.{Lengths}
 
 pub empty-file : (l : Lengths) → outcome l [] ≡ refused 19 1

@@ -11,8 +11,6 @@ use Rattle.decimal.specs.Decimal.{lessThan}
 use Rattle.decimal.specs.declared.Decimal.{Decimal}
 use Rattle.decimal.specs.declared.Cell.{Cell}
 use Rattle.decimal.specs.declared.Cell.the-variants.{Number, Missing}
-use Rattle.decimal.specs.declared.NumberRead.{NumberRead}
-use Rattle.decimal.specs.declared.NumberRead.the-variants.{Value, Wrong}
 use Rattle.words.specs.Words.{words}
 use Rattle.name_table.specs.declared.Found.{Found}
 use Rattle.name_table.specs.declared.Found.the-variants.{At, Nothing}
@@ -20,8 +18,7 @@ use Rattle.keywords.specs.declared.ModelPart.{ModelPart}
 use Rattle.keywords.specs.declared.ModelPart.the-variants.{VoltageRange, TemperatureRange, Current, Ramp, Waveform}
 use Rattle.keywords.specs.declared.CurrentTable.{CurrentTable}
 use Rattle.keywords.specs.declared.CurrentTable.the-variants.{Pulldown, Pullup, GndClamp, PowerClamp}
-use Rattle.records.specs.declared.Edge.{Edge}
-use Rattle.line_rules.specs.Fields.{oneOf, firstWord, lineAt, namedWord, wordFault, namedCells, threeCells, namedSlopes, assignedNumber, rowOf, numberFault, tripleFault, rampFault}
+use Rattle.line_rules.specs.Fields.{oneOf, firstWord, lineAt, namedWord, wordFault, namedCells, threeCells, namedSlopes, assignedNumber, rowOf, numberIs, numberFault, tripleFault, rampFault}
 use Rattle.given.specs.Given.{noneGiven, has, with}
 use Rattle.line_rules.specs.Tables.{modelLines, modelTypes, polarities, enables, rampLines, fixtures}
 use Rattle.rules.specs.Going.{stop, unless, refuse, quietly}
@@ -67,10 +64,6 @@ isInput t = eqs (take 5 t) (bytes "Input") || eqs (take 3 t) (bytes "I/O")
 -- [Ramp] is "Required unless Input, Input_ECL or Terminator"
 unfoldable pub isDriven : List ℕ → Bool
 isDriven t = not (oneOf t (bytes "Input" ∷ bytes "Input_ECL" ∷ bytes "Terminator" ∷ []))
-
-abbrev pub numberIs : NumberRead → Cell
-numberIs (Value d) = Number d
-numberIs (Wrong n) = Missing
 
 -- the type, Vinl and Vinh are remembered for the close
 unfoldable pub withFirst : ModelState → ℕ → List ℕ → ModelState

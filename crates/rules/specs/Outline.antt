@@ -1,7 +1,7 @@
 -- What is named in a file, in file order; names used twice (14), names not found (15), and what nobody lists (16).
 use Prim.Native.Nat.{ℕ, _+_}
 use mathlib.Core.List.{List, [], _∷_}
-use mathlib.Core.Bool.{Bool, true, false, cond, not, _&&_, _||_}
+use mathlib.Core.Bool.{Bool, true, false, cond, _&&_, _||_}
 use lib.Dec.{eqb}
 use Rattle.laws.specs.Lists.{eqs, front}
 use Rattle.line_rules.specs.Fields.{needsNoModel}

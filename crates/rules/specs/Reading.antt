@@ -10,8 +10,6 @@ use Rattle.laws.specs.Lists.{front, after}
 use Rattle.decimal.specs.Decimal.{cellOf}
 use Rattle.decimal.specs.declared.Cell.{Cell}
 use Rattle.decimal.specs.declared.Cell.the-variants.{Number, Missing}
-use Rattle.decimal.specs.declared.CellRead.{CellRead}
-use Rattle.decimal.specs.declared.CellRead.the-variants.{Read, Bad}
 use Rattle.words.specs.Words.{words}
 use Rattle.name_table.specs.declared.Found.{Found}
 use Rattle.name_table.specs.declared.Found.the-variants.{At, Nothing}
@@ -31,20 +29,16 @@ use Rattle.records.specs.declared.Edge.{Edge}
 use Rattle.keywords.specs.declared.KeyRead.{KeyRead}
 use Rattle.keywords.specs.declared.KeyRead.the-variants.{Known, Unknown, Malformed}
 use Rattle.cut_lines.specs.Texts.{Text, plain, change}
-use Rattle.line_rules.specs.Fields.{isBracketed, needsNoModel, firstWord, otherWords, lineAt, namedWord, wordMeaning, orGiven, namedCells, threeCells, namedSlopes, assignedNumber, rowOf}
+use Rattle.line_rules.specs.Fields.{isBracketed, needsNoModel, firstWord, otherWords, lineAt, namedWord, wordMeaning, orGiven, namedCells, threeCells, namedSlopes, assignedNumber, rowOf, cellIs, numberIs, tripleIs, slopesAre}
+use Rattle.records.specs.Stored.{noCells, noSlopes}
 use Rattle.line_rules.specs.Tables.{componentLines, locations, packageLines, modelLines, polarities, enables, rampLines, fixtures}
 use Rattle.rules.specs.Header.{headerPlace}
-use Rattle.rules.specs.Model.{orNothing, isInput, numberIs, beginsLetter, orElse, defaultVinl, defaultVinh}
+use Rattle.rules.specs.Model.{orNothing, isInput, beginsLetter, orElse, defaultVinl, defaultVinh}
 use Rattle.records.specs.declared.Triple.{Triple}
-use Rattle.line_rules.specs.declared.TripleRead.{TripleRead}
-use Rattle.line_rules.specs.declared.TripleRead.the-variants.{Cells, Flawed}
 use Rattle.records.specs.declared.Row.{Row}
 use Rattle.line_rules.specs.declared.RowRead.{RowRead}
 use Rattle.line_rules.specs.declared.RowRead.the-variants.{Line, Amiss}
-use Rattle.records.specs.declared.RampCell.the-variants.{Absent}
 use Rattle.records.specs.declared.RampTriple.{RampTriple}
-use Rattle.line_rules.specs.declared.RampRead.{RampRead}
-use Rattle.line_rules.specs.declared.RampRead.the-variants.{Slopes, Refused}
 use Rattle.records.specs.declared.Location.{Location}
 use Rattle.records.specs.declared.Location.the-variants.{AtPin}
 use Rattle.records.specs.declared.Polarity.{Polarity}
@@ -52,25 +46,7 @@ use Rattle.records.specs.declared.Polarity.the-variants.{NoPolarity}
 use Rattle.records.specs.declared.Enable.{Enable}
 use Rattle.records.specs.declared.Enable.the-variants.{NoEnable}
 
--- ---- values, where a line has passed its checks; missing stays missing
-
-abbrev pub cellIs : CellRead → Cell
-cellIs (Read c) = c
-cellIs (Bad n) = Missing
-
-abbrev pub noCells : Triple
-noCells = record { typ = Missing; min = Missing; max = Missing }
-
-abbrev pub tripleIs : TripleRead → Triple
-tripleIs (Cells t) = t
-tripleIs (Flawed n) = noCells
-
-abbrev pub noSlopes : RampTriple
-noSlopes = record { typ = Absent; min = Absent; max = Absent }
-
-abbrev pub slopesAre : RampRead → RampTriple
-slopesAre (Slopes t) = t
-slopesAre (Refused n) = noSlopes
+-- ---- named lines
 
 -- the value of a named line goes to its place in the list of such lines
 abbrev pub atPlace : {A : Type 0} → List A → A → Found → List A

@@ -1,5 +1,4 @@
 -- What is kept of a file, and when two files say the same.
-use Prim.Native.Nat.{_-_}
 use mathlib.Core.List.{List, [], _∷_}
 use mathlib.Core.Bool.{cond}
 use mathlib.Core.Option.{Option, none, some}

@@ -1,7 +1,7 @@
 -- Document 01, "Sections": [Model Selector].
 use Prim.Native.Nat.{ℕ}
-use mathlib.Core.List.{List, [], _∷_}
-use mathlib.Core.Bool.{Bool, true, false, not}
+use mathlib.Core.List.{List}
+use mathlib.Core.Bool.{true, false, not}
 use Rattle.words.specs.Words.{words}
 use Rattle.line_rules.specs.Fields.{isModelName, firstWord}
 use Rattle.rules.specs.Going.{refuse, quietly}

@@ -1,8 +1,7 @@
 -- Document 01, "Faults", the order at a line: first what it closes, inner table before section, then the line itself.
 use Prim.Native.Nat.{ℕ}
-use Prim.Native.Char.{code}
-use mathlib.Core.List.{List, [], _∷_}
-use mathlib.Core.Bool.{Bool, true, false, cond, not}
+use mathlib.Core.List.{List}
+use mathlib.Core.Bool.{cond, not}
 use lib.ListN.{length}
 use lib.Dec.{eqb}
 use Rattle.words.specs.Words.{words}
@@ -30,10 +29,9 @@ use Rattle.rules.specs.declared.SelectorState.{SelectorState}
 use Rattle.rules.specs.declared.ModelState.{ModelState}
 use Rattle.rules.specs.declared.Stage.{Stage}
 use Rattle.rules.specs.declared.Stage.the-variants.{BeforeVersion, InHeader, InComponent, InSelector, InModel, AfterEnd}
-use Rattle.rules.specs.declared.Event.{Event}
 use Rattle.rules.specs.declared.Event.the-variants.{Opened, Ended}
 use Rattle.rules.specs.declared.Went.{Went}
-use Rattle.rules.specs.declared.Went.the-variants.{On, Stop}
+use Rattle.rules.specs.declared.Went.the-variants.{On}
 
 -- by what is open: nothing before [IBIS Ver], the header, a component, a selector, a model, nothing after [End]
 abbrev pub byStage : {A : Type 0} → A → (HeaderState → A) → (ComponentState → A) → (SelectorState → A) → (ModelState → A) → A → Stage → A

@@ -2,12 +2,11 @@
 use Prim.Native.Nat.{ℕ, _+_, min}
 use Prim.Native.Char.{code}
 use mathlib.Core.List.{List, [], _∷_, reverse}
-use mathlib.Core.Bool.{Bool, true, false, cond, not}
+use mathlib.Core.Bool.{Bool, cond}
 use lib.ListN.{length}
 use lib.Dec.{eqb, leb}
 use Rattle.words.specs.Words.{words}
 use Rattle.lines.specs.Lines.{linesOf, bytesFault}
-use Rattle.records.specs.declared.Fault.{Fault}
 use Rattle.lines.specs.declared.Bytes.{Bytes}
 use Rattle.lines.specs.declared.Bytes.the-variants.{Clean, Faulty}
 use Rattle.keywords.specs.Form.{argument}

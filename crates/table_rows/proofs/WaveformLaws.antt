@@ -11,9 +11,8 @@ use Rattle.words.specs.Words.{words}
 use Rattle.name_table.specs.declared.Found.{Found}
 use Rattle.name_table.specs.declared.Found.the-variants.{At, Nothing}
 use Rattle.records.specs.declared.Edge.{Edge}
-use Rattle.line_rules.specs.Fields.{lineAt, assignedNumber, rowOf}
+use Rattle.line_rules.specs.Fields.{lineAt, assignedNumber, rowOf, numberIs}
 use Rattle.line_rules.specs.Tables.{fixtures}
-use Rattle.rules.specs.Model.{numberIs}
 use Rattle.rules.specs.Reading.{atPlace, isNamedLine, fixturesIn, rowLines, rowsIn, waveformIn}
 use Rattle.layout.specs.Laid.{waveformLaid}
 use Rattle.line_rules.specs.declared.RowRead.{RowRead}

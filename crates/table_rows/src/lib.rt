@@ -9,7 +9,6 @@ pub mod parts; // parts.rt: the keywords of a model one after another, and all i
 pub use parts::fill_model;
 pub use parts::next_part;
 pub use rows::count_rows;
-pub use waveforms::number_is;
 pub use waveforms::waveform_of;
 
 // How many rows a table has, and where the next keyword line stands.

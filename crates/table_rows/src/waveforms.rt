@@ -5,29 +5,18 @@ ghost use Prim.Native.Nat.{_^_, _<_};
 ghost use lib.Dec.{eqb};
 ghost use Rattle.cut_lines.specs.Texts.{rest};
 ghost use Rattle.cut_lines.specs.Cursors.{Placed};
-ghost use Rattle.rules.specs.Model.{numberIs};
 ghost use Rattle.rules.specs.Reading.{under, waveformIn};
 ghost use Rattle.layout.specs.Laid.{waveformLaid};
 ghost use Rattle.table_rows.specs.Waveforms.{bareWaveform, withFixture, withPoint, withLine};
 use crate::rows::named_line;
 use cut_lines::Cursor;
 use decimal::Cell;
-use decimal::NumberRead;
 use line_rules::RowRead;
 use lines_under::LineNext;
 use name_table::Found;
 use records::Edge;
 use records::Span;
 use records::Waveform;
-
-pub fn number_is(r: NumberRead) -> Cell
-    ensures { λ c. ⌜ c ≡ numberIs r ⌝ }
-{
-    match r {
-        NumberRead::Value(d) => Cell::Number(d),
-        NumberRead::Wrong(_) => Cell::Missing,
-    }
-}
 
 // The cell at a place, after a number came to place n.
 fn cell_at(place: usize, n: usize, number: Cell, before: Cell) -> Cell
@@ -115,7 +104,7 @@ fn with_line(x: Waveform, w: &[u8]) -> Waveform
     ensures { λ r. ⌜ r ≡ withLine x (now (w .entry)) ⌝ }
 {
     if named_line(w) {
-        let number = number_is(named_lines::assigned_number(w));
+        let number = line_cells::number_is(named_lines::assigned_number(w));
         return with_fixture(x, number, named_lines::fixture_line(w));
     }
     with_point(x, line_cells::row_of(w))

@@ -3,7 +3,7 @@ use mathlib.Core.Path.{sym, ap, _∙_}
 use borrow.Author.Needs.{needs}
 use denote.Ref.{now}
 use Rattle.records.specs.Stored.{nameLaid}
-use Rattle.component_records.proofs.Copies.{kept-power, kept-ground, kept-none, kept-other}
+use Rattle.component_records.proofs.Kept.{kept-power, kept-ground, kept-none, kept-other}
 use Rattle.component_records.proofs.held.model_kept.Statement.{statement}
 use Rattle.component_records.proofs.held.model_kept.Tie as tie
 

@@ -1,7 +1,7 @@
 -- By cases on what the word is.
 use mathlib.Core.Path.{sym, ap, _∙_}
 use borrow.Author.Needs.{needs}
-use Rattle.rules.specs.Reading.{cellIs}
+use Rattle.line_rules.specs.Fields.{cellIs}
 use Rattle.component_records.proofs.rows.cell_at.Statement.{statement}
 use Rattle.component_records.proofs.rows.cell_at.Tie as tie
 

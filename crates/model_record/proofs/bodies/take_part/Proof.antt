@@ -4,7 +4,7 @@ use mathlib.Core.Path.{refl, sym, ap, _∙_}
 use native.Mathlib.Omega.{arith}
 use borrow.Author.Needs.{needs}
 use Rattle.keywords.specs.declared.ModelPart.the-variants.{VoltageRange, TemperatureRange, Current, Ramp, Waveform}
-use Rattle.rules.specs.Reading.{tripleIs}
+use Rattle.line_rules.specs.Fields.{tripleIs}
 use Rattle.table_rows.proofs.PartLaws.{parts-behind}
 use Rattle.model_record.specs.Bodies.{withVoltage, withTemperature, withCurrent, withRamp, withWaveform}
 use Rattle.model_record.proofs.Takes.{taken, current-fits}

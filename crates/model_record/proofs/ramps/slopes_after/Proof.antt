@@ -3,7 +3,7 @@ use mathlib.Core.Path.{sym, ap, _∙_}
 use borrow.Author.Needs.{needs}
 use borrow.Author.Tests.{eq-eqb, ne-eqb}
 use Rattle.laws.proofs.Tests.{cond-yes, cond-no}
-use Rattle.rules.specs.Reading.{slopesAre}
+use Rattle.line_rules.specs.Fields.{slopesAre}
 use Rattle.model_record.proofs.ramps.slopes_after.Statement.{statement}
 use Rattle.model_record.proofs.ramps.slopes_after.Tie as tie
 

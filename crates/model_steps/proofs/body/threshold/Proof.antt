@@ -3,7 +3,7 @@ use mathlib.Core.Path.{sym, ap, _∙_}
 use borrow.Author.Needs.{needs}
 use borrow.Author.Tests.{eq-eqb, ne-eqb}
 use Rattle.laws.proofs.Tests.{cond-yes, cond-no}
-use Rattle.rules.specs.Model.{numberIs}
+use Rattle.line_rules.specs.Fields.{numberIs}
 use Rattle.model_steps.proofs.body.threshold.Statement.{statement}
 use Rattle.model_steps.proofs.body.threshold.Tie as tie
 

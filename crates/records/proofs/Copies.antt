@@ -1,19 +1,13 @@
--- A copy that is filled from its start: the bytes so far, then zeros; and the words that are kept in capitals.
+-- A copy that is filled from its start: the bytes so far, then zeros.
 use Prim.Native.Nat.{ℕ, suc, _+_, _-_, _≤_, _<_, min}
 use mathlib.Core.Path.{_≡_, sym, ap, _∙_}
-use mathlib.Core.List.{List, [], _∷_, _++_, append-assoc, map}
-use mathlib.Core.Bool.{true, false}
+use mathlib.Core.List.{List, [], _∷_, _++_, append-assoc}
 use native.Mathlib.Numerals.{add-one}
 use native.Mathlib.Omega.{arith}
 use lib.ListN.{length, take, getD, set, replicate, length-take, length-replicate, length-append}
 use lib.Seq.{take-all, take-suc, length-take-le, set-at}
-use Rattle.laws.specs.Bytes.{bytes, capital}
-use Rattle.laws.specs.Lists.{eqs}
 use Rattle.laws.proofs.Tests.{by-order}
-use Rattle.laws.proofs.Same.{eqs-eq}
-use Rattle.line_rules.specs.Fields.{needsNoModel, oneOf}
-use Rattle.rules.specs.Reading.{keptModel}
 use Rattle.records.specs.Stored.{padded}
 
 -- ---- a copy of n bytes
 
@@ -55,24 +49,3 @@ module _ (n i : ℕ) (w : List ℕ) (h : i ≡ min n (length w)) where
   pub filled-whole : filled n i w ≡ padded n (take n w)
   unfolding padded
   filled-whole = ap (λ (x : List ℕ). x ++ replicate (n - i) 0) taken ∙ ap (λ (j : ℕ). take n w ++ replicate (n - j) 0) filled-long
-
--- ---- the words for no model
-
-module _ (w : List ℕ) where
-  pub kept-power : eqs (map capital w) (bytes "POWER") ≡ true → keptModel w ≡ bytes "POWER"
-  unfolding keptModel needsNoModel oneOf
-  kept-power h = rw h (eqs-eq (map capital w) (bytes "POWER") h)
-
-  module _ (p : eqs (map capital w) (bytes "POWER") ≡ false) where
-    pub kept-ground : eqs (map capital w) (bytes "GND") ≡ true → keptModel w ≡ bytes "GND"
-    unfolding keptModel needsNoModel oneOf
-    kept-ground h = rw (p, h) (eqs-eq (map capital w) (bytes "GND") h)
-
-    module _ (g : eqs (map capital w) (bytes "GND") ≡ false) where
-      pub kept-none : eqs (map capital w) (bytes "NC") ≡ true → keptModel w ≡ bytes "NC"
-      unfolding keptModel needsNoModel oneOf
-      kept-none h = rw (p, g, h) (eqs-eq (map capital w) (bytes "NC") h)
-
-      pub kept-other : eqs (map capital w) (bytes "NC") ≡ false → keptModel w ≡ w
-      unfolding keptModel needsNoModel oneOf
-      kept-other h = rw (p, g, h)

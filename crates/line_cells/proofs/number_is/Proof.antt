@@ -1,7 +1,7 @@
 -- By cases on the number.
 use borrow.Author.Needs.{needs}
-use Rattle.table_rows.proofs.waveforms.number_is.Statement.{statement}
-use Rattle.table_rows.proofs.waveforms.number_is.Tie as tie
+use Rattle.line_cells.proofs.number_is.Statement.{statement}
+use Rattle.line_cells.proofs.number_is.Tie as tie
 
 enum-known-r : tie.Need-enum-known-r
 enum-known-r c = search needs
