@@ -40,7 +40,7 @@ module _ {X : Type 0} {f : X → List Row → X} {add : X → Row → X} (k : Fo
   unfolding tableRows
   row-fold named = record { none = k .none; more = λ x w ws. onto-row x (rowIn named w) (tableRows named ws) }
 
--- counted
+-- ---- counted
 
 abbrev pub counted : ℕ → RowRead → ℕ
 counted = withRow (λ (n : ℕ) (r : Row). n + 1)
@@ -52,7 +52,7 @@ counted-small n (Amiss k) = omega arith
 pub row-small : (named : Bool) → Small (λ (n : ℕ) (w : List ℕ). counted n (rowIn named w)) (λ (n : ℕ). n)
 row-small named n w = counted-small n (rowIn named w)
 
--- as words
+-- ---- as words
 
 abbrev pub worded : List ℕ → RowRead → List ℕ
 worded = withRow (λ (v : List ℕ) (r : Row). v ++ rowWords r)

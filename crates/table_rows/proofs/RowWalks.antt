@@ -23,6 +23,7 @@ use Rattle.table_rows.proofs.RowLaws.{row-fold, worded, words-fold}
 
 -- ---- words over the row store
 
+-- n words are written, at the front
 pub record Lies (before now : List ℕ) (n : ℕ) (written : List ℕ) : Type 0 where
   pub used : n ≡ length written
   pub store : now ≡ over before written
