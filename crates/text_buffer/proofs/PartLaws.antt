@@ -1,6 +1,6 @@
 -- Laws of `specs/Parts.antt`: the first text of a table and those behind it, from a place on; then the search for the text at a place.
-use Prim.Native.Nat.{ℕ, zero, suc, _+_, _-_, _≤_, _<_}
-use mathlib.Core.Path.{_≡_, refl, sym, ap, _∙_}
+use Prim.Native.Nat.{ℕ, suc, _+_, _-_, _≤_, _<_}
+use mathlib.Core.Path.{_≡_, sym, ap, _∙_}
 use mathlib.Core.List.{List, [], _∷_}
 use native.Mathlib.Nat.{add-zero}
 use native.Mathlib.Omega.{arith}
@@ -11,7 +11,6 @@ use Rattle.laws.proofs.Tests.{by-test}
 use Rattle.laws.proofs.Lists.{from-cons, part-none}
 use Rattle.laws.proofs.Fronts.{after-at, front-at}
 use Rattle.words.specs.Words.{onto}
-use Rattle.words.specs.declared.Word.{Word}
 use Rattle.text_buffer.specs.Parts.{parts, PartAt}
 
 -- up to the separator, and behind it

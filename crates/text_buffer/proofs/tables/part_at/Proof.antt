@@ -1,7 +1,6 @@
 -- The texts that are left from here on are those that are left of all: `parts-turn` at a turn, `part-here` and `part-past` at the ways out.
 use Prim.Native.Nat.{ℕ, _-_, _<_}
 use mathlib.Core.Path.{_≡_, refl, sym, ap, _∙_}
-use native.Mathlib.Omega.{arith}
 use lib.ListN.{length, drop}
 use borrow.Author.Needs.{needs}
 use denote.Ref.{now}
