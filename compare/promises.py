@@ -1,4 +1,4 @@
-"""Every public function of a library promises one result and one content of lent memory, in a form that crates/strength proves
+"""Every public function of a library promises one result and one content of lent memory, in a form that crates/promise_forms proves
 to leave no choice, and asks nothing of its caller; or docs/CONTRACTS.md lists it as an exception. An exception that is none fails
 too. With --list, the functions and their forms are printed."""
 import re
@@ -25,24 +25,84 @@ def exceptions(heading):
     return found
 
 
+def parsed(text):
+    """A term as a list: a name, or a list of terms in brackets."""
+    stack = [[]]
+    for token in re.findall(r"[()]|[^\s()]+", text):
+        if token == "(":
+            stack.append([])
+        elif token == ")":
+            term = stack.pop()
+            stack[-1].append(term)
+        else:
+            stack[-1].append(token)
+    return stack[0]
+
+
+def exits(term):
+    """The lent names whose content at exit a term has."""
+    if not isinstance(term, list):
+        return set()
+    if len(term) == 2 and term[1] == ".exit":
+        return {term[0]}
+    return set().union(*map(exits, term))
+
+
+def mentions(term, name):
+    return name == term or isinstance(term, list) and any(mentions(part, name) for part in term)
+
+
+def plain(terms, result):
+    """What a promise fixes things to: neither the result nor what is left may stand in it."""
+    return not mentions(terms, result) and not exits(terms)
+
+
+def left(term):
+    """The lent names that a term is the content at exit of, and nothing else: one, or several side by side."""
+    if len(term) == 2 and term[0] == "now" and len(exits(term)) == 1:
+        return exits(term)
+    if term and term[0] == "lent" and all(left(part) for part in term[1:]):
+        return exits(term)
+    return set()
+
+
+def equation(terms, result):
+    """What `x ≡ definition` fixes: the result, or what is left."""
+    if terms.count("≡") != 1:
+        return set()
+    at = terms.index("≡")
+    before, behind = terms[:at], terms[at + 1 :]
+    if not plain(behind, result):
+        return set()
+    if before == [result]:
+        return {"result"}
+    return left(before)
+
+
+def by_cases(terms, result):
+    """What the promises that have a proof of their own fix: each says what is read or put, then the result and what is left."""
+    head, parts = terms[0], terms[1:]
+    if head == "Put" and len(parts) == 5:
+        before, after, at, text, place = parts
+        if place == result and left(after) and plain([before, at, text], result):
+            return {"result"} | left(after)
+    if head in ("Read", "Exports") and result in parts:
+        at = parts.index(result)
+        if plain(parts[:at], result) and all(left(part) for part in parts[at + 1 :]):
+            return {"result"} | exits(parts)
+    if head == "Loaded" and parts[-1] == result and plain(parts[:-1], result):
+        return {"result"}
+    return set()
+
+
 def forms(signature):
     """The forms of a function's promises: what each fixes."""
     fixed = set()
     for result, text in PROMISE.findall(signature):
-        text = " ".join(text.split())
-        both = re.match(rf"\({result} ≡ .*\) × \(now \((\w+) \.exit\) ≡ .*\)$", text)
-        if both:
-            fixed |= {"result", both.group(1)}
-        elif re.match(rf"{result} ≡ ", text):
-            fixed.add("result")
-        elif text.startswith("Put (now (out .entry)) (now (out .exit)) "):
-            fixed |= {"result", "out"}
-        elif text.startswith(("Read ", "Loaded ", "Exports ", "lent ")):
-            fixed |= {"result"} | set(re.findall(r"now \((\w+) \.exit\)", text))
-        else:
-            lent = re.match(r"now \((\w+) \.exit\) ≡ ", text)
-            if lent:
-                fixed.add(lent.group(1))
+        terms = parsed(text)
+        clauses = [clause for clause in terms if clause != "×"] if "×" in terms else [terms]
+        for clause in clauses:
+            fixed |= equation(clause, result) | by_cases(clause, result)
     return fixed
 
 

@@ -170,7 +170,7 @@ impl<'a> LineReader<'a> {
 
     // Hands out the line at its place, and stands behind it.
     pub fn next<'s>(self: &'s mut LineReader<'a>) -> Line
-        ensures { λ l. ⌜ (l ≡ lineAt (now (now (self .entry) .src)) (now (self .entry) .at)) × (now (self .exit) ≡ passed (now (self .entry)) l) ⌝ }
+        ensures { λ l. ⌜ (l ≡ lineAt (now (now (self .entry) .src)) (now (self .entry) .at)) × (now (self .exit) ≡ passed (now (self .entry)) (lineAt (now (now (self .entry) .src)) (now (self .entry) .at))) ⌝ }
     {
         let l = whole_line(self.src, self.at);
         self.at = l.next;
