@@ -1,66 +1,27 @@
--- Each arm by computing at its number; past them by the law.
-use mathlib.Core.Path.{sym}
-use Rattle.laws.proofs.Numbers.{apart-le}
-use Rattle.given.specs.Given.{with}
-use Rattle.given.proofs.Laws.{with-past}
+-- Below the width the shifted one is the power of two, since nothing is shifted out; from there on by the law.
+use Prim.Native.Nat.{ℕ, _*_, _%_, _^_, _<_}
+use mathlib.Core.Path.{_≡_, sym, _∙_}
+use native.Mathlib.Nat.{one-mul}
+use native.Mathlib.Omega.{arith}
+use lib.Pow.{shl-exact}
+use borrow.Author.Needs.{needs}
+use Rattle.given.proofs.Laws.{with-below, with-past}
 use Rattle.given.proofs.also.Statement.{statement}
 use Rattle.given.proofs.also.Tie as tie
 
+shifted : (k : ℕ) → k < 64 → (1 * 2 ^ k) % 2 ^ 64 ≡ 2 ^ k
+shifted k h = shl-exact 1 k 64 (omega arith) (omega arith) ∙ one-mul (2 ^ k)
+
 returns : tie.Need-returns
-unfolding with
-returns c = rw (c .match .keys1)
+returns c = sym (with-past (c .before .args .x) (c .before .args .k) (omega arith))
+
+shl-t5 : tie.Need-shl-t5
+shl-t5 c = search needs
 
 returns-2 : tie.Need-returns-2
-unfolding with
-returns-2 c = rw (c .match .keys2)
-
-returns-3 : tie.Need-returns-3
-unfolding with
-returns-3 c = rw (c .match .keys3)
-
-returns-4 : tie.Need-returns-4
-unfolding with
-returns-4 c = rw (c .match .keys4)
-
-returns-5 : tie.Need-returns-5
-unfolding with
-returns-5 c = rw (c .match .keys5)
-
-returns-6 : tie.Need-returns-6
-unfolding with
-returns-6 c = rw (c .match .keys6)
-
-returns-7 : tie.Need-returns-7
-unfolding with
-returns-7 c = rw (c .match .keys7)
-
-returns-8 : tie.Need-returns-8
-unfolding with
-returns-8 c = rw (c .match .keys8)
-
-returns-9 : tie.Need-returns-9
-unfolding with
-returns-9 c = rw (c .match .keys9)
-
-returns-10 : tie.Need-returns-10
-unfolding with
-returns-10 c = rw (c .match .keys10)
-
-returns-11 : tie.Need-returns-11
-returns-11 c = sym (with-past (c .before .args .x) (c .before .args .k) (apart-le 10 (c .before .args .k) (c .match .rest)))
+returns-2 c =
+    let below : c .before .before .args .k < 64 = omega arith in
+    rw (shifted (c .before .before .args .k) below) (sym (with-below (c .before .before .args .x) (c .before .before .args .k) below))
 
 pub also-spec : {M : Type 1} → statement M
-also-spec =
-    tie.close
-    (tie.spec
-    returns
-    returns-2
-    returns-3
-    returns-4
-    returns-5
-    returns-6
-    returns-7
-    returns-8
-    returns-9
-    returns-10
-    returns-11)
+also-spec = tie.close (tie.spec returns shl-t5 returns-2)

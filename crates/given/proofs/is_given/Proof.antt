@@ -1,66 +1,20 @@
--- Each arm by computing at its number; past them by the law.
-use mathlib.Core.Path.{sym}
-use Rattle.laws.proofs.Numbers.{apart-le}
-use Rattle.given.specs.Given.{has}
-use Rattle.given.proofs.Laws.{has-past}
+-- Below the width by the law of the bit, and from there on the test fails and nothing is given.
+use mathlib.Core.Path.{sym, _∙_}
+use native.Mathlib.Omega.{arith}
+use borrow.Author.Needs.{needs}
+use borrow.Author.Tests.{le-ltb}
+use Rattle.given.proofs.Laws.{has-below, has-past}
 use Rattle.given.proofs.is_given.Statement.{statement}
 use Rattle.given.proofs.is_given.Tie as tie
 
+shr-result : tie.Need-shr-result
+shr-result c = search needs
+
 returns : tie.Need-returns
-unfolding has
-returns c = rw (c .match .keys1)
+returns c = sym (has-below (c .before .before .args .x) (c .before .before .args .k) (omega arith))
 
 returns-2 : tie.Need-returns-2
-unfolding has
-returns-2 c = rw (c .match .keys2)
-
-returns-3 : tie.Need-returns-3
-unfolding has
-returns-3 c = rw (c .match .keys3)
-
-returns-4 : tie.Need-returns-4
-unfolding has
-returns-4 c = rw (c .match .keys4)
-
-returns-5 : tie.Need-returns-5
-unfolding has
-returns-5 c = rw (c .match .keys5)
-
-returns-6 : tie.Need-returns-6
-unfolding has
-returns-6 c = rw (c .match .keys6)
-
-returns-7 : tie.Need-returns-7
-unfolding has
-returns-7 c = rw (c .match .keys7)
-
-returns-8 : tie.Need-returns-8
-unfolding has
-returns-8 c = rw (c .match .keys8)
-
-returns-9 : tie.Need-returns-9
-unfolding has
-returns-9 c = rw (c .match .keys9)
-
-returns-10 : tie.Need-returns-10
-unfolding has
-returns-10 c = rw (c .match .keys10)
-
-returns-11 : tie.Need-returns-11
-returns-11 c = sym (has-past (c .before .args .x) (c .before .args .k) (apart-le 10 (c .before .args .k) (c .match .rest)))
+returns-2 c = le-ltb (c .before .args .k) 64 (c .if1 .left) ∙ sym (has-past (c .before .args .x) (c .before .args .k) (c .if1 .left))
 
 pub is-given-spec : {M : Type 1} → statement M
-is-given-spec =
-    tie.close
-    (tie.spec
-    returns
-    returns-2
-    returns-3
-    returns-4
-    returns-5
-    returns-6
-    returns-7
-    returns-8
-    returns-9
-    returns-10
-    returns-11)
+is-given-spec = tie.close (tie.spec shr-result returns returns-2)
