@@ -1,14 +1,14 @@
 -- Laws of `specs/Given.antt`: what is given is given, and at its own place alone; past the last place nothing is given, and nothing changes.
-use Prim.Native.Nat.{ℕ, suc, _-_, _+_, _/_, _%_, _^_, _≤_, _<_, max}
+use Prim.Native.Nat.{ℕ, zero, suc, _-_, _+_, _*_, _/_, _%_, _^_, _≤_, _<_, max}
 use mathlib.Core.Path.{_≡_, sym, ap, _∙_}
 use mathlib.Core.Bool.{true, false, _&&_}
-use native.Mathlib.Nat.{div-self, div-eq-of-lt, zero-div}
+use native.Mathlib.Nat.{div-self, div-eq-of-lt, zero-div, pow-succ', div-div-eq-div-mul}
 use native.Mathlib.Omega.{arith}
-use lib.Bits.{bitOr, or-step, or-shr}
+use lib.Bits.{bitOr, or-step, or-shr, or-zero-r}
 use lib.Dec.{eqb, ltb}
 use lib.Pow.{pow-pos, pow-lt, pow-add, shl-shr}
-use borrow.Author.Tests.{lt-ltb, le-ltb, eq-eqb, ne-eqb}
-use Rattle.laws.proofs.Tests.{by-order, and-right}
+use borrow.Author.Tests.{lt-ltb, le-ltb, eq-eqb, ne-eqb, eqb-true, eqb-false}
+use Rattle.laws.proofs.Tests.{by-test, by-order, and-right}
 use Rattle.given.specs.Given.{noneGiven, has, with}
 use Rattle.given.specs.declared.Given.{Given}
 
@@ -24,9 +24,26 @@ pub has-none : (k : ℕ) → has noneGiven k ≡ false
 unfolding has
 has-none k = and-right (ltb k 64) (eqb (0 / 2 ^ k % 2) 1) (ne-eqb (0 / 2 ^ k % 2) 1 (omega (arith, zero-div (2 ^ k))))
 
+-- a bit that is set stays, and one that is not is added: by the lowest bit, and by a half for the others
+or-power : (k n : ℕ) → (n / 2 ^ k % 2 ≡ 1 → bitOr n (2 ^ k) ≡ n) × (n / 2 ^ k % 2 ≡ 0 → bitOr n (2 ^ k) ≡ n + 2 ^ k)
+or-power zero n = (λ h. omega (arith, or-step n 1, or-zero-r (n / 2), h), λ h. omega (arith, or-step n 1, or-zero-r (n / 2), h))
+or-power (suc k) n =
+    let e : n / 2 ^ suc k ≡ n / 2 / 2 ^ k = ap (λ (m : ℕ). n / m) (pow-succ' 2 k) ∙ sym (div-div-eq-div-mul n 2 (2 ^ k)) in
+    let d : 2 ^ suc k / 2 ≡ 2 ^ k = omega arith in
+    let m : max (n % 2) (2 ^ suc k % 2) ≡ n % 2 = omega arith in
+    let s : bitOr n (2 ^ suc k) ≡ bitOr (n / 2) (2 ^ k) * 2 + n % 2 = or-step n (2 ^ suc k) ∙ ap (λ (p : ℕ). bitOr (n / 2) p * 2 + max (n % 2) (2 ^ suc k % 2)) d ∙ ap (λ (q : ℕ). bitOr (n / 2) (2 ^ k) * 2 + q) m in (
+      λ h. s ∙ omega (arith, or-power k (n / 2) .0 (sym (ap (λ (m : ℕ). m % 2) e) ∙ h)),
+      λ h. s ∙ omega (arith, or-power k (n / 2) .1 (sym (ap (λ (m : ℕ). m % 2) e) ∙ h)),
+    )
+
 pub with-below : (x : Given) (k : ℕ) → k < 64 → with x k ≡ record { bits = bitOr (x .bits) (2 ^ k) }
 unfolding with
-with-below x k h = rw (lt-ltb k 64 h)
+with-below x k h =
+    by-test (eqb (x .bits / 2 ^ k % 2) 1)
+    (λ t. rw (lt-ltb k 64 h, has-below x k h, t, or-power k (x .bits) .0 (eqb-true (x .bits / 2 ^ k % 2) 1 t)))
+    (λ t.
+    let low : x .bits / 2 ^ k % 2 ≡ 0 = omega (arith, eqb-false (x .bits / 2 ^ k % 2) 1 t) in
+    rw (lt-ltb k 64 h, has-below x k h, t, or-power k (x .bits) .1 low))
 
 pub with-past : (x : Given) (k : ℕ) → 64 ≤ k → with x k ≡ x
 unfolding with
