@@ -6,6 +6,12 @@ ghost use lib.ListN.{length};
 use program_output::files::Form;
 use program_output::files::print_file;
 use records::Lengths;
+use records::MOST_CHOICES;
+use records::MOST_COMPONENTS;
+use records::MOST_MODELS;
+use records::MOST_PINS;
+use records::MOST_SELECTORS;
+use records::MOST_WAVEFORMS;
 
 // A byte of the head; what is past the end counts as 0.
 fn byte_at(head: &[u8], at: usize) -> usize
@@ -40,12 +46,12 @@ fn lesser(a: usize, b: usize) -> usize
 // A length above document 01's bound, or above 8,192 rows, counts as that.
 fn lengths_in(head: &[u8]) -> Lengths {
     Lengths {
-        components: lesser(number_at(head, 0), 8),
-        pins: lesser(number_at(head, 4), 512),
-        selectors: lesser(number_at(head, 8), 32),
-        choices: lesser(number_at(head, 12), 256),
-        models: lesser(number_at(head, 16), 64),
-        waveforms: lesser(number_at(head, 20), 1024),
+        components: lesser(number_at(head, 0), MOST_COMPONENTS),
+        pins: lesser(number_at(head, 4), MOST_PINS),
+        selectors: lesser(number_at(head, 8), MOST_SELECTORS),
+        choices: lesser(number_at(head, 12), MOST_CHOICES),
+        models: lesser(number_at(head, 16), MOST_MODELS),
+        waveforms: lesser(number_at(head, 20), MOST_WAVEFORMS),
         rows: lesser(number_at(head, 24), 8192),
     }
 }

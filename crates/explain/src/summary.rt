@@ -6,6 +6,11 @@ use questions::Chosen;
 use records::Choice;
 use records::Component;
 use records::Counts;
+use records::MOST_CHOICES;
+use records::MOST_COMPONENTS;
+use records::MOST_MODELS;
+use records::MOST_PINS;
+use records::MOST_SELECTORS;
 use records::Model;
 use records::Name;
 use records::Pin;
@@ -19,9 +24,9 @@ fn wider(width: usize, name: Name) -> usize {
     if width < n { n } else { width }
 }
 
-fn model_width(models: [Model; 64], used: usize) -> usize {
+fn model_width(models: [Model; MOST_MODELS], used: usize) -> usize {
     let mut width: usize = 5;
-    for i in 0..64 {
+    for i in 0..MOST_MODELS {
         let m = models[i];
         if i < used {
             width = wider(width, m.name);
@@ -30,10 +35,10 @@ fn model_width(models: [Model; 64], used: usize) -> usize {
     width
 }
 
-fn widths_of(pins: [Pin; 512], used: usize, model: usize) -> Widths {
+fn widths_of(pins: [Pin; MOST_PINS], used: usize, model: usize) -> Widths {
     let mut pin: usize = 3;
     let mut signal: usize = 6;
-    for i in 0..512 {
+    for i in 0..MOST_PINS {
         let p = pins[i];
         if i < used {
             pin = wider(pin, p.name);
@@ -55,10 +60,10 @@ fn print_bare_pin(w: Widths, p: Pin) {
     put_out(&out, n);
 }
 
-fn print_pin(w: Widths, p: Pin, models: [Model; 64], choice: Chosen) {
+fn print_pin(w: Widths, p: Pin, models: [Model; MOST_MODELS], choice: Chosen) {
     match choice {
         Chosen::Model(k) => {
-            if k < 64 {
+            if k < MOST_MODELS {
                 let mut out = io::buffer();
                 let n = explain_text::put_pin(&mut out, 0, w, p, models[k]);
                 put_out(&out, n);
@@ -70,14 +75,14 @@ fn print_pin(w: Widths, p: Pin, models: [Model; 64], choice: Chosen) {
 
 fn print_pins(
     w: Widths,
-    pins: [Pin; 512],
+    pins: [Pin; MOST_PINS],
     span: Span,
-    selectors: [Selector; 32],
-    choices: [Choice; 256],
-    models: [Model; 64],
+    selectors: [Selector; MOST_SELECTORS],
+    choices: [Choice; MOST_CHOICES],
+    models: [Model; MOST_MODELS],
     counts: Counts,
 ) {
-    for i in 0..512 {
+    for i in 0..MOST_PINS {
         let p = pins[i];
         if program_output::holds(span, i) {
             let choice = questions::tables::model_for(selectors, choices, models, counts, p);
@@ -95,14 +100,14 @@ fn print_component(c: Component, w: Widths) {
 
 fn print_components(
     w: Widths,
-    components: [Component; 8],
-    pins: [Pin; 512],
-    selectors: [Selector; 32],
-    choices: [Choice; 256],
-    models: [Model; 64],
+    components: [Component; MOST_COMPONENTS],
+    pins: [Pin; MOST_PINS],
+    selectors: [Selector; MOST_SELECTORS],
+    choices: [Choice; MOST_CHOICES],
+    models: [Model; MOST_MODELS],
     counts: Counts,
 ) {
-    for i in 0..8 {
+    for i in 0..MOST_COMPONENTS {
         let c = components[i];
         if i < counts.components {
             print_component(c, w);

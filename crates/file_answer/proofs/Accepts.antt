@@ -1,37 +1,36 @@
 -- When a file is refused or accepted: what is then answered, and what the store then holds.
-use Prim.Native.Nat.{ℕ, zero, suc, _+_, _*_, _≤_, _<_, zero-le}
+use Prim.Native.Nat.{ℕ, _+_, _≤_, _<_, zero-le}
 use mathlib.Core.Path.{_≡_, refl, sym, ap, _∙_, subst}
 use mathlib.Core.List.{List, [], _∷_, map, reverse}
-use mathlib.Core.Bool.{true, false, cond}
 use mathlib.Core.Option.{none, some}
 use native.Mathlib.Omega.{arith}
 use native.Mathlib.Numerals.{add-one}
 use lib.ListN.{length, getD, length-map, length-reverse}
-use lib.Dec.{eqb}
 use Rattle.laws.proofs.Tests.{by-test}
 use Rattle.cut_lines.specs.Texts.{Text, rest, past, firstCursor}
 use Rattle.cut_lines.specs.Cursors.{Placed}
 use Rattle.cut_lines.specs.declared.Cursor.{Cursor}
 use Rattle.rules.specs.Reading.{FileIs, fileIn}
 use Rattle.layout.specs.Laid.{laid}
-use Rattle.rules.specs.Outline.{Entry, place, is, count}
+use Rattle.rules.specs.Outline.{place, is, count}
 use Rattle.rules.specs.Whole.{Held, Outcome, passed, refused, outcome, textsOf, lastChecks}
 use Rattle.lines.specs.Lines.{bytesFault}
 use Rattle.records.specs.declared.Fault.{Fault}
 use Rattle.lines.specs.declared.Bytes.the-variants.{Clean}
+use Rattle.records.specs.Bounds.{mostWaveforms}
 use Rattle.records.specs.declared.Kind.{Kind}
 use Rattle.records.specs.declared.Kind.the-variants.{OfComponent, OfPin, OfSelector, OfChoice, OfModel}
 use Rattle.records.specs.declared.Lengths.{Lengths}
 use Rattle.rules.specs.declared.Stage.the-variants.{BeforeVersion}
 use Rattle.notes.specs.Noted.{Note, entryOf, used, heldOf, runLog, emptyLog, whole, clash}
 use Rattle.records.specs.declared.Counts.{Counts}
-use Rattle.note_words.specs.Store.{logIn, noteAt, waveAt, notesTo, wavesTo, wavesFrom, storeLength, byKindFrom}
+use Rattle.note_words.specs.Store.{namesHeld, mostNames, listFrom, storeLength, kindOf, noteAt, waveAt, notesTo, wavesTo, logIn}
 use Rattle.note_words.proofs.Laws.{notes-agree, waves-agree}
 use Rattle.layout_by_notes.specs.Lies.{pick, isOf, noted, componentNoted, pinNoted, selectorNoted, choiceNoted, modelNoted, countsOf, Lies}
 use Rattle.layout_by_notes.proofs.Tables.{lies}
 use Rattle.name_checks.specs.Lookup as look
 use Rattle.name_checks.proofs.SortLaws.{many-count}
-use Rattle.scan.specs.Events.{logOf, Within}
+use Rattle.scan.specs.Events.{logOf}
 use Rattle.scan.specs.Scans.{faultIn, finishIs, WithinAt}
 use Rattle.scan.specs.declared.Tally.{Tally}
 use Rattle.scan.specs.declared.Scanned.{Scanned}
@@ -40,7 +39,6 @@ use Rattle.scan.specs.declared.Ending.the-variants.{Whole, Broken}
 use Rattle.scan.proofs.EventLaws.{names-small}
 use Rattle.component_records.specs.Views.{headerLaid}
 use Rattle.file_answer.specs.Answered.{refusal, answerOf, answerFor, verdictOf}
-use Rattle.from_notes.specs.Made.{base}
 use Rattle.file_answer.specs.Sorted.{upTo, Sorted, SortedFor, Outlines, ReadWhole}
 use Rattle.records.specs.declared.Answer.{Answer}
 use Rattle.records.specs.declared.Verdict.the-variants.{Accepted}
@@ -64,8 +62,8 @@ count-pick k [] = refl
 count-pick k (n ∷ ns) =
     by-test (is k (entryOf n)) (λ t. rw t rw (count-pick k ns) (add-one (length (pick (isOf k) ns)))) (λ t. rw t (count-pick k ns))
 
-kind-from : (k : Kind) → look.kindFrom (place k) ≡ byKindFrom + base k
-unfolding look.kindFrom
+kind-from : (k : Kind) → look.kindFrom (place k) ≡ listFrom k
+unfolding look.kindFrom kindOf
 kind-from OfComponent = refl
 kind-from OfPin = refl
 kind-from OfSelector = refl
@@ -74,10 +72,10 @@ kind-from OfModel = refl
 
 -- two stores that differ at most where names lie by kind say the same of names and waveforms
 module _ (s xs ys : List ℕ) (out : look.Outside xs ys) where
-  same-notes : (n : ℕ) → n ≤ 873 → notesTo s ys n ≡ notesTo s xs n
+  same-notes : (n : ℕ) → n ≤ mostNames → notesTo s ys n ≡ notesTo s xs n
   same-notes n h = notes-agree s ys xs n (λ k a b. out .below k a (omega (arith, b, h)))
 
-  same-waves : (n : ℕ) → n ≤ 1024 → wavesTo s ys n ≡ wavesTo s xs n
+  same-waves : (n : ℕ) → n ≤ mostWaveforms → wavesTo s ys n ≡ wavesTo s xs n
   same-waves n h = waves-agree s ys xs n (λ k a b. out .behind k a (omega (arith, b, h)))
 
 module _ (l : Lengths) (s xs : List ℕ) (t : Tally) (read : ReadWhole l s xs t) where
@@ -91,7 +89,7 @@ module _ (l : Lengths) (s xs : List ℕ) (t : Tally) (read : ReadWhole l s xs t)
   unfolding logIn
   counted = lie .counts
 
-  few : t .names ≤ 872
+  few : t .names ≤ namesHeld
   few = names-small t (read .within)
 
   -- as many names of a kind as are counted
@@ -104,7 +102,7 @@ module _ (l : Lengths) (s xs : List ℕ) (t : Tally) (read : ReadWhole l s xs t)
   many OfModel = sym (length-reverse (pick (isOf OfModel) (notesTo s xs (t .names)))) ∙ sym (length-map (reverse (pick (isOf OfModel) (notesTo s xs (t .names)))) modelNoted) ∙ ap length (sym (lie .models)) ∙ ap (λ (c : Counts). c .models) (sym counted)
 
   room : (k : Kind) → used (t .counts) k ≤ look.kindRoom (place k)
-  unfolding look.kindRoom
+  unfolding look.kindRoom kindOf
   room OfComponent = read .within .components
   room OfPin = read .within .pins
   room OfSelector = read .within .selectors
@@ -123,7 +121,7 @@ module _ (l : Lengths) (s xs : List ℕ) (t : Tally) (read : ReadWhole l s xs t)
 
     module _ (ys : List ℕ) (by : look.Sorted zs ys (t .names)) where
       each : (k : Kind) (j : ℕ) → j < length (reverse (pick (isOf k) (notesTo s xs (t .names))))
-          → getD (reverse (pick (isOf k) (notesTo s xs (t .names)))) j (noteAt s xs 0) ≡ noteAt s ys (getD ys (byKindFrom + base k + j) 0)
+          → getD (reverse (pick (isOf k) (notesTo s xs (t .names)))) j (noteAt s xs 0) ≡ noteAt s ys (getD ys (listFrom k + j) 0)
       each k j h =
           let m : length (reverse (pick (isOf k) (notesTo s xs (t .names)))) ≡ look.howMany zs (place k) (t .names) =
           length-reverse (pick (isOf k) (notesTo s xs (t .names))) ∙ ap (λ (ns : List Note). length (pick (isOf k) ns)) (sym notes-kept) ∙ by .many s k in
@@ -142,7 +140,7 @@ module _ (l : Lengths) (s xs : List ℕ) (t : Tally) (read : ReadWhole l s xs t)
             past = past s firstCursor;
             log = logOf s xs t;
             run = run;
-            names = λ k. by-kind s ys k (notesTo s xs (t .names)) (λ (j : ℕ). getD ys (byKindFrom + base k + j) 0) (noteAt s xs 0) (each k);
+            names = λ k. by-kind s ys k (notesTo s xs (t .names)) (λ (j : ℕ). getD ys (listFrom k + j) 0) (noteAt s xs 0) (each k);
             waves =
                 ap reverse (sym waves-kept) ∙ waves-upTo s ys (t .counts .waveforms)
                 ∙ ap (upTo (waveAt s ys)) (sym (waves-length s xs (t .counts .waveforms)));

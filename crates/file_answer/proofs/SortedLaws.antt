@@ -1,12 +1,11 @@
 -- The names by kind and the waveforms, as lists: each is read where it lies.
-use Prim.Native.Nat.{ℕ, zero, suc, _+_, _≤_, _<_}
+use Prim.Native.Nat.{ℕ, zero, suc, _+_, _<_}
 use mathlib.Core.Path.{_≡_, refl, sym, ap, _∙_}
 use mathlib.Core.List.{List, [], _∷_, _++_, reverse, reverse-cons}
-use mathlib.Core.Bool.{Bool, true, false, cond, _&&_}
+use mathlib.Core.Bool.{Bool, true}
 use native.Mathlib.Omega.{arith}
 use native.Mathlib.Nat.{not-suc-le-zero}
 use lib.ListN.{length, getD}
-use lib.Dec.{eqb}
 use borrow.Author.Tests.{eqb-true}
 use Rattle.laws.specs.Lists.{all}
 use Rattle.laws.proofs.Tests.{by-test, and-both, and-first, and-second}
@@ -15,8 +14,8 @@ use Rattle.rules.specs.Outline.{place}
 use Rattle.records.specs.declared.Kind.{Kind}
 use Rattle.records.specs.declared.Kind.the-variants.{OfComponent, OfPin, OfSelector, OfChoice, OfModel}
 use Rattle.notes.specs.Noted.{Note, Wave}
-use Rattle.note_words.specs.Store.{noteAt, noteFrom, notingAt, kindOf, waveAt, wavesTo}
-use Rattle.note_words.specs.declared.Noting.{Noting}
+use Rattle.note_words.specs.Store.{kindOf, kindAt, noteOf, noteAt, waveAt, wavesTo}
+use Rattle.note_words.proofs.Laws.{note-kind}
 use Rattle.layout_by_notes.specs.Lies.{pick, isOf}
 use Rattle.file_answer.specs.Sorted.{upTo}
 use Rattle.file_answer.proofs.UpTo.{all-upTo}
@@ -53,26 +52,19 @@ kind-place OfSelector = refl
 kind-place OfChoice = refl
 kind-place OfModel = refl
 
-note-kind : (s : List ℕ) (x : Noting) (k : Kind) → noteFrom s x k .kind ≡ k
-note-kind s x OfComponent = refl
-note-kind s x OfPin = refl
-note-kind s x OfSelector = refl
-note-kind s x OfChoice = refl
-note-kind s x OfModel = refl
-
-of-kind : (s xs : List ℕ) (i : ℕ) (k : Kind) → isOf k (noteAt s xs i) ≡ true → noteAt s xs i ≡ noteFrom s (notingAt xs i) k
+of-kind : (s xs : List ℕ) (i : ℕ) (k : Kind) → isOf k (noteAt s xs i) ≡ true → noteAt s xs i ≡ noteOf s xs i k
 unfolding noteAt
 of-kind s xs i k h =
-    let q : Kind = kindOf (notingAt xs i .kind) in
-    let e : place k ≡ place (noteFrom s (notingAt xs i) q .kind) = eqb-true (place k) (place (noteFrom s (notingAt xs i) q .kind)) h in
-    let m : k ≡ q = sym (kind-place k) ∙ ap kindOf (e ∙ ap place (note-kind s (notingAt xs i) q)) ∙ kind-place q in
-    ap (noteFrom s (notingAt xs i)) (sym m)
+    let q : Kind = kindAt xs i in
+    let e : place k ≡ place q = eqb-true (place k) (place (noteAt s xs i .kind)) h ∙ ap place (note-kind s xs i) in
+    let m : k ≡ q = sym (kind-place k) ∙ ap kindOf e ∙ kind-place q in
+    ap (noteOf s xs i) (sym m)
 
 module _ (s xs : List ℕ) (k : Kind) (l : List Note) (f : ℕ → ℕ) (d : Note)
     (each : (j : ℕ) → j < length (reverse (pick (isOf k) l)) → getD (reverse (pick (isOf k) l)) j d ≡ noteAt s xs (f j)) where
-  pub by-kind : reverse (pick (isOf k) l) ≡ upTo (λ (i : ℕ). noteFrom s (notingAt xs (f i)) k) (length (reverse (pick (isOf k) l)))
+  pub by-kind : reverse (pick (isOf k) l) ≡ upTo (λ (i : ℕ). noteOf s xs (f i) k) (length (reverse (pick (isOf k) l)))
   by-kind =
-      all-upTo (reverse (pick (isOf k) l)) (λ (i : ℕ). noteFrom s (notingAt xs (f i)) k) d
+      all-upTo (reverse (pick (isOf k) l)) (λ (i : ℕ). noteOf s xs (f i) k) d
       (λ i h. each i h ∙ of-kind s xs (f i) k (ap (isOf k) (sym (each i h)) ∙ picked k l i d h))
 
 -- ---- waveforms

@@ -15,6 +15,7 @@ use cut_lines::Cursor;
 use lines::Bytes;
 use name_checks::Clash;
 use name_checks::Last;
+use note_words::STORE_LENGTH;
 use records::Answer;
 use records::Counts;
 use records::Fault;
@@ -112,7 +113,7 @@ pub fn outlined(src: &[u8], l: Lengths, notes: &mut [u32]) -> Answer
 pub fn check(src: &[u8], l: Lengths) -> Verdict
     ensures { λ r. ⌜ r ≡ verdictOf (outcome l (now (src .entry))) ⌝ }
 {
-    let mut notes = [0u32; 12825];
+    let mut notes = [0u32; STORE_LENGTH];
     let a = outlined(src, l, &mut notes);
     a.verdict
 }

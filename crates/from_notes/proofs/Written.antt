@@ -16,12 +16,12 @@ use Rattle.rules.specs.Reading.{isWithin, rowsIn, waveformIn, TableIs, current,
 use Rattle.layout.specs.Laid.{allRows}
 use Rattle.records.specs.Stored.{stored, over}
 use Rattle.records.specs.declared.Kind.the-variants.{OfModel}
-use Rattle.note_words.specs.Store.{notingAt, noteFrom}
+use Rattle.note_words.specs.Store.{listFrom, nameAt, noteOf}
 use Rattle.layout_by_notes.specs.Lies.{rowsNoted}
 use Rattle.table_rows.specs.Parts.{PartIs, partsIn, withParts, modelWords}
 use Rattle.table_rows.proofs.Stores.{over-none, over-length, over-rest}
 use Rattle.table_rows.proofs.PartLaws.{keys-parts, stored-append}
-use Rattle.from_notes.specs.Made.{nameNoted, noteBy, rowsAt, StandsBehind}
+use Rattle.from_notes.specs.Made.{noteBy, rowsAt, StandsBehind}
 use Rattle.from_notes.proofs.Sections.{model-read}
 
 -- ---- a model's rows, whatever its name
@@ -44,10 +44,10 @@ unfolding modelIn
 tables-named n ts =
     ap (λ (m : ModelIs). m .tables) (keys-parts ts _) ∙ tables-same (partsIn ts) _ _ refl ∙ sym (ap (λ (m : ModelIs). m .tables) (keys-parts ts _))
 
-model-rows : (s ns : List ℕ) (n : ℕ) {c : Cursor} → StandsBehind s ns n c → modelWords (rest s c) ≡ stored (rowsNoted (noteFrom s (notingAt ns n) OfModel))
+model-rows : (s ns : List ℕ) (n : ℕ) {c : Cursor} → StandsBehind s ns n c → modelWords (rest s c) ≡ stored (rowsNoted (noteOf s ns n OfModel))
 unfolding modelWords rowsNoted
 model-rows s ns n {c} h =
-    ap (λ (ts : List TableIs). stored (allRows ts)) (tables-named (nameNoted s ns n) (rest s c) ∙ ap (λ (m : ModelIs). m .tables) (model-read s ns n h))
+    ap (λ (ts : List TableIs). stored (allRows ts)) (tables-named (nameAt s ns n) (rest s c) ∙ ap (λ (m : ModelIs). m .tables) (model-read s ns n h))
 
 -- ---- the words of the first models
 
@@ -80,7 +80,7 @@ module _ {s ns before now : List ℕ} {i used : ℕ} (p : Written s ns before no
   pub written-length : i ≤ n → length now ≡ length before
   written-length q = ap length (p .store) ∙ over-length before (words s ns i) (omega (arith, words-rise s ns i n q))
 
-  module _ (q : i < n) {k : ℕ} (e : k ≡ getD ns (8665 + i) 0) {c : Cursor} (b : StandsBehind s ns k c) where
+  module _ (q : i < n) {k : ℕ} (e : k ≡ getD ns (listFrom OfModel + i) 0) {c : Cursor} (b : StandsBehind s ns k c) where
     abbrev more : List ℕ
     more = modelWords (rest s c)
 
@@ -88,7 +88,7 @@ module _ {s ns before now : List ℕ} {i used : ℕ} (p : Written s ns before no
     next-words =
         rw (add-one i)
         (words-more s ns i
-        ∙ ap (λ (j : ℕ). words s ns i ++ stored (rowsNoted (noteFrom s (notingAt ns j) OfModel))) (sym e)
+        ∙ ap (λ (j : ℕ). words s ns i ++ stored (rowsNoted (noteOf s ns j OfModel))) (sym e)
         ∙ ap (λ (l : List ℕ). words s ns i ++ l) (sym (model-rows s ns k b)))
 
     next-length : used + length more ≤ length before

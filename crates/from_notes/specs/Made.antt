@@ -20,20 +20,13 @@ use Rattle.records.specs.declared.Choice.{Choice}
 use Rattle.records.specs.declared.Model.{Model}
 use Rattle.records.specs.declared.Waveform.{Waveform}
 use Rattle.notes.specs.Noted.{Note}
-use Rattle.note_words.specs.Store.{byKindFrom, noteFrom, notingAt, waveAt}
+use Rattle.note_words.specs.Store.{listFrom, sectionAt, rowAt, noteOf, waveAt}
 use Rattle.layout_by_notes.specs.Lies.{componentNoted, pinNoted, selectorNoted, choiceNoted, modelNoted, rowsNoted, waveNoted}
 
--- ---- the names by kind: where each kind's begin. A file has at most 8 components, 512 pins, 32 selectors, 256 selector rows and 64 models
-
-abbrev pub base : Kind → ℕ
-base OfComponent = 0
-base OfPin = 8
-base OfSelector = 520
-base OfChoice = 552
-base OfModel = 808
+-- ---- the note at place i in the list of its kind
 
 abbrev pub noteBy : List ℕ → List ℕ → Kind → ℕ → Note
-noteBy s ns k i = noteFrom s (notingAt ns (getD ns (byKindFrom + base k + i) 0)) k
+noteBy s ns k i = noteOf s ns (getD ns (listFrom k + i) 0) k
 
 -- ---- the record at place i of each table
 
@@ -71,13 +64,10 @@ pub record StandsAt (s : List ℕ) (at comment : ℕ) (c : Cursor) : Type 0 wher
   pub placed : Placed s c
   pub texts : rest s c ≡ rest s (record { at = at; line = 1; comment = comment })
 
--- ---- what is noted at place n: a name, a row's text, and what stands behind a section's keyword line
-
-abbrev pub nameNoted : List ℕ → List ℕ → ℕ → List ℕ
-nameNoted s ns n = part (notingAt ns n .name) (notingAt ns n .«name_end») s
+-- ---- what is noted at place n: a row's text, and what stands behind a section's keyword line
 
 abbrev pub rowNoted : List ℕ → List ℕ → ℕ → List ℕ
-rowNoted s ns n = part (notingAt ns n .place) (notingAt ns n .«place_end») s
+rowNoted s ns n = part (rowAt ns n .text) (rowAt ns n .«text_end») s
 
 abbrev pub StandsBehind : List ℕ → List ℕ → ℕ → Cursor → Type 0
-StandsBehind s ns n c = StandsAt s (notingAt ns n .place) (notingAt ns n .«place_end») c
+StandsBehind s ns n c = StandsAt s (sectionAt ns n .behind) (sectionAt ns n .comment) c

@@ -3,9 +3,18 @@ ghost use mathlib.Core.Path.{_≡_};
 ghost use Prim.Native.Nat.{_+_, _*_};
 ghost use lib.ListN.{getD};
 ghost use Rattle.laws.specs.Lists.{part};
-ghost use Rattle.note_words.specs.Store.{wavesFrom};
-ghost use Rattle.from_notes.specs.Made.{markOf, StandsAt, nameNoted, rowNoted, StandsBehind};
+ghost use Rattle.note_words.specs.Store.{wavesFrom, wordsPerWave, nameAt, nameWord};
+ghost use Rattle.from_notes.specs.Made.{markOf, StandsAt, rowNoted, StandsBehind};
 use cut_lines::Cursor;
+use note_words::NAME;
+use note_words::NAME_END;
+use note_words::ROW_TEXT;
+use note_words::ROW_TEXT_END;
+use note_words::SECTION_BEHIND;
+use note_words::SECTION_COMMENT;
+use note_words::WAVES_FROM;
+use note_words::WORDS_PER_NAME;
+use note_words::WORDS_PER_WAVE;
 
 // The word i places behind a place; 0 past the end.
 pub(crate) fn word_behind(notes: &[u32], from: usize, i: usize) -> usize
@@ -22,22 +31,22 @@ pub(crate) fn word_behind(notes: &[u32], from: usize, i: usize) -> usize
 
 // Word j of the name noted at place n.
 pub(crate) fn name_word(notes: &[u32], n: usize, j: usize) -> usize
-    ensures { λ r. ⌜ r ≡ getD (now (notes .entry)) (9 * n + j) 0 ⌝ }
+    ensures { λ r. ⌜ r ≡ nameWord (now (notes .entry)) n j ⌝ }
 {
-    if notes.len() / 9 < n {
+    if notes.len() / WORDS_PER_NAME < n {
         return 0;
     }
-    word_behind(notes, 9 * n, j)
+    word_behind(notes, WORDS_PER_NAME * n, j)
 }
 
 // Word j of the waveform noted at place n.
 pub(crate) fn wave_word(notes: &[u32], n: usize, j: usize) -> usize
-    ensures { λ r. ⌜ r ≡ getD (now (notes .entry)) (wavesFrom + 4 * n + j) 0 ⌝ }
+    ensures { λ r. ⌜ r ≡ getD (now (notes .entry)) (wavesFrom + wordsPerWave * n + j) 0 ⌝ }
 {
-    if notes.len() / 4 < n {
+    if notes.len() / WORDS_PER_WAVE < n {
         return 0;
     }
-    word_behind(notes, 8729 + 4 * n, j)
+    word_behind(notes, WAVES_FROM + WORDS_PER_WAVE * n, j)
 }
 
 // The bytes from a up to e; what is not there is left out.
@@ -87,10 +96,10 @@ pub(crate) fn cursor_at(src: &[u8], at: usize, comment: usize) -> Cursor
 
 // The name that is noted at place n.
 pub(crate) fn name_noted<'a>(src: &'a [u8], notes: &[u32], n: usize) -> &'a [u8]
-    ensures { λ r. ⌜ now r ≡ nameNoted (now (src .entry)) (now (notes .entry)) n ⌝ }
+    ensures { λ r. ⌜ now r ≡ nameAt (now (src .entry)) (now (notes .entry)) n ⌝ }
 {
-    let start = name_word(notes, n, 2);
-    let end = name_word(notes, n, 3);
+    let start = name_word(notes, n, NAME);
+    let end = name_word(notes, n, NAME_END);
     part_of(src, start, end)
 }
 
@@ -98,8 +107,8 @@ pub(crate) fn name_noted<'a>(src: &'a [u8], notes: &[u32], n: usize) -> &'a [u8]
 pub(crate) fn row_noted<'a>(src: &'a [u8], notes: &[u32], n: usize) -> &'a [u8]
     ensures { λ r. ⌜ now r ≡ rowNoted (now (src .entry)) (now (notes .entry)) n ⌝ }
 {
-    let start = name_word(notes, n, 6);
-    let end = name_word(notes, n, 7);
+    let start = name_word(notes, n, ROW_TEXT);
+    let end = name_word(notes, n, ROW_TEXT_END);
     part_of(src, start, end)
 }
 
@@ -107,7 +116,7 @@ pub(crate) fn row_noted<'a>(src: &'a [u8], notes: &[u32], n: usize) -> &'a [u8]
 pub(crate) fn section_noted(src: &[u8], notes: &[u32], n: usize) -> Cursor
     ensures { λ r. ⌜ StandsBehind (now (src .entry)) (now (notes .entry)) n r ⌝ }
 {
-    let at = name_word(notes, n, 6);
-    let comment = name_word(notes, n, 7);
+    let at = name_word(notes, n, SECTION_BEHIND);
+    let comment = name_word(notes, n, SECTION_COMMENT);
     cursor_at(src, at, comment)
 }

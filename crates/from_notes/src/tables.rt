@@ -6,6 +6,14 @@ use crate::places::name_word;
 use crate::places::row_noted;
 use crate::places::section_noted;
 use crate::places::word_behind;
+use note_words::CHOICES_FROM;
+use note_words::COMPONENTS_FROM;
+use note_words::MODELS_FROM;
+use note_words::PINS_FROM;
+use note_words::SECTION_PLACE;
+use note_words::SECTION_ROW;
+use note_words::SECTION_START;
+use note_words::SELECTORS_FROM;
 use records::Choice;
 use records::Component;
 use records::Model;
@@ -15,9 +23,9 @@ use records::Selector;
 pub fn component_at(src: &[u8], notes: &[u32], i: usize) -> Component
     ensures { λ r. ⌜ r ≡ componentAt (now (src .entry)) (now (notes .entry)) i ⌝ }
 {
-    let n = word_behind(notes, 7857, i);
-    let section = name_word(notes, n, 8);
-    let start = name_word(notes, n, 4);
+    let n = word_behind(notes, COMPONENTS_FROM, i);
+    let section = name_word(notes, n, SECTION_PLACE);
+    let start = name_word(notes, n, SECTION_START);
     let c = section_noted(src, notes, n);
     component_records::component_of(src, c, name_noted(src, notes, n), section, start)
 }
@@ -25,16 +33,16 @@ pub fn component_at(src: &[u8], notes: &[u32], i: usize) -> Component
 pub fn pin_at(src: &[u8], notes: &[u32], i: usize) -> Pin
     ensures { λ r. ⌜ r ≡ pinAt (now (src .entry)) (now (notes .entry)) i ⌝ }
 {
-    let n = word_behind(notes, 7865, i);
+    let n = word_behind(notes, PINS_FROM, i);
     component_records::pin_of(row_noted(src, notes, n))
 }
 
 pub fn selector_at(src: &[u8], notes: &[u32], i: usize) -> Selector
     ensures { λ r. ⌜ r ≡ selectorAt (now (src .entry)) (now (notes .entry)) i ⌝ }
 {
-    let n = word_behind(notes, 8377, i);
-    let section = name_word(notes, n, 8);
-    let start = name_word(notes, n, 4);
+    let n = word_behind(notes, SELECTORS_FROM, i);
+    let section = name_word(notes, n, SECTION_PLACE);
+    let start = name_word(notes, n, SECTION_START);
     let c = section_noted(src, notes, n);
     component_records::selector_of(src, c, name_noted(src, notes, n), section, start)
 }
@@ -42,17 +50,17 @@ pub fn selector_at(src: &[u8], notes: &[u32], i: usize) -> Selector
 pub fn choice_at(src: &[u8], notes: &[u32], i: usize) -> Choice
     ensures { λ r. ⌜ r ≡ choiceAt (now (src .entry)) (now (notes .entry)) i ⌝ }
 {
-    let n = word_behind(notes, 8409, i);
+    let n = word_behind(notes, CHOICES_FROM, i);
     component_records::choice_of(row_noted(src, notes, n))
 }
 
 pub fn model_at(src: &[u8], notes: &[u32], i: usize) -> Model
     ensures { λ r. ⌜ r ≡ modelAt (now (src .entry)) (now (notes .entry)) i ⌝ }
 {
-    let n = word_behind(notes, 8665, i);
-    let section = name_word(notes, n, 8);
-    let row = name_word(notes, n, 5);
-    let start = name_word(notes, n, 4);
-    let c = section_noted(src, notes, n);
-    model_record::model_of(src, c, name_noted(src, notes, n), section, row, start)
+    let n = word_behind(notes, MODELS_FROM, i);
+    let section = name_word(notes, n, SECTION_PLACE);
+    let row = name_word(notes, n, SECTION_ROW);
+    let start = name_word(notes, n, SECTION_START);
+    let lines = section_noted(src, notes, n);
+    model_record::model_of(src, lines, name_noted(src, notes, n), section, row, start)
 }

@@ -14,6 +14,9 @@ use cut_lines::Next;
 use keywords::KeyRead;
 use keywords::Keyword;
 use keywords::ModelPart;
+use note_words::WAVE_AT;
+use note_words::WAVE_COMMENT;
+use note_words::WAVE_ROW;
 use records::Edge;
 use records::Waveform;
 
@@ -79,9 +82,9 @@ fn waveform_from(src: &[u8], c: Cursor, row: usize) -> Waveform
 pub fn waveform_at(src: &[u8], notes: &[u32], i: usize) -> Waveform
     ensures { λ r. ⌜ r ≡ waveformAt (now (src .entry)) (now (notes .entry)) i ⌝ }
 {
-    let at = wave_word(notes, i, 0);
-    let comment = wave_word(notes, i, 2);
-    let row = wave_word(notes, i, 3);
+    let at = wave_word(notes, i, WAVE_AT);
+    let comment = wave_word(notes, i, WAVE_COMMENT);
+    let row = wave_word(notes, i, WAVE_ROW);
     let c = cursor_at(src, at, comment);
     waveform_from(src, c, row)
 }

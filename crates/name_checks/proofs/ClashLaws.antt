@@ -18,11 +18,12 @@ use Rattle.rules.specs.Outline.{Entry, place, is, named, isUsed}
 use Rattle.records.specs.declared.Kind.{Kind}
 use Rattle.records.specs.declared.Kind.the-variants.{OfComponent, OfPin, OfSelector, OfChoice, OfModel}
 use Rattle.notes.specs.Noted.{orUsed, clash}
-use Rattle.note_words.specs.Store.{noteAt, notesTo}
+use Rattle.note_words.specs.Store.{lineAt, nameAt, noteAt, notesTo}
+use Rattle.note_words.proofs.Laws.{note-name, note-line}
 use Rattle.name_checks.specs.declared.Meeting.{Meeting}
 use Rattle.name_checks.specs.declared.Meeting.the-variants.{Equal, Differing, Beyond}
-use Rattle.name_checks.specs.Lookup.{placeAt, lineAt, nameAt, entryAt, entriesTo, modelOrSelector, rivals, enclosed, meeting, meetingAt, keyFrom, keyAt, Keyed}
-use Rattle.name_checks.proofs.NoteLaws.{note-kind, note-name, note-line}
+use Rattle.name_checks.specs.Lookup.{placeAt, entryAt, entriesTo, modelOrSelector, rivals, enclosed, meeting, meetingAt, keyFrom, keyAt, Keyed}
+use Rattle.name_checks.proofs.NoteLaws.{note-kind}
 
 -- ---- a name among earlier ones, the nearest of them taken first
 

@@ -20,11 +20,12 @@ use Rattle.rules.specs.Whole.{lastChecks, found, listed}
 use Rattle.records.specs.declared.Kind.{Kind}
 use Rattle.records.specs.declared.Kind.the-variants.{OfComponent, OfPin, OfSelector, OfChoice, OfModel}
 use Rattle.notes.specs.Noted.{clash}
-use Rattle.note_words.specs.Store.{noteAt, notesTo, byKindFrom, storeLength}
+use Rattle.note_words.specs.Store.{namesHeld, byKindFrom, storeLength, lineAt, noteAt, notesTo}
+use Rattle.note_words.proofs.Laws.{note-line}
 use Rattle.name_checks.specs.declared.Last.{Last}
 use Rattle.name_checks.specs.declared.Last.the-variants.{Fine, Missing, Unlisted}
-use Rattle.name_checks.specs.Lookup.{placeAt, lineAt, entryAt, entriesTo, entriesFrom, Outside, modelOrSelector, enclosed, reaches, reachesAt, targetTo, missingLine, isMarked, clearedTo, Clear, withMark, marked, Marks, Marked, unmarkedLine, unmarkedFrom, Concludes}
-use Rattle.name_checks.proofs.NoteLaws.{note-kind, note-line}
+use Rattle.name_checks.specs.Lookup.{placeAt, entryAt, entriesTo, entriesFrom, Outside, modelOrSelector, enclosed, reaches, reachesAt, targetTo, missingLine, isMarked, clearedTo, Clear, withMark, marked, Marks, Marked, unmarkedLine, unmarkedFrom, Concludes}
+use Rattle.name_checks.proofs.NoteLaws.{note-kind}
 use Rattle.name_checks.proofs.OutsideLaws.{outside-refl, outside-set, outside-place, line-outside, outside-then, entries-outside}
 use Rattle.name_checks.proofs.TargetLaws.{hits-at, target-found, target-missed, found-line, one-target, target-outside, missing-outside}
 
@@ -107,12 +108,12 @@ module _ (xs : List ℕ) where
   unfolding clearedTo
   cleared-turn i ys e = rw (add-one i) rw e refl
 
-  pub cleared-outside : (n : ℕ) → n ≤ 872 → Outside xs (clearedTo xs n)
+  pub cleared-outside : (n : ℕ) → n ≤ namesHeld → Outside xs (clearedTo xs n)
   unfolding clearedTo
   cleared-outside zero h = outside-refl xs
   cleared-outside (suc n) h = outside-set xs (clearedTo xs n) (byKindFrom + n) 0 (cleared-outside n (omega (arith, h))) (omega arith) (omega (arith, h))
 
-  pub cleared-clear : (n : ℕ) → n ≤ 872 → storeLength ≤ length xs → Clear (clearedTo xs n) n
+  pub cleared-clear : (n : ℕ) → n ≤ namesHeld → storeLength ≤ length xs → Clear (clearedTo xs n) n
   unfolding clearedTo
   cleared-clear zero h g j f = absurd (omega (arith, f))
   cleared-clear (suc n) h g j f =
@@ -123,7 +124,7 @@ module _ (xs : List ℕ) where
       rw e (getD-set-same (clearedTo xs n) (byKindFrom + n) 0 0 (omega (arith, h, g, o .long))))
       (λ a. getD-set-other (clearedTo xs n) (byKindFrom + n) (byKindFrom + j) 0 0 (λ e. omega (arith, a, e)) ∙ cleared-clear n (omega (arith, h)) g j a)
 
-  pub cleared-length : (ys : List ℕ) (i n : ℕ) → i ≤ n → n ≤ 872 → ys ≡ clearedTo xs i → length ys ≡ length xs
+  pub cleared-length : (ys : List ℕ) (i n : ℕ) → i ≤ n → n ≤ namesHeld → ys ≡ clearedTo xs i → length ys ≡ length xs
   cleared-length ys i n h g e = ap length e ∙ cleared-outside i (omega (arith, h, g)) .long
 
   pub cleared-end : (i n : ℕ) (ys : List ℕ) → i ≤ n → n ≤ i → ys ≡ clearedTo xs i → ys ≡ clearedTo xs n
@@ -180,7 +181,7 @@ marked-none f OfSelector = refl
 marked-none f OfChoice = refl
 marked-none f OfModel = refl
 
-module _ (s xs : List ℕ) (n : ℕ) (unique : clash (entriesTo s xs n) ≡ none) (small : n ≤ 872) where
+module _ (s xs : List ℕ) (n : ℕ) (unique : clash (entriesTo s xs n) ≡ none) (small : n ≤ namesHeld) where
   mark-each : (i : ℕ) (ys : List ℕ) (t : Found) → storeLength ≤ length ys → targetTo s xs i n ≡ t
       → (j : ℕ) → j < n → isMarked (withMark ys t) j ≡ (reachesAt s xs i j || isMarked ys j)
   mark-each i ys (At k) long e j h =
@@ -223,13 +224,13 @@ marking-none s xs n h =
       marks = rw (from-none s xs n) (λ j g. rw (h j g) (marked-none (entryAt s xs j) (noteAt s xs j .kind)));
     }
 
-pub marking-turn : (s xs : List ℕ) (n i first : ℕ) (ys : List ℕ) → n ≤ 872 → storeLength ≤ length xs → clash (entriesTo s xs n) ≡ none → Marking s xs n i first ys
+pub marking-turn : (s xs : List ℕ) (n i first : ℕ) (ys : List ℕ) → n ≤ namesHeld → storeLength ≤ length xs → clash (entriesTo s xs n) ≡ none → Marking s xs n i first ys
     → 0 < i → i ≤ n → (r : ℕ) (zs : List ℕ) → r ≡ missingLine s ys (i - 1) first (targetTo s ys (i - 1) n) → zs ≡ withMark ys (targetTo s ys (i - 1) n)
     → Marking s xs n (i - 1) r zs
 unfolding firstFailing
 marking-turn s xs n i first ys small long unique m h g r zs e f =
     let k = i - 1 in
-    let b : k ≤ 872 = omega (arith, g, small) in
+    let b : k ≤ namesHeld = omega (arith, g, small) in
     let t : targetTo s ys k n ≡ targetTo s xs k n = target-outside s xs ys (m .outside) k n b small in
     let z : zs ≡ withMark ys (targetTo s xs k n) = f ∙ ap (withMark ys) t in
     record {
@@ -258,11 +259,11 @@ listed-kind es f OfSelector later line = refl
 listed-kind es f OfChoice later line = refl
 listed-kind es f OfModel later line = refl
 
-module _ (s xs ys : List ℕ) (n : ℕ) (es : List Entry) (small : n ≤ 872) (o : Outside xs ys) (marks : Marks s xs es n ys) where
+module _ (s xs ys : List ℕ) (n : ℕ) (es : List Entry) (small : n ≤ namesHeld) (o : Outside xs ys) (marks : Marks s xs es n ys) where
   unlisted-line : (j later : ℕ) → j < n → unmarkedLine ys j later ≡ cond (listed es (entryAt s xs j)) later (noteAt s xs j .line)
   unfolding unmarkedLine
   unlisted-line j later h =
-      let b : j ≤ 872 = omega (arith, h, small) in
+      let b : j ≤ namesHeld = omega (arith, h, small) in
       rw (outside-place xs ys j o b) rw (marks j h) rw (line-outside s xs ys o j b)
       rw (← (note-kind s xs j)) rw (← (note-line s xs j)) (listed-kind es (entryAt s xs j) (noteAt s xs j .kind) later (noteAt s xs j .line))
 
@@ -280,7 +281,7 @@ module _ (s xs ys : List ℕ) (n missing : ℕ) (m : Marked s xs ys n missing) w
   unfolding lastChecks
   concludes-missing h d = rw (file-order s xs n) rw (← (m .first)) rw (ne-eqb missing 0 h) refl
 
-  module _ (none-missing : missing ≡ 0) (small : n ≤ 872) (unlisted : ℕ) (u : unlisted ≡ unmarkedFrom ys 0 n) where
+  module _ (none-missing : missing ≡ 0) (small : n ≤ namesHeld) (unlisted : ℕ) (u : unlisted ≡ unmarkedFrom ys 0 n) where
     unlisted-first : unlisted ≡ firstFailing (listed (entriesFrom s xs 0 n)) (entriesFrom s xs 0 n)
     unlisted-first = u ∙ unlisted-from s xs ys n (entriesFrom s xs 0 n) small (m .outside) (m .marks) 0 n (omega arith)
 
@@ -295,11 +296,11 @@ module _ (s xs ys : List ℕ) (n missing : ℕ) (m : Marked s xs ys n missing) w
         rw (file-order s xs n) rw (← (m .first)) rw (eq-eqb missing 0 none-missing) rw (← unlisted-first) rw (eq-eqb unlisted 0 h) refl
 
 -- the store with the marks cleared says the same of the names
-module _ (s xs zs : List ℕ) (n : ℕ) (small : n ≤ 872) (e : zs ≡ clearedTo xs n) where
+module _ (s xs zs : List ℕ) (n : ℕ) (small : n ≤ namesHeld) (e : zs ≡ clearedTo xs n) where
   clean : Outside xs zs
   clean = rw e (cleared-outside xs n small)
 
-  pub cleared-ready : storeLength ≤ length xs → clash (entriesTo s xs n) ≡ none → ((n ≤ 872) × (storeLength ≤ length zs)) × ((clash (entriesTo s zs n) ≡ none) × Clear zs n)
+  pub cleared-ready : storeLength ≤ length xs → clash (entriesTo s xs n) ≡ none → ((n ≤ namesHeld) × (storeLength ≤ length zs)) × ((clash (entriesTo s zs n) ≡ none) × Clear zs n)
   cleared-ready h u =
       ((small, omega (arith, clean .long, h)), (rw (entries-outside s xs zs n clean small) u, rw e (cleared-clear xs n small h)))
 

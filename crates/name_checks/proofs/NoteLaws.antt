@@ -1,5 +1,5 @@
--- A note by its words, whatever its kind; a part of the file moved into it.
-use Prim.Native.Nat.{ℕ, zero, suc, _+_, _-_, _*_, _≤_, _<_}
+-- The number of a kind; a part of the file moved into it.
+use Prim.Native.Nat.{ℕ, zero, suc, _+_, _-_, _≤_, _<_}
 use mathlib.Core.Path.{_≡_, refl, sym, ap, _∙_}
 use mathlib.Core.List.{List, []}
 use mathlib.Core.Bool.{Bool, false}
@@ -12,11 +12,9 @@ use Rattle.laws.proofs.Lists.{part-length}
 use Rattle.laws.proofs.Same.{eqs-apart}
 use Rattle.words.specs.declared.Word.{Word}
 use Rattle.rules.specs.Outline.{place}
-use Rattle.records.specs.declared.Kind.{Kind}
-use Rattle.records.specs.declared.Kind.the-variants.{OfComponent, OfPin, OfSelector, OfChoice, OfModel}
-use Rattle.note_words.specs.Store.{noteAt, noteFrom, notingAt, kindOf}
-use Rattle.note_words.specs.declared.Noting.{Noting}
-use Rattle.name_checks.specs.Lookup.{placeAt, lineAt, nameAt, Within}
+use Rattle.note_words.specs.Store.{kindOf, noteAt}
+use Rattle.note_words.proofs.Laws as stored
+use Rattle.name_checks.specs.Lookup.{placeAt, Within}
 
 -- ---- the number of a kind
 
@@ -34,42 +32,9 @@ place-above w h =
     rw (ne-eqb w 0 (λ e. omega (arith, h, e))) rw (ne-eqb w 1 (λ e. omega (arith, h, e))) rw (ne-eqb w 2 (λ e. omega (arith, h, e)))
     rw (ne-eqb w 3 (λ e. omega (arith, h, e))) refl
 
--- ---- what every kind of note has
-
-module _ (s : List ℕ) (x : Noting) where
-  kind-is : (k : Kind) → noteFrom s x k .kind ≡ k
-  kind-is OfComponent = refl
-  kind-is OfPin = refl
-  kind-is OfSelector = refl
-  kind-is OfChoice = refl
-  kind-is OfModel = refl
-
-  name-is : (k : Kind) → noteFrom s x k .name ≡ part (x .name) (x .«name_end») s
-  name-is OfComponent = refl
-  name-is OfPin = refl
-  name-is OfSelector = refl
-  name-is OfChoice = refl
-  name-is OfModel = refl
-
-  line-is : (k : Kind) → noteFrom s x k .line ≡ x .line
-  line-is OfComponent = refl
-  line-is OfPin = refl
-  line-is OfSelector = refl
-  line-is OfChoice = refl
-  line-is OfModel = refl
-
-module _ (s xs : List ℕ) (i : ℕ) where
-  pub note-kind : place (noteAt s xs i .kind) ≡ placeAt xs i
-  unfolding noteAt placeAt
-  note-kind = ap place (kind-is s (notingAt xs i) (kindOf (getD xs (9 * i) 0)))
-
-  pub note-name : noteAt s xs i .name ≡ nameAt s xs i
-  unfolding noteAt
-  note-name = name-is s (notingAt xs i) (kindOf (getD xs (9 * i) 0))
-
-  pub note-line : noteAt s xs i .line ≡ lineAt xs i
-  unfolding noteAt
-  note-line = line-is s (notingAt xs i) (kindOf (getD xs (9 * i) 0))
+pub note-kind : (s xs : List ℕ) (i : ℕ) → place (noteAt s xs i .kind) ≡ placeAt xs i
+unfolding placeAt
+note-kind s xs i = ap place (stored.note-kind s xs i)
 
 -- ---- a part that lies outside
 

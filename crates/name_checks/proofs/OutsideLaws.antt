@@ -3,13 +3,13 @@ use Prim.Native.Nat.{ℕ, _+_, _*_, _≤_, _<_}
 use mathlib.Core.Path.{_≡_, refl, ap, _∙_}
 use mathlib.Core.List.{List, map}
 use native.Mathlib.Omega.{arith}
-use lib.ListN.{getD, set, length-set}
+use lib.ListN.{set, length-set}
 use lib.Seq.{getD-set-other}
 use Rattle.rules.specs.Outline.{place}
 use Rattle.notes.specs.Noted.{entryOf}
-use Rattle.note_words.specs.Store.{noteAt, kindOf, byKindFrom, wavesFrom}
+use Rattle.note_words.specs.Store.{namesHeld, wordsPerName, byKindFrom, wavesFrom, kindOf, nameWord, lineAt, nameAt, noteAt}
 use Rattle.note_words.proofs.Laws.{notes-agree, note-agree}
-use Rattle.name_checks.specs.Lookup.{placeAt, lineAt, nameAt, modelAt, entriesTo, Outside}
+use Rattle.name_checks.specs.Lookup.{placeAt, modelAt, entriesTo, Outside}
 
 pub outside-refl : (xs : List ℕ) → Outside xs xs
 outside-refl xs = record { long = refl; below = λ k a b. refl; behind = λ k a b. refl }
@@ -22,24 +22,24 @@ outside-set xs ys p v o h g =
       behind = λ k a b. getD-set-other ys p k v 0 (λ e. omega (arith, a, g, e)) ∙ o .behind k a b;
     }
 
-pub outside-note : (s xs ys : List ℕ) (i : ℕ) → Outside xs ys → i ≤ 872 → noteAt s ys i ≡ noteAt s xs i
+pub outside-note : (s xs ys : List ℕ) (i : ℕ) → Outside xs ys → i ≤ namesHeld → noteAt s ys i ≡ noteAt s xs i
 outside-note s xs ys i o h = note-agree s ys xs i (λ k a b. o .below k (omega arith) (omega (arith, b, h)))
 
-pub outside-place : (xs ys : List ℕ) (i : ℕ) → Outside xs ys → i ≤ 872 → placeAt ys i ≡ placeAt xs i
+pub outside-place : (xs ys : List ℕ) (i : ℕ) → Outside xs ys → i ≤ namesHeld → placeAt ys i ≡ placeAt xs i
 unfolding placeAt
-outside-place xs ys i o h = ap (λ (w : ℕ). place (kindOf w)) (o .below (9 * i) (omega arith) (omega (arith, h)))
+outside-place xs ys i o h = ap (λ (w : ℕ). place (kindOf w)) (o .below (wordsPerName * i) (omega arith) (omega (arith, h)))
 
 module _ (s xs ys : List ℕ) (o : Outside xs ys) where
-  word-outside : (i k : ℕ) → i ≤ 872 → k < 9 → getD ys (9 * i + k) 0 ≡ getD xs (9 * i + k) 0
-  word-outside i k h g = o .below (9 * i + k) (omega arith) (omega (arith, h, g))
+  word-outside : (i k : ℕ) → i ≤ namesHeld → k < wordsPerName → nameWord ys i k ≡ nameWord xs i k
+  word-outside i k h g = o .below (wordsPerName * i + k) (omega arith) (omega (arith, h, g))
 
-  pub line-outside : (i : ℕ) → i ≤ 872 → lineAt ys i ≡ lineAt xs i
+  pub line-outside : (i : ℕ) → i ≤ namesHeld → lineAt ys i ≡ lineAt xs i
   line-outside i h = word-outside i 1 h (omega arith)
 
-  pub name-outside : (i : ℕ) → i ≤ 872 → nameAt s ys i ≡ nameAt s xs i
+  pub name-outside : (i : ℕ) → i ≤ namesHeld → nameAt s ys i ≡ nameAt s xs i
   name-outside i h = rw (word-outside i 2 h (omega arith)) rw (word-outside i 3 h (omega arith)) refl
 
-  pub model-outside : (i : ℕ) → i ≤ 872 → modelAt s ys i ≡ modelAt s xs i
+  pub model-outside : (i : ℕ) → i ≤ namesHeld → modelAt s ys i ≡ modelAt s xs i
   model-outside i h = rw (word-outside i 4 h (omega arith)) rw (word-outside i 5 h (omega arith)) refl
 
 pub outside-then : (xs ys zs : List ℕ) → Outside xs ys → Outside ys zs → Outside xs zs
@@ -50,5 +50,5 @@ outside-then xs ys zs o p =
       behind = λ k a b. p .behind k a b ∙ o .behind k a b;
     }
 
-pub entries-outside : (s xs ys : List ℕ) (n : ℕ) → Outside xs ys → n ≤ 872 → entriesTo s ys n ≡ entriesTo s xs n
+pub entries-outside : (s xs ys : List ℕ) (n : ℕ) → Outside xs ys → n ≤ namesHeld → entriesTo s ys n ≡ entriesTo s xs n
 entries-outside s xs ys n o h = ap (map entryOf) (notes-agree s ys xs n (λ k a b. o .below k a (omega (arith, b, h))))

@@ -1,5 +1,5 @@
 -- The names by kind: what a turn of the sorting writes, that the kinds' regions lie apart, and what is read there at the end.
-use Prim.Native.Nat.{ℕ, zero, suc, _+_, _*_, _≤_, _<_}
+use Prim.Native.Nat.{ℕ, zero, suc, _+_, _≤_, _<_}
 use mathlib.Core.Path.{_≡_, refl, sym, ap, _∙_, subst}
 use mathlib.Core.List.{List, [], _∷_, _++_, reverse, reverse-cons}
 use native.Mathlib.Omega.{arith}
@@ -8,14 +8,15 @@ use lib.ListN.{length, getD, set, length-reverse, List·getD-append}
 use lib.Seq.{getD-set-same, getD-set-other, getD-append-seam}
 use lib.Dec.{eqb}
 use borrow.Author.Tests.{eq-eqb, ne-eqb, eqb-true, eqb-false}
-use Rattle.laws.proofs.Tests.{by-test, by-order, cond-yes, cond-no, cond-all}
+use Rattle.laws.proofs.Tests.{by-test, by-order, cond-yes, cond-no}
 use Rattle.rules.specs.Outline.{place, is, count}
 use Rattle.rules.specs.Whole.{bound}
 use Rattle.records.specs.declared.Lengths.{Lengths}
+use Rattle.records.specs.Bounds.{most}
 use Rattle.records.specs.declared.Kind.{Kind}
 use Rattle.records.specs.declared.Kind.the-variants.{OfComponent, OfPin, OfSelector, OfChoice, OfModel}
 use Rattle.notes.specs.Noted.{Note}
-use Rattle.note_words.specs.Store.{noteAt, notesTo, kindOf, byKindFrom, wavesFrom, storeLength}
+use Rattle.note_words.specs.Store.{namesHeld, byKindFrom, listFrom, wavesFrom, storeLength, kindOf, kindAt, noteAt, notesTo}
 use Rattle.layout_by_notes.specs.Lies.{pick, isOf}
 use Rattle.name_checks.specs.Lookup.{placeAt, entriesTo, Outside, howMany, kindFrom, kindRoom, sortedTo, Roomy, Sorted}
 use Rattle.name_checks.proofs.NoteLaws.{note-kind}
@@ -32,10 +33,10 @@ place-at-most OfModel = omega arith
 
 pub kind-at-most : (xs : List ℕ) (i : ℕ) → placeAt xs i ≤ 4
 unfolding placeAt
-kind-at-most xs i = place-at-most (kindOf (getD xs (9 * i) 0))
+kind-at-most xs i = place-at-most (kindAt xs i)
 
 region-next : (k : ℕ) → k < 4 → kindFrom k + kindRoom k ≡ kindFrom (suc k)
-unfolding kindFrom kindRoom
+unfolding kindFrom kindRoom kindOf
 region-next zero h = refl
 region-next (suc zero) h = refl
 region-next (suc (suc zero)) h = refl
@@ -53,7 +54,7 @@ region-before k (suc l) h g =
     (λ a. omega (arith, region-before k l a (omega (arith, g)), region-next l (omega (arith, g))))
 
 region-bounds : (k : ℕ) → k ≤ 4 → (byKindFrom ≤ kindFrom k) × (kindFrom k + kindRoom k ≤ wavesFrom)
-unfolding kindFrom kindRoom
+unfolding kindFrom kindRoom kindOf
 region-bounds zero h = omega arith
 region-bounds (suc zero) h = omega arith
 region-bounds (suc (suc zero)) h = omega arith
@@ -113,7 +114,7 @@ module _ (xs : List ℕ) where
   pub room-next : (i n : ℕ) → i < n → Roomy xs n → howMany xs (placeAt xs i) i < kindRoom (placeAt xs i)
   unfolding placeAt
   room-next i n h r =
-      let x : Kind = kindOf (getD xs (9 * i) 0) in
+      let x : Kind = kindAt xs i in
       let e : howMany xs (place x) (i + 1) ≡ howMany xs (place x) i + 1 = many-more i (place x) refl in
       omega (arith, e, many-up (place x) (i + 1) n (omega (arith, h)), r x)
 
@@ -230,7 +231,7 @@ module _ (s xs : List ℕ) (long : storeLength ≤ length xs) where
       before m))
       before
 
-pub sorted : (xs : List ℕ) (n : ℕ) → n ≤ 872 → storeLength ≤ length xs → Roomy xs n → Sorted xs (sortedTo xs n) n
+pub sorted : (xs : List ℕ) (n : ℕ) → n ≤ namesHeld → storeLength ≤ length xs → Roomy xs n → Sorted xs (sortedTo xs n) n
 sorted xs n h long r =
     record {
       outside = sorted-outside xs n r;
@@ -245,20 +246,24 @@ sorted xs n h long r =
 -- ---- a turn of the loop: the store and the counts so far, and the next name's kind and where its kind lies
 
 pub record Turning (xs ys us : List ℕ) (i k r : ℕ) : Type 0 where
-  pub few : getD us k 0 < 512
+  pub few : getD us k 0 < most OfPin
   pub inside : r + getD us k 0 < length ys
   pub low : r + getD us k 0 < wavesFrom
   pub store : set ys (r + getD us k 0) i ≡ sortedTo xs (i + 1)
   pub counts : (l : ℕ) → l < 5 → getD (set us k (getD us k 0 + 1)) l 0 ≡ howMany xs l (i + 1)
 
-room-at-most : (k : ℕ) → kindRoom k ≤ 512
-unfolding kindRoom
-room-at-most k =
-    cond-all (λ (m : ℕ). m ≤ 512) (eqb k 0) 8 _ (λ h. omega arith)
-    (λ h. cond-all (λ (m : ℕ). m ≤ 512) (eqb k 1) 512 _ (λ g. omega arith)
-    (λ g. cond-all (λ (m : ℕ). m ≤ 512) (eqb k 2) 32 _ (λ f. omega arith) (λ f. cond-all (λ (m : ℕ). m ≤ 512) (eqb k 3) 256 64 (λ e. omega arith) (λ e. omega arith))))
+most-of-pins : (x : Kind) → most x ≤ most OfPin
+most-of-pins OfComponent = omega arith
+most-of-pins OfPin = omega arith
+most-of-pins OfSelector = omega arith
+most-of-pins OfChoice = omega arith
+most-of-pins OfModel = omega arith
 
-pub turning : (xs ys us : List ℕ) (i n k r : ℕ) → ys ≡ sortedTo xs i → i < n → n ≤ 872 → storeLength ≤ length xs → Roomy xs n
+room-at-most : (k : ℕ) → kindRoom k ≤ most OfPin
+unfolding kindRoom
+room-at-most k = most-of-pins (kindOf k)
+
+pub turning : (xs ys us : List ℕ) (i n k r : ℕ) → ys ≡ sortedTo xs i → i < n → n ≤ namesHeld → storeLength ≤ length xs → Roomy xs n
     → length us ≡ 5 → ((l : ℕ) → l < 5 → getD us l 0 ≡ howMany xs l i) → k ≡ placeAt ys i → r ≡ kindFrom k → Turning xs ys us i k r
 turning xs ys us i n k r e lt small long roomy five counts kind from =
     let o : Outside xs ys = subst (λ (l : List ℕ). Outside xs l) (sym e) (sorted-outside xs i (roomy-before xs i n (omega (arith, lt)) roomy)) in
@@ -284,7 +289,7 @@ turning xs ys us i n k r e lt small long roomy five counts kind from =
 pub sorted-length : (xs ys : List ℕ) (i n : ℕ) → ys ≡ sortedTo xs i → i ≤ n → Roomy xs n → length ys ≡ length xs
 sorted-length xs ys i n e h r = ap length e ∙ sorted-outside xs i (roomy-before xs i n h r) .long
 
-pub sorted-end : (xs ys : List ℕ) (i n : ℕ) → ys ≡ sortedTo xs i → i ≤ n → n ≤ i → n ≤ 872 → storeLength ≤ length xs → Roomy xs n → (ys ≡ sortedTo xs n) × Sorted xs ys n
+pub sorted-end : (xs ys : List ℕ) (i n : ℕ) → ys ≡ sortedTo xs i → i ≤ n → n ≤ i → n ≤ namesHeld → storeLength ≤ length xs → Roomy xs n → (ys ≡ sortedTo xs n) × Sorted xs ys n
 sorted-end xs ys i n e h g small long roomy =
     let z : i ≡ n = omega (arith, h, g) in
     let q : ys ≡ sortedTo xs n = e ∙ ap (sortedTo xs) z in
@@ -292,24 +297,24 @@ sorted-end xs ys i n e h g small long roomy =
 
 -- ---- where the last kind lies
 
-pub from-last : (k : ℕ) → 4 ≤ k → 8665 ≡ kindFrom k
-unfolding kindFrom
+pub from-last : (k : ℕ) → 4 ≤ k → listFrom OfModel ≡ kindFrom k
+unfolding kindFrom kindOf
 from-last k h =
     rw (ne-eqb k 0 (λ e. omega (arith, h, e))) rw (ne-eqb k 1 (λ e. omega (arith, h, e))) rw (ne-eqb k 2 (λ e. omega (arith, h, e)))
     rw (ne-eqb k 3 (λ e. omega (arith, h, e))) refl
 
 -- ---- there is room: what the caller knows of its counts, and of a store that differs elsewhere
 
-many-outside : (xs ys : List ℕ) (k n : ℕ) → Outside xs ys → n ≤ 872 → howMany ys k n ≡ howMany xs k n
+many-outside : (xs ys : List ℕ) (k n : ℕ) → Outside xs ys → n ≤ namesHeld → howMany ys k n ≡ howMany xs k n
 unfolding howMany
 many-outside xs ys k zero o h = refl
 many-outside xs ys k (suc n) o h = rw (outside-place xs ys n o (omega (arith, h))) rw (many-outside xs ys k n o (omega (arith, h))) refl
 
-pub roomy-outside : (xs ys : List ℕ) (n : ℕ) → Outside xs ys → n ≤ 872 → Roomy xs n → Roomy ys n
+pub roomy-outside : (xs ys : List ℕ) (n : ℕ) → Outside xs ys → n ≤ namesHeld → Roomy xs n → Roomy ys n
 roomy-outside xs ys n o h r = λ x. rw (many-outside xs ys (place x) n o h) (r x)
 
 bound-room : (l : Lengths) (x : Kind) → bound l x ≤ kindRoom (place x)
-unfolding kindRoom
+unfolding kindRoom kindOf
 bound-room l OfComponent = omega arith
 bound-room l OfPin = omega arith
 bound-room l OfSelector = omega arith

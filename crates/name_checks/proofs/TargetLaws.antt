@@ -1,14 +1,13 @@
 -- What a pin or a selector row names: by its words and as the rules say it; and that it names one entry at most.
-use Prim.Native.Nat.{ℕ, zero, suc, _+_, _-_, _*_, _≤_, _<_}
+use Prim.Native.Nat.{ℕ, zero, suc, _+_, _-_, _≤_, _<_}
 use mathlib.Core.Path.{_≡_, refl, sym, ap, _∙_, subst}
 use mathlib.Core.List.{List}
 use mathlib.Core.Bool.{Bool, true, false, cond, _&&_, _||_}
 use mathlib.Core.Option.{Option, none, some}
 use native.Mathlib.Omega.{arith}
-use lib.ListN.{getD}
 use lib.Dec.{eqb}
 use borrow.Author.Tests.{ne-eqb}
-use Rattle.laws.specs.Lists.{part, eqs}
+use Rattle.laws.specs.Lists.{eqs}
 use Rattle.laws.proofs.Tests.{by-test, by-order, cond-yes, cond-no, and-left, and-first, and-second, and-both, never, or-none, or-left, or-right, impossible}
 use Rattle.laws.proofs.Same.{eqs-refl, eqs-eq}
 use Rattle.name_table.specs.declared.Found.{Found}
@@ -19,26 +18,26 @@ use Rattle.rules.specs.Whole.{found}
 use Rattle.records.specs.declared.Kind.{Kind}
 use Rattle.records.specs.declared.Kind.the-variants.{OfComponent, OfPin, OfSelector, OfChoice, OfModel}
 use Rattle.notes.specs.Noted.{orUsed, clash}
-use Rattle.note_words.specs.Store.{noteAt, noteFrom, notingAt, notesTo, kindOf}
-use Rattle.note_words.specs.declared.Noting.{Noting}
-use Rattle.name_checks.specs.Lookup.{placeAt, lineAt, nameAt, modelAt, entryAt, entriesTo, entriesFrom, Outside, modelOrSelector, enclosed, reaches, reachesAt, targetTo, excused, missingLine, withMark, marked}
-use Rattle.name_checks.proofs.NoteLaws.{note-kind, note-name, note-line}
+use Rattle.note_words.specs.Store.{namesHeld, kindAt, lineAt, nameAt, noteOf, noteAt, notesTo}
+use Rattle.note_words.proofs.Laws.{note-name, note-line}
+use Rattle.name_checks.specs.Lookup.{placeAt, modelAt, entryAt, entriesTo, entriesFrom, Outside, modelOrSelector, enclosed, reaches, reachesAt, targetTo, excused, missingLine, withMark}
+use Rattle.name_checks.proofs.NoteLaws.{note-kind}
 use Rattle.name_checks.proofs.ClashLaws.{either-is, usedAt}
 use Rattle.name_checks.proofs.OutsideLaws.{outside-place, line-outside, name-outside, model-outside}
 
 -- ---- a pin or a selector row names another entry
 
-row-names : (s : List ℕ) (x : Noting) (k : Kind) → enclosed (place k) ≡ true → noteFrom s x k .names ≡ part (x .names) (x .«names_end») s
+row-names : (s xs : List ℕ) (i : ℕ) (k : Kind) → enclosed (place k) ≡ true → noteOf s xs i k .names ≡ modelAt s xs i
 unfolding enclosed
-row-names s x OfComponent h = impossible (cc)
-row-names s x OfPin h = refl
-row-names s x OfSelector h = impossible (cc)
-row-names s x OfChoice h = refl
-row-names s x OfModel h = impossible (cc)
+row-names s xs i OfComponent h = impossible (cc)
+row-names s xs i OfPin h = refl
+row-names s xs i OfSelector h = impossible (cc)
+row-names s xs i OfChoice h = refl
+row-names s xs i OfModel h = impossible (cc)
 
 pub note-names : (s xs : List ℕ) (i : ℕ) → enclosed (placeAt xs i) ≡ true → noteAt s xs i .names ≡ modelAt s xs i
 unfolding noteAt placeAt
-note-names s xs i h = row-names s (notingAt xs i) (kindOf (getD xs (9 * i) 0)) h
+note-names s xs i h = row-names s xs i (kindAt xs i) h
 
 pub reaches-never : (k l : ℕ) → enclosed k ≡ false → reaches k l ≡ false
 unfolding reaches enclosed
@@ -262,18 +261,18 @@ target-marks s xs i later n v t x e f g =
 -- ---- in a store that differs only by marks
 
 module _ (s xs ys : List ℕ) (o : Outside xs ys) where
-  reach-outside : (i j : ℕ) → i ≤ 872 → j ≤ 872 → reachesAt s ys i j ≡ reachesAt s xs i j
+  reach-outside : (i j : ℕ) → i ≤ namesHeld → j ≤ namesHeld → reachesAt s ys i j ≡ reachesAt s xs i j
   unfolding reachesAt
   reach-outside i j h g =
       rw (outside-place xs ys i o h) rw (outside-place xs ys j o g) rw (model-outside s xs ys o i h) rw (name-outside s xs ys o j g) refl
 
-  pub target-outside : (i n : ℕ) → i ≤ 872 → n ≤ 872 → targetTo s ys i n ≡ targetTo s xs i n
+  pub target-outside : (i n : ℕ) → i ≤ namesHeld → n ≤ namesHeld → targetTo s ys i n ≡ targetTo s xs i n
   unfolding targetTo
   target-outside i zero h g = refl
   target-outside i (suc n) h g =
       rw (reach-outside i n h (omega (arith, g))) rw (target-outside i n h (omega (arith, g))) refl
 
-  pub missing-outside : (i later : ℕ) (t : Found) → i ≤ 872 → missingLine s ys i later t ≡ missingLine s xs i later t
+  pub missing-outside : (i later : ℕ) (t : Found) → i ≤ namesHeld → missingLine s ys i later t ≡ missingLine s xs i later t
   missing-outside i later (At j) h = refl
   missing-outside i later Nothing h =
       rw (outside-place xs ys i o h) rw (model-outside s xs ys o i h) rw (line-outside s xs ys o i h) refl

@@ -13,10 +13,11 @@ use Rattle.name_table.specs.declared.Found.the-variants as answer
 use Rattle.line_rules.specs.Fields.{needsNoModel}
 use Rattle.rules.specs.Outline.{Entry, place, is, lists, firstFailing}
 use Rattle.rules.specs.Whole.{Outcome, refused, found, lastChecks}
+use Rattle.records.specs.Bounds.{most}
 use Rattle.records.specs.declared.Kind.{Kind}
 use Rattle.records.specs.declared.Kind.the-variants.{OfComponent, OfPin, OfSelector, OfChoice, OfModel}
 use Rattle.notes.specs.Noted.{Note, entryOf}
-use Rattle.note_words.specs.Store.{noteAt, notesTo, kindOf, byKindFrom, wavesFrom, storeLength}
+use Rattle.note_words.specs.Store.{byKindFrom, listFrom, wavesFrom, storeLength, kindOf, kindAt, lineAt, nameAt, rowAt, noteAt, notesTo}
 use Rattle.layout_by_notes.specs.Lies.{pick, isOf}
 use Rattle.name_checks.specs.declared.Clash.{Clash}
 use Rattle.name_checks.specs.declared.Clash.the-variants.{At, NoClash}
@@ -29,17 +30,11 @@ use Rattle.name_checks.specs.declared.Last.the-variants.{Fine, Missing, 
 
 -- the number of its kind
 unfoldable pub placeAt : List ℕ → ℕ → ℕ
-placeAt xs i = place (kindOf (getD xs (9 * i) 0))
-
-abbrev pub lineAt : List ℕ → ℕ → ℕ
-lineAt xs i = getD xs (9 * i + 1) 0
-
-abbrev pub nameAt : List ℕ → List ℕ → ℕ → List ℕ
-nameAt s xs i = part (getD xs (9 * i + 2) 0) (getD xs (9 * i + 3) 0) s
+placeAt xs i = place (kindAt xs i)
 
 -- of a pin or a selector row, the model it names
 abbrev pub modelAt : List ℕ → List ℕ → ℕ → List ℕ
-modelAt s xs i = part (getD xs (9 * i + 4) 0) (getD xs (9 * i + 5) 0) s
+modelAt s xs i = part (rowAt xs i .model) (rowAt xs i .«model_end») s
 
 abbrev pub entryAt : List ℕ → List ℕ → ℕ → Entry
 entryAt s xs i = entryOf (noteAt s xs i)
@@ -68,7 +63,7 @@ pub record Outside (xs ys : List ℕ) : Type 0 where
 -- ---- names used twice, by the numbers of their kinds
 
 unfoldable pub modelOrSelector : ℕ → Bool
-modelOrSelector k = eqb k 4 || eqb k 2
+modelOrSelector k = eqb k (place OfModel) || eqb k (place OfSelector)
 
 -- names of these kinds must differ
 unfoldable pub rivals : ℕ → ℕ → Bool
@@ -76,7 +71,7 @@ rivals k l = cond (modelOrSelector k) (modelOrSelector l) (eqb k l)
 
 -- pins and selector rows are compared within their section: up to the next name of another kind
 unfoldable pub enclosed : ℕ → Bool
-enclosed k = eqb k 1 || eqb k 3
+enclosed k = eqb k (place OfPin) || eqb k (place OfChoice)
 
 -- a name of kind k and an earlier one of kind l
 unfoldable pub meeting : ℕ → ℕ → Bool → Meeting
@@ -105,7 +100,7 @@ clashIs NoClash = none
 
 -- a pin names a model or a selector, a selector row a model
 unfoldable pub reaches : ℕ → ℕ → Bool
-reaches k l = cond (eqb l 4) (enclosed k) (cond (eqb l 2) (eqb k 1) false)
+reaches k l = cond (eqb l (place OfModel)) (enclosed k) (cond (eqb l (place OfSelector)) (eqb k (place OfPin)) false)
 
 unfoldable pub reachesAt : List ℕ → List ℕ → ℕ → ℕ → Bool
 reachesAt s xs i j = reaches (placeAt xs i) (placeAt xs j) && eqs (modelAt s xs i) (nameAt s xs j)
@@ -117,7 +112,7 @@ targetTo s xs i (suc n) = cond (reachesAt s xs i n) (answer.At n) (targetTo s xs
 
 -- nothing need be found: of a section, and of a pin that needs no model
 unfoldable pub excused : ℕ → List ℕ → Bool
-excused k w = cond (eqb k 1) (needsNoModel w) (not (eqb k 3))
+excused k w = cond (eqb k (place OfPin)) (needsNoModel w) (not (eqb k (place OfChoice)))
 
 -- the line of the name at place i where it names nothing, else that of the later ones
 abbrev pub missingLine : List ℕ → List ℕ → ℕ → ℕ → Found → ℕ
@@ -184,12 +179,12 @@ unfoldable pub howMany : List ℕ → ℕ → ℕ → ℕ
 howMany xs k zero = 0
 howMany xs k (suc n) = cond (eqb k (placeAt xs n)) (howMany xs k n + 1) (howMany xs k n)
 
--- where the names of a kind lie, and how many there is room for: 8 components, 512 pins, 32 selectors, 256 rows, 64 models
+-- where the names of the kind with this number lie, and how many there is room for
 unfoldable pub kindFrom : ℕ → ℕ
-kindFrom k = cond (eqb k 0) 7857 (cond (eqb k 1) 7865 (cond (eqb k 2) 8377 (cond (eqb k 3) 8409 8665)))
+kindFrom k = listFrom (kindOf k)
 
 unfoldable pub kindRoom : ℕ → ℕ
-kindRoom k = cond (eqb k 0) 8 (cond (eqb k 1) 512 (cond (eqb k 2) 32 (cond (eqb k 3) 256 64)))
+kindRoom k = most (kindOf k)
 
 -- the store, with the places of the first n names written by kind
 unfoldable pub sortedTo : List ℕ → ℕ → List ℕ

@@ -4,17 +4,29 @@ ghost use Prim.Native.Nat.{_≤_};
 ghost use lib.Dec.{eqb};
 ghost use Rattle.laws.specs.Lists.{eqs};
 ghost use Rattle.notes.specs.Noted.{clash};
-ghost use Rattle.name_checks.specs.Lookup.{modelOrSelector, rivals, enclosed, meetingAt, nameAt, keyAt, entriesTo, clashIs};
+ghost use Rattle.note_words.specs.Store.{namesHeld, mostNames, nameAt};
+ghost use Rattle.name_checks.specs.Lookup.{modelOrSelector, rivals, enclosed, meetingAt, keyAt, entriesTo, clashIs};
 use crate::Clash;
 use crate::Meeting;
+use crate::places::keys_of;
+use crate::places::kind_at;
+use crate::places::line_at;
+use crate::places::part_at;
+use crate::places::same_parts;
+use note_words::NAME;
+use note_words::OF_CHOICE;
+use note_words::OF_MODEL;
+use note_words::OF_PIN;
+use note_words::OF_SELECTOR;
+use note_words::WORDS_PER_NAME;
 
 pub fn model_or_selector(k: usize) -> bool
     ensures { λ r. ⌜ r ≡ modelOrSelector k ⌝ }
 {
-    if k == 4 {
+    if k == OF_MODEL {
         return true;
     }
-    k == 2
+    k == OF_SELECTOR
 }
 
 // Names of these kinds must differ.
@@ -31,32 +43,32 @@ fn are_rivals(k: usize, l: usize) -> bool
 pub fn is_enclosed(k: usize) -> bool
     ensures { λ r. ⌜ r ≡ enclosed k ⌝ }
 {
-    if k == 1 {
+    if k == OF_PIN {
         return true;
     }
-    k == 3
+    k == OF_CHOICE
 }
 
 // The names at places i and j are the same: their bytes are compared only where their keys are alike.
 fn same_names(src: &[u8], notes: &[u32], i: usize, j: usize, alike: bool) -> bool
-    requires { ⌜ (i ≤ 872) × (j ≤ 872) × (alike ≡ eqb (keyAt (now src) (now notes) i) (keyAt (now src) (now notes) j)) ⌝ }
+    requires { ⌜ (i ≤ namesHeld) × (j ≤ namesHeld) × (alike ≡ eqb (keyAt (now src) (now notes) i) (keyAt (now src) (now notes) j)) ⌝ }
     ensures { λ r. ⌜ r ≡ eqs (nameAt (now (src .entry)) (now (notes .entry)) i) (nameAt (now (src .entry)) (now (notes .entry)) j) ⌝ }
 {
     if !alike {
         return false;
     }
-    let name = crate::places::part_at(notes, 9 * i + 2);
-    let earlier = crate::places::part_at(notes, 9 * j + 2);
-    crate::places::same_parts(src, name, earlier)
+    let name = part_at(notes, WORDS_PER_NAME * i + NAME);
+    let earlier = part_at(notes, WORDS_PER_NAME * j + NAME);
+    same_parts(src, name, earlier)
 }
 
 // The names at places i and j, of which j is the earlier.
 fn meet(src: &[u8], notes: &[u32], i: usize, j: usize, alike: bool) -> Meeting
-    requires { ⌜ (i ≤ 872) × (j ≤ 872) × (alike ≡ eqb (keyAt (now src) (now notes) i) (keyAt (now src) (now notes) j)) ⌝ }
+    requires { ⌜ (i ≤ namesHeld) × (j ≤ namesHeld) × (alike ≡ eqb (keyAt (now src) (now notes) i) (keyAt (now src) (now notes) j)) ⌝ }
     ensures { λ r. ⌜ r ≡ meetingAt (now (src .entry)) (now (notes .entry)) i j ⌝ }
 {
-    let k = crate::places::kind_at(notes, i);
-    if are_rivals(k, crate::places::kind_at(notes, j)) {
+    let k = kind_at(notes, i);
+    if are_rivals(k, kind_at(notes, j)) {
         if same_names(src, notes, i, j, alike) {
             return Meeting::Equal;
         }
@@ -70,10 +82,10 @@ fn meet(src: &[u8], notes: &[u32], i: usize, j: usize, alike: bool) -> Meeting
 
 // The first name that an earlier one equals, by its line.
 pub fn first_clash(src: &[u8], notes: &[u32], n: usize) -> Clash
-    requires { ⌜ n ≤ 873 ⌝ }
+    requires { ⌜ n ≤ mostNames ⌝ }
     ensures { λ r. ⌜ clashIs r ≡ clash (entriesTo (now (src .entry)) (now (notes .entry)) n) ⌝ }
 {
-    let keys = crate::places::keys_of(src, notes, n);
+    let keys = keys_of(src, notes, n);
     let mut i = 0;
     'scan: while i < n {
         let mut j = i;
@@ -89,7 +101,7 @@ pub fn first_clash(src: &[u8], notes: &[u32], n: usize) -> Clash
         i += 1;
     }
     if i < n {
-        return Clash::At(crate::places::line_at(notes, i));
+        return Clash::At(line_at(notes, i));
     }
     Clash::NoClash
 }

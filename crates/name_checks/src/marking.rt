@@ -5,41 +5,56 @@ ghost use Prim.Native.Nat.{_≤_, _<_};
 ghost use lib.ListN.{length};
 ghost use Rattle.name_table.specs.declared.Found.the-variants.{Nothing};
 ghost use Rattle.notes.specs.Noted.{clash};
-ghost use Rattle.note_words.specs.Store.{storeLength};
+ghost use Rattle.note_words.specs.Store.{namesHeld, storeLength};
 ghost use Rattle.name_checks.specs.Lookup.{reaches, reachesAt, targetTo, missingLine, clearedTo, Clear, withMark, entriesTo, Outside, Marked, unmarkedLine, unmarkedFrom, Concludes};
 use crate::Last;
+use crate::clashes::is_enclosed;
+use crate::clashes::model_or_selector;
+use crate::places::kind_at;
+use crate::places::line_at;
+use crate::places::part_at;
+use crate::places::same_parts;
+use crate::places::within;
 use name_table::Found;
+use note_words::BY_KIND_FROM;
+use note_words::NAME;
+use note_words::OF_CHOICE;
+use note_words::OF_MODEL;
+use note_words::OF_PIN;
+use note_words::OF_SELECTOR;
+use note_words::ROW_MODEL;
+use note_words::WORDS_PER_NAME;
 
 // A pin names a model or a selector, a selector row a model.
 fn may_name(k: usize, l: usize) -> bool
     ensures { λ r. ⌜ r ≡ reaches k l ⌝ }
 {
-    if l == 4 {
-        return crate::clashes::is_enclosed(k);
+    if l == OF_MODEL {
+        return is_enclosed(k);
     }
-    if l == 2 {
-        return k == 1;
+    if l == OF_SELECTOR {
+        return k == OF_PIN;
     }
     false
 }
 
 // The name at place i names the one at place j.
 fn names_it(src: &[u8], notes: &[u32], i: usize, j: usize) -> bool
-    requires { ⌜ (i ≤ 872) × (j ≤ 872) ⌝ }
+    requires { ⌜ (i ≤ namesHeld) × (j ≤ namesHeld) ⌝ }
     ensures { λ r. ⌜ r ≡ reachesAt (now (src .entry)) (now (notes .entry)) i j ⌝ }
 {
-    let k = crate::places::kind_at(notes, i);
-    if may_name(k, crate::places::kind_at(notes, j)) {
-        let model = crate::places::part_at(notes, 9 * i + 4);
-        let name = crate::places::part_at(notes, 9 * j + 2);
-        return crate::places::same_parts(src, model, name);
+    let k = kind_at(notes, i);
+    if may_name(k, kind_at(notes, j)) {
+        let model = part_at(notes, WORDS_PER_NAME * i + ROW_MODEL);
+        let name = part_at(notes, WORDS_PER_NAME * j + NAME);
+        return same_parts(src, model, name);
     }
     false
 }
 
 // The last of n names that the one at place i names. Most files have their models behind the pins.
 fn find_target(src: &[u8], notes: &[u32], n: usize, i: usize) -> Found
-    requires { ⌜ (n ≤ 872) × (i ≤ 872) ⌝ }
+    requires { ⌜ (n ≤ namesHeld) × (i ≤ namesHeld) ⌝ }
     ensures { λ r. ⌜ r ≡ targetTo (now (src .entry)) (now (notes .entry)) i n ⌝ }
 {
     let mut j = n;
@@ -54,56 +69,56 @@ fn find_target(src: &[u8], notes: &[u32], n: usize, i: usize) -> Found
 
 // What the name at place i gives that names nothing: its line, or the later one's where it need not.
 fn missing_line(src: &[u8], notes: &[u32], i: usize, later: u64) -> u64
-    requires { ⌜ i ≤ 872 ⌝ }
+    requires { ⌜ i ≤ namesHeld ⌝ }
     ensures { λ r. ⌜ r ≡ missingLine (now (src .entry)) (now (notes .entry)) i later Nothing ⌝ }
 {
-    let k = crate::places::kind_at(notes, i);
-    if k == 1 {
-        let w = crate::places::within(src, crate::places::part_at(notes, 9 * i + 4));
+    let k = kind_at(notes, i);
+    if k == OF_PIN {
+        let w = within(src, part_at(notes, WORDS_PER_NAME * i + ROW_MODEL));
         let a = w.start;
         let e = w.end;
         if named_lines::needs_no_model(&src[a..e]) {
             return later;
         }
-        return crate::places::line_at(notes, i);
+        return line_at(notes, i);
     }
-    if k == 3 {
-        return crate::places::line_at(notes, i);
+    if k == OF_CHOICE {
+        return line_at(notes, i);
     }
     later
 }
 
 // Marks what the name at place i names. The line of the first from there on that names nothing, given that of the later ones.
 fn mark_target(src: &[u8], notes: &mut [u32], n: usize, i: usize, later: u64) -> u64
-    requires { ⌜ (n ≤ 872) × (i < n) × (storeLength ≤ length (now notes)) ⌝ }
+    requires { ⌜ (n ≤ namesHeld) × (i < n) × (storeLength ≤ length (now notes)) ⌝ }
     ensures { λ r. ⌜ r ≡ missingLine (now (src .entry)) (now (notes .entry)) i later (targetTo (now (src .entry)) (now (notes .entry)) i n) ⌝ }
     ensures { λ r. ⌜ now (notes .exit) ≡ withMark (now (notes .entry)) (targetTo (now (src .entry)) (now (notes .entry)) i n) ⌝ }
 {
-    if !crate::clashes::is_enclosed(crate::places::kind_at(notes, i)) {
+    if !is_enclosed(kind_at(notes, i)) {
         return later;
     }
     let target = find_target(src, notes, n, i);
     let Found::At(j) = target else {
         return missing_line(src, notes, i, later);
     };
-    notes[7857 + j] = 1;
+    notes[BY_KIND_FROM + j] = 1;
     later
 }
 
 fn clear_marks(notes: &mut [u32], n: usize)
-    requires { ⌜ (n ≤ 872) × (storeLength ≤ length (now notes)) ⌝ }
+    requires { ⌜ (n ≤ namesHeld) × (storeLength ≤ length (now notes)) ⌝ }
     ensures { λ _. ⌜ now (notes .exit) ≡ clearedTo (now (notes .entry)) n ⌝ }
 {
     let mut i = 0;
     while i < n {
-        notes[7857 + i] = 0;
+        notes[BY_KIND_FROM + i] = 0;
         i += 1;
     }
 }
 
 // From the last name up to the first: each marks what it names. The line of the first that names nothing, or 0.
 fn mark_targets(src: &[u8], notes: &mut [u32], n: usize) -> u64
-    requires { ⌜ (n ≤ 872) × (storeLength ≤ length (now notes)) ⌝ }
+    requires { ⌜ (n ≤ namesHeld) × (storeLength ≤ length (now notes)) ⌝ }
     requires { ⌜ clash (entriesTo (now src) (now notes) n) ≡ none ⌝ }
     requires { ⌜ Clear (now notes) n ⌝ }
     ensures { λ r. ⌜ Marked (now (src .entry)) (now (notes .entry)) (now (notes .exit)) n r ⌝ }
@@ -119,21 +134,21 @@ fn mark_targets(src: &[u8], notes: &mut [u32], n: usize) -> u64
 
 // The line of the name at place j where it is a model's or a selector's and not marked, else that of the later ones.
 fn unmarked_line(notes: &[u32], j: usize, later: u64) -> u64
-    requires { ⌜ j ≤ 872 ⌝ }
+    requires { ⌜ j ≤ namesHeld ⌝ }
     ensures { λ r. ⌜ r ≡ unmarkedLine (now (notes .entry)) j later ⌝ }
 {
-    if crate::clashes::model_or_selector(crate::places::kind_at(notes, j)) {
-        if note_words::word(notes, 7857 + j) == 1 {
+    if model_or_selector(kind_at(notes, j)) {
+        if note_words::word(notes, BY_KIND_FROM + j) == 1 {
             return later;
         }
-        return crate::places::line_at(notes, j);
+        return line_at(notes, j);
     }
     later
 }
 
 // The line of the first model or selector that is not marked, or 0.
 fn first_unmarked(notes: &[u32], n: usize) -> u64
-    requires { ⌜ n ≤ 872 ⌝ }
+    requires { ⌜ n ≤ namesHeld ⌝ }
     ensures { λ r. ⌜ r ≡ unmarkedFrom (now (notes .entry)) 0 n ⌝ }
 {
     let mut first: u64 = 0;
@@ -147,7 +162,7 @@ fn first_unmarked(notes: &[u32], n: usize) -> u64
 
 // The first name that is not found; where all are, the first section that nobody lists. The marks lie where later the names lie by kind.
 pub fn last_fault(src: &[u8], notes: &mut [u32], n: usize) -> Last
-    requires { ⌜ (n ≤ 872) × (storeLength ≤ length (now notes)) ⌝ }
+    requires { ⌜ (n ≤ namesHeld) × (storeLength ≤ length (now notes)) ⌝ }
     requires { ⌜ clash (entriesTo (now src) (now notes) n) ≡ none ⌝ }
     ensures { λ r. ⌜ Concludes (entriesTo (now (src .entry)) (now (notes .entry)) n) r ⌝ }
     ensures { λ r. ⌜ Outside (now (notes .entry)) (now (notes .exit)) ⌝ }

@@ -1,32 +1,38 @@
 // A note's words: its kind by number, its line, and where its names lie.
 ghost use mathlib.Core.Path.{_≡_};
-ghost use Prim.Native.Nat.{_+_, _*_, _≤_, _<_};
+ghost use Prim.Native.Nat.{_+_, _≤_, _<_};
 ghost use lib.ListN.{getD};
 ghost use Rattle.laws.specs.Lists.{part, eqs};
+ghost use Rattle.note_words.specs.Store.{namesHeld, mostNames, byKindFrom, lineAt};
 ghost use Rattle.name_checks.specs.Lookup.{placeAt, Within, keyFrom, keyAt, Keyed};
+use note_words::LINE;
+use note_words::MOST_NAMES;
+use note_words::NAME;
+use note_words::OF_MODEL;
+use note_words::WORDS_PER_NAME;
 use words::Word;
 
 pub fn kind_at(notes: &[u32], i: usize) -> usize
-    requires { ⌜ i ≤ 872 ⌝ }
+    requires { ⌜ i ≤ namesHeld ⌝ }
     ensures { λ r. ⌜ r ≡ placeAt (now (notes .entry)) i ⌝ }
 {
-    let w = note_words::word(notes, 9 * i);
-    if w < 4 {
+    let w = note_words::word(notes, WORDS_PER_NAME * i);
+    if w < OF_MODEL {
         return w;
     }
-    4
+    OF_MODEL
 }
 
 pub fn line_at(notes: &[u32], i: usize) -> u64
-    requires { ⌜ i ≤ 872 ⌝ }
-    ensures { λ r. ⌜ r ≡ getD (now (notes .entry)) (9 * i + 1) 0 ⌝ }
+    requires { ⌜ i ≤ namesHeld ⌝ }
+    ensures { λ r. ⌜ r ≡ lineAt (now (notes .entry)) i ⌝ }
 {
-    note_words::word(notes, 9 * i + 1) as u64
+    note_words::word(notes, WORDS_PER_NAME * i + LINE) as u64
 }
 
 // The part of the file that a note's words at + 0 and at + 1 say, as they stand.
 pub fn part_at(notes: &[u32], at: usize) -> Word
-    requires { ⌜ at ≤ 7857 ⌝ }
+    requires { ⌜ at ≤ byKindFrom ⌝ }
     ensures { λ r. ⌜ r .start ≡ getD (now (notes .entry)) at 0 ⌝ }
     ensures { λ r. ⌜ r .end ≡ getD (now (notes .entry)) (at + 1) 0 ⌝ }
 {
@@ -72,21 +78,21 @@ fn name_key(name: &[u8]) -> u32
 
 // The key of the name at place i.
 fn key_at(src: &[u8], notes: &[u32], i: usize) -> u32
-    requires { ⌜ i ≤ 872 ⌝ }
+    requires { ⌜ i ≤ namesHeld ⌝ }
     ensures { λ r. ⌜ r ≡ keyAt (now (src .entry)) (now (notes .entry)) i ⌝ }
 {
-    let w = within(src, part_at(notes, 9 * i + 2));
+    let w = within(src, part_at(notes, WORDS_PER_NAME * i + NAME));
     let a = w.start;
     let e = w.end;
     name_key(&src[a..e])
 }
 
 // The keys of the first n names.
-pub fn keys_of(src: &[u8], notes: &[u32], n: usize) -> [u32; 873]
-    requires { ⌜ n ≤ 873 ⌝ }
+pub fn keys_of(src: &[u8], notes: &[u32], n: usize) -> [u32; MOST_NAMES]
+    requires { ⌜ n ≤ mostNames ⌝ }
     ensures { λ r. ⌜ Keyed (now (src .entry)) (now (notes .entry)) n r ⌝ }
 {
-    let mut keys = [0u32; 873];
+    let mut keys = [0u32; MOST_NAMES];
     let mut i = 0;
     while i < n {
         keys[i] = key_at(src, notes, i);

@@ -1,15 +1,19 @@
 -- Laws of `specs/Store.antt`: what is read where words were written, and where none were.
 use Prim.Native.Nat.{ℕ, zero, suc, _+_, _*_, _≤_, _<_}
-use mathlib.Core.Path.{_≡_, refl, sym, ap, _∙_}
+use mathlib.Core.Path.{_≡_, refl, ap, _∙_}
 use mathlib.Core.List.{List, [], _∷_}
+use mathlib.Core.Bool.{true, false, cond}
 use native.Mathlib.Omega.{arith}
 use native.Mathlib.Numerals.{add-one}
 use lib.ListN.{length, drop, getD, set, length-set, drop-of-length-le}
 use Rattle.cut_lines.specs.Texts.{rest}
-use Rattle.notes.specs.Noted.{Log}
 use Rattle.records.specs.declared.Counts.{Counts}
-use Rattle.note_words.specs.Store.{noteAt, waveAt, notesTo, wavesTo, logIn, wavesFrom, storeLength, nameWords, waveWords, noteFrom, kindOf, notingAt}
-use Rattle.note_words.specs.declared.Noting.{Noting}
+use Rattle.laws.proofs.Tests.{by-test, cond-yes, cond-no}
+use Rattle.records.specs.declared.Kind.{Kind}
+use Rattle.notes.specs.Noted.{Note}
+use Rattle.note_words.specs.Store.{namesHeld, mostNames, wordsPerName, wordsPerWave, wavesFrom, wordsOfSection, sectionFrom, sectionAt, wordsOfRow, rowFrom, rowAt, kindOf, kindAt, nameWord, lineAt, nameAt, isSection, noteOf, noteAt, waveWords, waveAt, notesTo, wavesTo, logIn}
+use Rattle.note_words.specs.declared.SectionNote.{SectionNote}
+use Rattle.note_words.specs.declared.RowNote.{RowNote}
 use lib.Seq.{sets, getD-set-same, getD-set-other, drop-cons}
 
 -- ---- a turn of the loop that writes
@@ -48,75 +52,132 @@ get-among xs (w ∷ ws) at (suc j) h g =
 abbrev pub Agree : ℕ → ℕ → List ℕ → List ℕ → Type 0
 Agree a b xs ys = (k : ℕ) → a ≤ k → k < b → getD xs k 0 ≡ getD ys k 0
 
-noting-agree : (xs ys : List ℕ) (i : ℕ) → Agree (9 * i) (9 * i + 9) xs ys → notingAt xs i ≡ notingAt ys i
-noting-agree xs ys i h =
-    rw (h (9 * i) (omega arith) (omega arith)) rw (h (9 * i + 1) (omega arith) (omega arith)) rw (h (9 * i + 2) (omega arith) (omega arith))
-    rw (h (9 * i + 3) (omega arith) (omega arith)) rw (h (9 * i + 4) (omega arith) (omega arith)) rw (h (9 * i + 5) (omega arith) (omega arith))
-    rw (h (9 * i + 6) (omega arith) (omega arith)) rw (h (9 * i + 7) (omega arith) (omega arith)) rw (h (9 * i + 8) (omega arith) (omega arith))
-    refl
+module _ (s xs ys : List ℕ) (i : ℕ) (h : Agree (wordsPerName * i) (wordsPerName * i + wordsPerName) xs ys) where
+  first-agree : getD xs (wordsPerName * i) 0 ≡ getD ys (wordsPerName * i) 0
+  first-agree = h (wordsPerName * i) (omega arith) (omega arith)
 
-pub note-agree : (s xs ys : List ℕ) (i : ℕ) → Agree (9 * i) (9 * i + 9) xs ys → noteAt s xs i ≡ noteAt s ys i
-unfolding noteAt
-note-agree s xs ys i h = ap (λ (x : Noting). noteFrom s x (kindOf (x .kind))) (noting-agree xs ys i h)
+  word-agree : (j : ℕ) → j < wordsPerName → nameWord xs i j ≡ nameWord ys i j
+  word-agree j b = h (wordsPerName * i + j) (omega arith) (omega arith)
 
-pub notes-agree : (s xs ys : List ℕ) (n : ℕ) → Agree 0 (9 * n) xs ys → notesTo s xs n ≡ notesTo s ys n
+  section-agree : sectionAt xs i ≡ sectionAt ys i
+  section-agree =
+      rw first-agree rw (word-agree 1 (omega arith)) rw (word-agree 2 (omega arith)) rw (word-agree 3 (omega arith)) rw (word-agree 4 (omega arith))
+      rw (word-agree 5 (omega arith)) rw (word-agree 6 (omega arith)) rw (word-agree 7 (omega arith)) rw (word-agree 8 (omega arith)) refl
+
+  row-agree : rowAt xs i ≡ rowAt ys i
+  row-agree =
+      rw first-agree rw (word-agree 1 (omega arith)) rw (word-agree 2 (omega arith)) rw (word-agree 3 (omega arith)) rw (word-agree 4 (omega arith))
+      rw (word-agree 5 (omega arith)) rw (word-agree 6 (omega arith)) rw (word-agree 7 (omega arith)) refl
+
+  pub note-agree : noteAt s xs i ≡ noteAt s ys i
+  unfolding noteAt
+  note-agree =
+      let k = kindAt ys i in
+      ap (λ (w : ℕ). noteOf s xs i (kindOf w)) first-agree
+      ∙ ap (λ (x : SectionNote). cond (isSection k) (sectionFrom s k x) (rowFrom s k (rowAt xs i))) section-agree
+      ∙ ap (λ (y : RowNote). cond (isSection k) (sectionFrom s k (sectionAt ys i)) (rowFrom s k y)) row-agree
+
+pub notes-agree : (s xs ys : List ℕ) (n : ℕ) → Agree 0 (wordsPerName * n) xs ys → notesTo s xs n ≡ notesTo s ys n
 unfolding notesTo
 notes-agree s xs ys zero h = refl
 notes-agree s xs ys (suc n) h =
     rw (note-agree s xs ys n (λ k a b. h k (omega arith) (omega (arith, b)))) rw (notes-agree s xs ys n (λ k a b. h k a (omega (arith, b)))) refl
 
-pub wave-agree : (s xs ys : List ℕ) (j : ℕ) → Agree (wavesFrom + 4 * j) (wavesFrom + 4 * j + 4) xs ys → waveAt s xs j ≡ waveAt s ys j
+pub wave-agree : (s xs ys : List ℕ) (j : ℕ) → Agree (wavesFrom + wordsPerWave * j) (wavesFrom + wordsPerWave * j + wordsPerWave) xs ys → waveAt s xs j ≡ waveAt s ys j
 unfolding waveAt
 wave-agree s xs ys j h =
-    rw (h (wavesFrom + 4 * j) (omega arith) (omega arith)) rw (h (wavesFrom + 4 * j + 1) (omega arith) (omega arith))
-    rw (h (wavesFrom + 4 * j + 2) (omega arith) (omega arith)) rw (h (wavesFrom + 4 * j + 3) (omega arith) (omega arith)) refl
+    let w = wavesFrom + wordsPerWave * j in
+    rw (h w (omega arith) (omega arith)) rw (h (w + 1) (omega arith) (omega arith)) rw (h (w + 2) (omega arith) (omega arith)) rw (h (w + 3) (omega arith) (omega arith)) refl
 
-pub waves-agree : (s xs ys : List ℕ) (n : ℕ) → Agree wavesFrom (wavesFrom + 4 * n) xs ys → wavesTo s xs n ≡ wavesTo s ys n
+pub waves-agree : (s xs ys : List ℕ) (n : ℕ) → Agree wavesFrom (wavesFrom + wordsPerWave * n) xs ys → wavesTo s xs n ≡ wavesTo s ys n
 unfolding wavesTo
 waves-agree s xs ys zero h = refl
 waves-agree s xs ys (suc n) h =
     rw (wave-agree s xs ys n (λ k a b. h k (omega (arith, a)) (omega (arith, b)))) rw (waves-agree s xs ys n (λ k a b. h k a (omega (arith, b)))) refl
 
+-- ---- what every note has, whatever its kind
+
+module _ (s xs : List ℕ) (i : ℕ) where
+  pub of-kind : (k : Kind) → noteOf s xs i k .kind ≡ k
+  of-kind k = by-test (isSection k) (λ t. rw t refl) (λ t. rw t refl)
+
+  pub note-kind : noteAt s xs i .kind ≡ kindAt xs i
+  unfolding noteAt
+  note-kind = of-kind (kindAt xs i)
+
+  pub note-line : noteAt s xs i .line ≡ lineAt xs i
+  unfolding noteAt
+  note-line = by-test (isSection (kindAt xs i)) (λ t. rw t refl) (λ t. rw t refl)
+
+  pub note-name : noteAt s xs i .name ≡ nameAt s xs i
+  unfolding noteAt
+  note-name = by-test (isSection (kindAt xs i)) (λ t. rw t refl) (λ t. rw t refl)
+
 -- ---- what a note that was put says
 
-noting-put : (xs : List ℕ) (i : ℕ) (x : Noting) → 9 * i + 9 ≤ length xs → notingAt (sets xs (9 * i) (nameWords x)) i ≡ x
-noting-put xs i x h =
-    let e : 9 * i ≡ 9 * i + 0 = omega arith in
-    let g : (j : ℕ) → j < 9 → getD (sets xs (9 * i) (nameWords x)) (9 * i + j) 0 ≡ getD (nameWords x) j 0 = λ j b. get-among xs (nameWords x) (9 * i) j b h in
-    let z : getD (sets xs (9 * i) (nameWords x)) (9 * i) 0 ≡ x .kind = ap (λ (k : ℕ). getD (sets xs (9 * i) (nameWords x)) k 0) e ∙ g 0 (omega arith) in
-    rw z rw (g 1 (omega arith)) rw (g 2 (omega arith)) rw (g 3 (omega arith)) rw (g 4 (omega arith)) rw (g 5 (omega arith)) rw (g 6 (omega arith))
-    rw (g 7 (omega arith)) rw (g 8 (omega arith)) refl
+module _ (s xs : List ℕ) (i : ℕ) (h : wordsPerName * i + wordsPerName ≤ length xs) where
+  module _ (ws : List ℕ) (nine : length ws ≡ wordsPerName) where
+    word-put : (j : ℕ) → j < wordsPerName → nameWord (sets xs (wordsPerName * i) ws) i j ≡ getD ws j 0
+    word-put j b = get-among xs ws (wordsPerName * i) j (omega (arith, nine)) (omega (arith, nine))
 
-pub note-put : (s xs : List ℕ) (i : ℕ) (x : Noting) → 9 * i + 9 ≤ length xs → noteAt s (sets xs (9 * i) (nameWords x)) i ≡ noteFrom s x (kindOf (x .kind))
-unfolding noteAt
-note-put s xs i x h = ap (λ (y : Noting). noteFrom s y (kindOf (y .kind))) (noting-put xs i x h)
+    first-put : getD (sets xs (wordsPerName * i) ws) (wordsPerName * i) 0 ≡ getD ws 0 0
+    first-put =
+        let e : wordsPerName * i ≡ wordsPerName * i + 0 = omega arith in
+        ap (λ (k : ℕ). getD (sets xs (wordsPerName * i) ws) k 0) e ∙ word-put 0 (omega arith)
+
+  section-put : (x : SectionNote) → sectionAt (sets xs (wordsPerName * i) (wordsOfSection x)) i ≡ x
+  section-put x =
+      let g : (j : ℕ) → j < wordsPerName → nameWord (sets xs (wordsPerName * i) (wordsOfSection x)) i j ≡ getD (wordsOfSection x) j 0 = word-put (wordsOfSection x) refl in
+      rw (first-put (wordsOfSection x) refl) rw (g 1 (omega arith)) rw (g 2 (omega arith)) rw (g 3 (omega arith)) rw (g 4 (omega arith)) rw (g 5 (omega arith))
+      rw (g 6 (omega arith)) rw (g 7 (omega arith)) rw (g 8 (omega arith)) refl
+
+  row-put : (x : RowNote) → rowAt (sets xs (wordsPerName * i) (wordsOfRow x)) i ≡ x
+  row-put x =
+      let g : (j : ℕ) → j < wordsPerName → nameWord (sets xs (wordsPerName * i) (wordsOfRow x)) i j ≡ getD (wordsOfRow x) j 0 = word-put (wordsOfRow x) refl in
+      rw (first-put (wordsOfRow x) refl) rw (g 1 (omega arith)) rw (g 2 (omega arith)) rw (g 3 (omega arith)) rw (g 4 (omega arith)) rw (g 5 (omega arith))
+      rw (g 6 (omega arith)) rw (g 7 (omega arith)) refl
+
+  module _ (k : Kind) where
+    pub section-said : (x : SectionNote) → kindOf (x .kind) ≡ k → isSection k ≡ true → noteAt s (sets xs (wordsPerName * i) (wordsOfSection x)) i ≡ sectionFrom s k x
+    unfolding noteAt
+    section-said x e t =
+        let ys = sets xs (wordsPerName * i) (wordsOfSection x) in
+        ap (noteOf s ys i) (ap kindOf (first-put (wordsOfSection x) refl) ∙ e) ∙ cond-yes _ _ t ∙ ap (sectionFrom s k) (section-put x)
+
+    pub row-said : (x : RowNote) → kindOf (x .kind) ≡ k → isSection k ≡ false → noteAt s (sets xs (wordsPerName * i) (wordsOfRow x)) i ≡ rowFrom s k x
+    unfolding noteAt
+    row-said x e t =
+        let ys = sets xs (wordsPerName * i) (wordsOfRow x) in
+        ap (noteOf s ys i) (ap kindOf (first-put (wordsOfRow x) refl) ∙ e) ∙ cond-no _ _ t ∙ ap (rowFrom s k) (row-put x)
 
 -- a name's note goes in front of the notes, and leaves the waveforms
-pub log-note : (s xs : List ℕ) (i : ℕ) (x : Noting) (c : Counts) → i ≤ 872 → storeLength ≤ length xs
-    → logIn s (sets xs (9 * i) (nameWords x)) (i + 1) c ≡ record { notes = noteFrom s x (kindOf (x .kind)) ∷ notesTo s xs i; waves = wavesTo s xs (c .waveforms); counts = c }
+pub log-note : (s xs : List ℕ) (i : ℕ) (ws : List ℕ) (n : Note) (c : Counts) → i ≤ namesHeld → length ws ≡ wordsPerName → noteAt s (sets xs (wordsPerName * i) ws) i ≡ n
+    → logIn s (sets xs (wordsPerName * i) ws) (i + 1) c ≡ record { notes = n ∷ notesTo s xs i; waves = wavesTo s xs (c .waveforms); counts = c }
 unfolding logIn notesTo
-log-note s xs i x c h g =
-    rw (add-one i) rw (note-put s xs i x (omega (arith, h, g)))
-    rw (notes-agree s (sets xs (9 * i) (nameWords x)) xs i (λ k a b. get-before xs (nameWords x) (9 * i) k b))
-    rw (waves-agree s (sets xs (9 * i) (nameWords x)) xs (c .waveforms) (λ k a b. get-behind xs (nameWords x) (9 * i) k (omega (arith, a, h)))) refl
+log-note s xs i ws n c h nine says =
+    rw (add-one i) rw says
+    rw (notes-agree s (sets xs (wordsPerName * i) ws) xs i (λ k a b. get-before xs ws (wordsPerName * i) k b))
+    rw (waves-agree s (sets xs (wordsPerName * i) ws) xs (c .waveforms) (λ k a b. get-behind xs ws (wordsPerName * i) k (omega (arith, a, h, nine)))) refl
 
-wave-put : (s xs : List ℕ) (j at line char row : ℕ) → wavesFrom + 4 * j + 4 ≤ length xs
-    → waveAt s (sets xs (wavesFrom + 4 * j) (waveWords at line char row)) j ≡ record { from = rest s (record { at = at; line = line; comment = char }); row = row }
+wave-put : (s xs : List ℕ) (j at line char row : ℕ) → wavesFrom + wordsPerWave * j + wordsPerWave ≤ length xs
+    → waveAt s (sets xs (wavesFrom + wordsPerWave * j) (waveWords at line char row)) j ≡ record { from = rest s (record { at = at; line = line; comment = char }); row = row }
 unfolding waveAt
 wave-put s xs j at line char row h =
-    let e : wavesFrom + 4 * j ≡ wavesFrom + 4 * j + 0 = omega arith in
-    let ys : List ℕ = sets xs (wavesFrom + 4 * j) (waveWords at line char row) in
-    let g : (k : ℕ) → k < 4 → getD ys (wavesFrom + 4 * j + k) 0 ≡ getD (waveWords at line char row) k 0 = λ k b. get-among xs (waveWords at line char row) (wavesFrom + 4 * j) k b h in
-    let z : getD ys (wavesFrom + 4 * j) 0 ≡ at = ap (λ (k : ℕ). getD ys k 0) e ∙ g 0 (omega arith) in
+    let w = wavesFrom + wordsPerWave * j in
+    let e : w ≡ w + 0 = omega arith in
+    let ys : List ℕ = sets xs w (waveWords at line char row) in
+    let g : (k : ℕ) → k < wordsPerWave → getD ys (w + k) 0 ≡ getD (waveWords at line char row) k 0 = λ k b. get-among xs (waveWords at line char row) w k b h in
+    let z : getD ys w 0 ≡ at = ap (λ (k : ℕ). getD ys k 0) e ∙ g 0 (omega arith) in
     rw z rw (g 1 (omega arith)) rw (g 2 (omega arith)) rw (g 3 (omega arith)) refl
 
 -- a waveform's note goes in front of the waveforms, and leaves the names
-pub log-wave : (s xs : List ℕ) (n j at line char row : ℕ) (c : Counts) → n ≤ 873 → wavesFrom + 4 * j + 4 ≤ length xs → c .waveforms ≡ j + 1
-    → logIn s (sets xs (wavesFrom + 4 * j) (waveWords at line char row)) n c
+pub log-wave : (s xs : List ℕ) (n j at line char row : ℕ) (c : Counts) → n ≤ mostNames → wavesFrom + wordsPerWave * j + wordsPerWave ≤ length xs → c .waveforms ≡ j + 1
+    → logIn s (sets xs (wavesFrom + wordsPerWave * j) (waveWords at line char row)) n c
     ≡ record { notes = notesTo s xs n; waves = record { from = rest s (record { at = at; line = line; comment = char }); row = row } ∷ wavesTo s xs j; counts = c }
 unfolding logIn wavesTo
 log-wave s xs n j at line char row c h g e =
-    let ys : List ℕ = sets xs (wavesFrom + 4 * j) (waveWords at line char row) in
+    let w = wavesFrom + wordsPerWave * j in
+    let ys : List ℕ = sets xs w (waveWords at line char row) in
     rw e rw (add-one j) rw (wave-put s xs j at line char row g)
-    rw (notes-agree s ys xs n (λ k a b. get-before xs (waveWords at line char row) (wavesFrom + 4 * j) k (omega (arith, b, h))))
-    rw (waves-agree s ys xs j (λ k a b. get-before xs (waveWords at line char row) (wavesFrom + 4 * j) k b)) refl
+    rw (notes-agree s ys xs n (λ k a b. get-before xs (waveWords at line char row) w k (omega (arith, b, h))))
+    rw (waves-agree s ys xs j (λ k a b. get-before xs (waveWords at line char row) w k b)) refl

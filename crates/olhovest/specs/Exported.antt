@@ -9,7 +9,7 @@ use Rattle.records.specs.Stored.{stored, over}
 use Rattle.rules.specs.Whole.{Outcome, passed, refused, outcome, textsOf}
 use Rattle.records.specs.declared.Lengths.{Lengths}
 use Rattle.file_answer.specs.Answered.{answerOf}
-use Rattle.record_words.specs.Records.{componentWords, pinWords, selectorWords, choiceWords, modelWords, waveformWords}
+use Rattle.record_words.specs.Records.{componentWords, pinWords, selectorWords, choiceWords, modelWords, waveformWords, componentSize, pinSize, selectorSize, choiceSize, modelSize, waveformSize, rowSize}
 use Rattle.table_words.specs.Packed.{faultNumber, answerWords, Lent}
 
 abbrev pub lengthsOf : ℕ → ℕ → ℕ → ℕ → ℕ → ℕ → ℕ → Lengths
@@ -18,7 +18,7 @@ lengthsOf c p s h m w r = record { components = c; pins = p; selectors = s; choi
 -- as many records are lent as whole ones have room
 abbrev pub lengthsIn : Lent → Lengths
 lengthsIn t =
-    lengthsOf (length (t .components) / 26) (length (t .pins) / 21) (length (t .selectors) / 9) (length (t .choices) / 22) (length (t .models) / 54) (length (t .waveforms) / 12) (length (t .rows) / 4)
+    lengthsOf (length (t .components) / componentSize) (length (t .pins) / pinSize) (length (t .selectors) / selectorSize) (length (t .choices) / choiceSize) (length (t .models) / modelSize) (length (t .waveforms) / waveformSize) (length (t .rows) / rowSize)
 
 -- an accepted file is laid over what the tables held; after a fault they hold what they held before
 abbrev pub left : Outcome → Laid → Lent → Lent

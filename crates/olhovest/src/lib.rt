@@ -4,6 +4,15 @@ ghost use Rattle.rules.specs.Whole.{outcome};
 ghost use Rattle.file_answer.specs.Answered.{verdictOf};
 ghost use Rattle.table_words.specs.Packed.{faultNumber, faultLine, lent};
 ghost use Rattle.olhovest.specs.Exported.{lengthsOf, Exports};
+use note_words::STORE_LENGTH;
+use record_words::ANSWER_WORDS;
+use record_words::CHOICE_WORDS;
+use record_words::COMPONENT_WORDS;
+use record_words::MODEL_WORDS;
+use record_words::PIN_WORDS;
+use record_words::ROW_WORDS;
+use record_words::SELECTOR_WORDS;
+use record_words::WAVEFORM_WORDS;
 use records::Lengths;
 
 fn lengths_of(
@@ -69,19 +78,19 @@ pub extern "C" fn olhovest_read(
     models: &mut [u64],
     waveforms: &mut [u64],
     rows: &mut [u64],
-    answer: &mut [u64; 40],
+    answer: &mut [u64; ANSWER_WORDS],
 ) -> u8
     ensures { λ r. ⌜ Exports (now (src .entry)) (lent (now (components .entry)) (now (pins .entry)) (now (selectors .entry)) (now (choices .entry)) (now (models .entry)) (now (waveforms .entry)) (now (rows .entry))) r (now (answer .exit)) (lent (now (components .exit)) (now (pins .exit)) (now (selectors .exit)) (now (choices .exit)) (now (models .exit)) (now (waveforms .exit)) (now (rows .exit))) ⌝ }
 {
-    let mut notes = [0u32; 12825];
+    let mut notes = [0u32; STORE_LENGTH];
     let l = lengths_of(
-        components.len() / 26,
-        pins.len() / 21,
-        selectors.len() / 9,
-        choices.len() / 22,
-        models.len() / 54,
-        waveforms.len() / 12,
-        rows.len() / 4,
+        components.len() / COMPONENT_WORDS,
+        pins.len() / PIN_WORDS,
+        selectors.len() / SELECTOR_WORDS,
+        choices.len() / CHOICE_WORDS,
+        models.len() / MODEL_WORDS,
+        waveforms.len() / WAVEFORM_WORDS,
+        rows.len() / ROW_WORDS,
     );
     let a = file_answer::outlined(src, l, &mut notes);
     table_words::fill_tables(

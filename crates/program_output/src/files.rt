@@ -7,6 +7,12 @@ ghost use Rattle.program_output.specs.Lent.{lentLengths, fileBuffer};
 use program_tables::Shelf;
 use records::Fault;
 use records::Lengths;
+use records::MOST_CHOICES;
+use records::MOST_COMPONENTS;
+use records::MOST_MODELS;
+use records::MOST_PINS;
+use records::MOST_SELECTORS;
+use records::MOST_WAVEFORMS;
 use records::Verdict;
 
 // What is printed of an accepted file.
@@ -27,12 +33,12 @@ pub fn lent_lengths(rows: usize) -> Lengths
     ensures { λ r. ⌜ r ≡ lentLengths rows ⌝ }
 {
     Lengths {
-        components: 8,
-        pins: 512,
-        selectors: 32,
-        choices: 256,
-        models: 64,
-        waveforms: 1024,
+        components: MOST_COMPONENTS,
+        pins: MOST_PINS,
+        selectors: MOST_SELECTORS,
+        choices: MOST_CHOICES,
+        models: MOST_MODELS,
+        waveforms: MOST_WAVEFORMS,
         rows: rows,
     }
 }

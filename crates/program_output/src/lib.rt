@@ -7,6 +7,12 @@ use program_tables::Shelf;
 use records::Choice;
 use records::Component;
 use records::Counts;
+use records::MOST_CHOICES;
+use records::MOST_COMPONENTS;
+use records::MOST_MODELS;
+use records::MOST_PINS;
+use records::MOST_SELECTORS;
+use records::MOST_WAVEFORMS;
 use records::Model;
 use records::Pin;
 use records::Selector;
@@ -34,8 +40,8 @@ pub fn holds(s: Span, i: usize) -> bool
     i - s.start < s.count
 }
 
-fn print_pins(pins: [Pin; 512], span: Span) {
-    for i in 0..512 {
+fn print_pins(pins: [Pin; MOST_PINS], span: Span) {
+    for i in 0..MOST_PINS {
         if holds(span, i) {
             let mut out = io::buffer();
             let n = dump_text::pin_line(&mut out, 0, pins[i]);
@@ -44,15 +50,15 @@ fn print_pins(pins: [Pin; 512], span: Span) {
     }
 }
 
-fn print_component(i: usize, c: Component, pins: [Pin; 512]) {
+fn print_component(i: usize, c: Component, pins: [Pin; MOST_PINS]) {
     let mut out = io::buffer();
     let n = dump_text::component_lines(&mut out, 0, i, c);
     put_out(&out, n);
     print_pins(pins, c.pins);
 }
 
-fn print_choices(choices: [Choice; 256], span: Span) {
-    for i in 0..256 {
+fn print_choices(choices: [Choice; MOST_CHOICES], span: Span) {
+    for i in 0..MOST_CHOICES {
         if holds(span, i) {
             let mut out = io::buffer();
             let n = dump_text::choice_line(&mut out, 0, choices[i]);
@@ -61,7 +67,7 @@ fn print_choices(choices: [Choice; 256], span: Span) {
     }
 }
 
-fn print_selector(i: usize, s: Selector, choices: [Choice; 256]) {
+fn print_selector(i: usize, s: Selector, choices: [Choice; MOST_CHOICES]) {
     let mut out = io::buffer();
     let n = dump_text::selector_lines(&mut out, 0, i, s);
     put_out(&out, n);
@@ -93,8 +99,8 @@ fn print_table(name: &[u8], t: Table, rows: &[u64]) {
     print_rows(rows, t.rows);
 }
 
-fn print_waveforms(waveforms: [Waveform; 1024], span: Span, rows: &[u64]) {
-    for i in 0..1024 {
+fn print_waveforms(waveforms: [Waveform; MOST_WAVEFORMS], span: Span, rows: &[u64]) {
+    for i in 0..MOST_WAVEFORMS {
         if holds(span, i) {
             let w = waveforms[i];
             let mut out = io::buffer();
@@ -105,7 +111,7 @@ fn print_waveforms(waveforms: [Waveform; 1024], span: Span, rows: &[u64]) {
     }
 }
 
-fn print_model(i: usize, m: Model, waveforms: [Waveform; 1024], rows: &[u64]) {
+fn print_model(i: usize, m: Model, waveforms: [Waveform; MOST_WAVEFORMS], rows: &[u64]) {
     let mut out = io::buffer();
     let n = dump_model_text::model_lines(&mut out, 0, i, m);
     put_out(&out, n);
@@ -122,8 +128,13 @@ fn print_model(i: usize, m: Model, waveforms: [Waveform; 1024], rows: &[u64]) {
 
 // ---- the section at place k of the file, in the table where it lies
 
-fn print_components(components: [Component; 8], n: usize, k: usize, pins: [Pin; 512]) {
-    for i in 0..8 {
+fn print_components(
+    components: [Component; MOST_COMPONENTS],
+    n: usize,
+    k: usize,
+    pins: [Pin; MOST_PINS],
+) {
+    for i in 0..MOST_COMPONENTS {
         let c = components[i];
         if i < n {
             if c.section == k {
@@ -133,8 +144,13 @@ fn print_components(components: [Component; 8], n: usize, k: usize, pins: [Pin; 
     }
 }
 
-fn print_selectors(selectors: [Selector; 32], n: usize, k: usize, choices: [Choice; 256]) {
-    for i in 0..32 {
+fn print_selectors(
+    selectors: [Selector; MOST_SELECTORS],
+    n: usize,
+    k: usize,
+    choices: [Choice; MOST_CHOICES],
+) {
+    for i in 0..MOST_SELECTORS {
         let s = selectors[i];
         if i < n {
             if s.section == k {
@@ -145,13 +161,13 @@ fn print_selectors(selectors: [Selector; 32], n: usize, k: usize, choices: [Choi
 }
 
 fn print_models(
-    models: [Model; 64],
+    models: [Model; MOST_MODELS],
     n: usize,
     k: usize,
-    waveforms: [Waveform; 1024],
+    waveforms: [Waveform; MOST_WAVEFORMS],
     rows: &[u64],
 ) {
-    for i in 0..64 {
+    for i in 0..MOST_MODELS {
         let m = models[i];
         if i < n {
             if m.section == k {
@@ -172,17 +188,19 @@ fn at_most(a: usize, b: usize) -> usize
 
 // How many sections a file has.
 fn sections_in(c: Counts) -> usize {
-    at_most(c.components, 8) + at_most(c.selectors, 32) + at_most(c.models, 64)
+    at_most(c.components, MOST_COMPONENTS)
+        + at_most(c.selectors, MOST_SELECTORS)
+        + at_most(c.models, MOST_MODELS)
 }
 
 // All sections: a file has at most 104.
 fn print_sections(
-    components: [Component; 8],
-    pins: [Pin; 512],
-    selectors: [Selector; 32],
-    choices: [Choice; 256],
-    models: [Model; 64],
-    waveforms: [Waveform; 1024],
+    components: [Component; MOST_COMPONENTS],
+    pins: [Pin; MOST_PINS],
+    selectors: [Selector; MOST_SELECTORS],
+    choices: [Choice; MOST_CHOICES],
+    models: [Model; MOST_MODELS],
+    waveforms: [Waveform; MOST_WAVEFORMS],
     rows: [u64; 32768],
     c: Counts,
 ) {

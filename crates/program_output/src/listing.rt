@@ -3,6 +3,8 @@ use crate::put_out;
 use decimal::Cell;
 use program_tables::Shelf;
 use questions::Chosen;
+use records::MOST_MODELS;
+use records::MOST_PINS;
 use records::Model;
 use records::Name;
 use records::Pin;
@@ -13,10 +15,10 @@ fn print_levels(pin: Pin, model: Name, low: Cell, high: Cell) {
     put_out(&out, n);
 }
 
-fn print_pin(pin: Pin, model: Name, models: [Model; 64], choice: Chosen) {
+fn print_pin(pin: Pin, model: Name, models: [Model; MOST_MODELS], choice: Chosen) {
     match choice {
         Chosen::Model(k) => {
-            if k < 64 {
+            if k < MOST_MODELS {
                 let m = models[k];
                 let low = m.vinl;
                 let high = m.vinh;
@@ -38,7 +40,7 @@ pub fn print_listing(t: Shelf) {
     let mut out = io::buffer();
     let n = text_buffer::accepted_line(&mut out, 0, counts);
     put_out(&out, n);
-    for i in 0..512 {
+    for i in 0..MOST_PINS {
         let pin = pins[i];
         if i < counts.pins {
             let model = questions::tables::name_for(selectors, choices, counts, pin);

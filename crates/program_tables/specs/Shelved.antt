@@ -5,6 +5,8 @@ use mathlib.Core.List.{List, []}
 use mathlib.Core.Option.{none}
 use lib.ListN.{replicate}
 use Rattle.decimal.specs.declared.Cell.the-variants.{Missing}
+use Rattle.records.specs.Bounds.{most, mostWaveforms}
+use Rattle.records.specs.declared.Kind.the-variants.{OfComponent, OfPin, OfSelector, OfChoice, OfModel}
 use Rattle.records.specs.declared.Edge.the-variants.{Rising}
 use Rattle.records.specs.Stored.{noCells, nameLaid, wordsLaid}
 use Rattle.layout.specs.Laid.{rangeLaid, rampLaid}
@@ -75,22 +77,22 @@ blankWaveform =
 
 -- ---- blank tables, as long as a file may want them
 unfoldable pub blankComponents : List Component
-blankComponents = replicate 8 blankComponent
+blankComponents = replicate (most OfComponent) blankComponent
 
 unfoldable pub blankPins : List Pin
-blankPins = replicate 512 blankPin
+blankPins = replicate (most OfPin) blankPin
 
 unfoldable pub blankSelectors : List Selector
-blankSelectors = replicate 32 blankSelector
+blankSelectors = replicate (most OfSelector) blankSelector
 
 unfoldable pub blankChoices : List Choice
-blankChoices = replicate 256 blankChoice
+blankChoices = replicate (most OfChoice) blankChoice
 
 unfoldable pub blankModels : List Model
-blankModels = replicate 64 blankModel
+blankModels = replicate (most OfModel) blankModel
 
 unfoldable pub blankWaveforms : List Waveform
-blankWaveforms = replicate 1024 blankWaveform
+blankWaveforms = replicate mostWaveforms blankWaveform
 
 -- 8192 rows, each of four words
 unfoldable pub blankRows : List ℕ

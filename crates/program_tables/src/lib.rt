@@ -6,6 +6,12 @@ use records::Component;
 use records::Edge;
 use records::Enable;
 use records::Location;
+use records::MOST_CHOICES;
+use records::MOST_COMPONENTS;
+use records::MOST_MODELS;
+use records::MOST_PINS;
+use records::MOST_SELECTORS;
+use records::MOST_WAVEFORMS;
 use records::Model;
 use records::ModelType;
 use records::Pin;
@@ -26,12 +32,12 @@ ghost use Rattle.program_tables.specs.Shelved.{blankComponent, blankPin,
 // The answer, and the tables behind it. Of a refused file the tables hold blank records.
 pub struct Shelf {
     pub answer: Answer,
-    pub components: [Component; 8],
-    pub pins: [Pin; 512],
-    pub selectors: [Selector; 32],
-    pub choices: [Choice; 256],
-    pub models: [Model; 64],
-    pub waveforms: [Waveform; 1024],
+    pub components: [Component; MOST_COMPONENTS],
+    pub pins: [Pin; MOST_PINS],
+    pub selectors: [Selector; MOST_SELECTORS],
+    pub choices: [Choice; MOST_CHOICES],
+    pub models: [Model; MOST_MODELS],
+    pub waveforms: [Waveform; MOST_WAVEFORMS],
     pub rows: [u64; 32768],
 }
 
@@ -159,46 +165,46 @@ pub fn blank_waveform() -> Waveform
 
 // ---- blank tables
 
-fn blank_components() -> [Component; 8]
+fn blank_components() -> [Component; MOST_COMPONENTS]
     ensures { λ r. ⌜ r ≡ blankComponents ⌝ }
 {
     let component = blank_component();
-    [component; 8]
+    [component; MOST_COMPONENTS]
 }
 
-fn blank_pins() -> [Pin; 512]
+fn blank_pins() -> [Pin; MOST_PINS]
     ensures { λ r. ⌜ r ≡ blankPins ⌝ }
 {
     let pin = blank_pin();
-    [pin; 512]
+    [pin; MOST_PINS]
 }
 
-fn blank_selectors() -> [Selector; 32]
+fn blank_selectors() -> [Selector; MOST_SELECTORS]
     ensures { λ r. ⌜ r ≡ blankSelectors ⌝ }
 {
     let selector = blank_selector();
-    [selector; 32]
+    [selector; MOST_SELECTORS]
 }
 
-fn blank_choices() -> [Choice; 256]
+fn blank_choices() -> [Choice; MOST_CHOICES]
     ensures { λ r. ⌜ r ≡ blankChoices ⌝ }
 {
     let choice = blank_choice();
-    [choice; 256]
+    [choice; MOST_CHOICES]
 }
 
-fn blank_models() -> [Model; 64]
+fn blank_models() -> [Model; MOST_MODELS]
     ensures { λ r. ⌜ r ≡ blankModels ⌝ }
 {
     let model = blank_model();
-    [model; 64]
+    [model; MOST_MODELS]
 }
 
-fn blank_waveforms() -> [Waveform; 1024]
+fn blank_waveforms() -> [Waveform; MOST_WAVEFORMS]
     ensures { λ r. ⌜ r ≡ blankWaveforms ⌝ }
 {
     let waveform = blank_waveform();
-    [waveform; 1024]
+    [waveform; MOST_WAVEFORMS]
 }
 
 fn blank_rows() -> [u64; 32768]
@@ -211,12 +217,12 @@ fn blank_rows() -> [u64; 32768]
 
 fn shelf_of(
     answer: Answer,
-    components: [Component; 8],
-    pins: [Pin; 512],
-    selectors: [Selector; 32],
-    choices: [Choice; 256],
-    models: [Model; 64],
-    waveforms: [Waveform; 1024],
+    components: [Component; MOST_COMPONENTS],
+    pins: [Pin; MOST_PINS],
+    selectors: [Selector; MOST_SELECTORS],
+    choices: [Choice; MOST_CHOICES],
+    models: [Model; MOST_MODELS],
+    waveforms: [Waveform; MOST_WAVEFORMS],
     rows: [u64; 32768],
 ) -> Shelf
     ensures { λ r. ⌜ r ≡ shelfOf answer components pins selectors choices models waveforms rows ⌝ }

@@ -13,17 +13,20 @@ use crate::try_selector;
 use name_table::Found;
 use records::Choice;
 use records::Counts;
+use records::MOST_CHOICES;
+use records::MOST_MODELS;
+use records::MOST_SELECTORS;
 use records::Model;
 use records::Name;
 use records::Pin;
 use records::Selector;
 
-fn find_model(models: [Model; 64], used: usize, name: Name) -> Found
+fn find_model(models: [Model; MOST_MODELS], used: usize, name: Name) -> Found
     ensures { λ r. ⌜ r ≡ modelPlace (take used models) name ⌝ }
 {
     let mut f = nothing_yet();
     let mut i = 0;
-    while seeking(f, i, used, 64) {
+    while seeking(f, i, used, MOST_MODELS) {
         let m = models[i];
         f = try_model(m, name, i);
         i += 1;
@@ -31,12 +34,12 @@ fn find_model(models: [Model; 64], used: usize, name: Name) -> Found
     f
 }
 
-fn find_row(selectors: [Selector; 32], used: usize, name: Name) -> Found
+fn find_row(selectors: [Selector; MOST_SELECTORS], used: usize, name: Name) -> Found
     ensures { λ r. ⌜ r ≡ selectorRow (take used selectors) name ⌝ }
 {
     let mut f = nothing_yet();
     let mut i = 0;
-    while seeking(f, i, used, 32) {
+    while seeking(f, i, used, MOST_SELECTORS) {
         let s = selectors[i];
         f = try_selector(s, name, i);
         i += 1;
@@ -44,10 +47,10 @@ fn find_row(selectors: [Selector; 32], used: usize, name: Name) -> Found
     f
 }
 
-fn name_in(choices: [Choice; 256], used: usize, row: Found, name: Name) -> Name
+fn name_in(choices: [Choice; MOST_CHOICES], used: usize, row: Found, name: Name) -> Name
     ensures { λ r. ⌜ r ≡ nameAt (take used choices) row name ⌝ }
 {
-    if there(row, used, 256) {
+    if there(row, used, MOST_CHOICES) {
         let k = place_of(row);
         let c = choices[k];
         return c.model;
@@ -56,7 +59,12 @@ fn name_in(choices: [Choice; 256], used: usize, row: Found, name: Name) -> Name
 }
 
 // As `name_for`.
-pub fn name_for(selectors: [Selector; 32], choices: [Choice; 256], counts: Counts, pin: Pin) -> Name
+pub fn name_for(
+    selectors: [Selector; MOST_SELECTORS],
+    choices: [Choice; MOST_CHOICES],
+    counts: Counts,
+    pin: Pin,
+) -> Name
     ensures { λ r. ⌜ r ≡ nameFor (take (counts .selectors) selectors) (take (counts .choices) choices) pin ⌝ }
 {
     let row = find_row(selectors, counts.selectors, pin.model);
@@ -65,9 +73,9 @@ pub fn name_for(selectors: [Selector; 32], choices: [Choice; 256], counts: Count
 
 // As `model_for`.
 pub fn model_for(
-    selectors: [Selector; 32],
-    choices: [Choice; 256],
-    models: [Model; 64],
+    selectors: [Selector; MOST_SELECTORS],
+    choices: [Choice; MOST_CHOICES],
+    models: [Model; MOST_MODELS],
     counts: Counts,
     pin: Pin,
 ) -> Chosen

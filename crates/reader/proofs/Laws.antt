@@ -99,10 +99,10 @@ module _ (s : List ℕ) (cs : List Component) (ps : List Pin) (ss : List Selecto
     pub finishes : LeftBy ns r
     finishes = subst (LeftBy ns) (sym (said .answer)) (left-for ns (outcome l s) refl (said .sorted))
 
-pub blank-is : blankNotes ≡ replicate 12825 0
+pub blank-is : blankNotes ≡ replicate storeLength 0
 unfolding blankNotes
 blank-is = refl
 
 pub long-enough : storeLength ≤ length blankNotes
 unfolding blankNotes
-long-enough = subst (λ (n : ℕ). storeLength ≤ n) (sym (length-replicate {A = ℕ} 12825 0)) (le-refl 12825)
+long-enough = subst (λ (n : ℕ). storeLength ≤ n) (sym (length-replicate {A = ℕ} storeLength 0)) (le-refl storeLength)

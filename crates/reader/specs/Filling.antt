@@ -4,6 +4,7 @@ use mathlib.Core.List.{List}
 use lib.ListN.{length, replicate}
 use Rattle.records.specs.Stored.{stored, over}
 use Rattle.records.specs.declared.Counts.{Counts}
+use Rattle.note_words.specs.Store.{storeLength}
 use Rattle.from_notes.specs.Made.{rowsAt}
 
 -- the rows of all models, one after the other, over what the row store held
@@ -15,4 +16,4 @@ rowsFilled s ns o rs = over rs (stored (rowsAt s ns (o .models)))
 
 -- the store of notes before a reading
 unfoldable pub blankNotes : List ℕ
-blankNotes = replicate 12825 0
+blankNotes = replicate storeLength 0

@@ -7,6 +7,7 @@ ghost use Rattle.from_notes.specs.Made.{componentAt, pinAt, selectorAt, choiceA
 ghost use Rattle.reader.specs.Filling.{rowsFit, rowsFilled};
 ghost use Rattle.reader.specs.Promise.{lengthsOf, Read};
 pub use file_answer::check;
+use note_words::STORE_LENGTH;
 use records::Answer;
 use records::Choice;
 use records::Component;
@@ -226,7 +227,7 @@ pub fn read(
 ) -> Answer
     ensures { λ r. ⌜ Read (now (src .entry)) (now (components .entry)) (now (pins .entry)) (now (selectors .entry)) (now (choices .entry)) (now (models .entry)) (now (waveforms .entry)) (now (rows .entry)) r (now (components .exit)) (now (pins .exit)) (now (selectors .exit)) (now (choices .exit)) (now (models .exit)) (now (waveforms .exit)) (now (rows .exit)) ⌝ }
 {
-    let mut notes = [0u32; 12825];
+    let mut notes = [0u32; STORE_LENGTH];
     let l = lengths_of(
         components.len(),
         pins.len(),

@@ -19,11 +19,11 @@ use Rattle.record_words.specs.Values.{eightAt, flagNumber, locationNumbe
 
 -- ---- parts of records
 
--- 40 bytes and their count: 6 words
+-- 40 bytes and their count
 abbrev pub nameWords : Name → List ℕ
 nameWords n = eightAt (n .bytes) 0 ∷ eightAt (n .bytes) 8 ∷ eightAt (n .bytes) 16 ∷ eightAt (n .bytes) 24 ∷ eightAt (n .bytes) 32 ∷ n .len ∷ []
 
--- 120 bytes and their count: 16 words
+-- 120 bytes and their count
 abbrev pub textWords : Words → List ℕ
 textWords w =
     eightAt (w .bytes) 0
@@ -57,7 +57,7 @@ slopeWords t =
 abbrev pub tableWords : Table → List ℕ
 tableWords t = flagNumber (t .given) ∷ spanWords (t .rows)
 
--- ---- records: 26, 21, 9, 22, 54 and 12 words
+-- ---- records
 
 abbrev pub componentWords : Component → List ℕ
 componentWords c =
@@ -104,3 +104,26 @@ abbrev pub waveformWords : Waveform → List ℕ
 waveformWords w =
     (edgeNumber (w .edge) ∷ wordOf (w .rfixture) ∷ wordOf (w .vfixture) ∷ wordOf (w .vmin) ∷ wordOf (w .vmax) ∷ [])
     ++ (wordOf (w .cfixture) ∷ wordOf (w .lfixture) ∷ wordOf (w .rdut) ∷ wordOf (w .ldut) ∷ wordOf (w .cdut) ∷ spanWords (w .rows))
+
+-- ---- how many words each record is, and each row of the row store
+
+abbrev pub componentSize : ℕ
+componentSize = 26
+
+abbrev pub pinSize : ℕ
+pinSize = 21
+
+abbrev pub selectorSize : ℕ
+selectorSize = 9
+
+abbrev pub choiceSize : ℕ
+choiceSize = 22
+
+abbrev pub modelSize : ℕ
+modelSize = 54
+
+abbrev pub waveformSize : ℕ
+waveformSize = 12
+
+abbrev pub rowSize : ℕ
+rowSize = 4

@@ -1,6 +1,19 @@
 // Records as words, in the order of their fields.
 ghost use mathlib.Core.Path.{_≡_};
 ghost use Rattle.record_words.specs.Records.{nameWords, textWords, tripleWords, slopeWords, tableWords, componentWords, pinWords, selectorWords, choiceWords, modelFirst, modelTables, modelRamp, waveformWords};
+use crate::CHOICE_WORDS;
+use crate::COMPONENT_WORDS;
+use crate::MODEL_FIRST_WORDS;
+use crate::MODEL_RAMP_WORDS;
+use crate::MODEL_TABLES_WORDS;
+use crate::NAME_WORDS;
+use crate::PIN_WORDS;
+use crate::SELECTOR_WORDS;
+use crate::SLOPE_WORDS;
+use crate::TABLE_WORDS;
+use crate::TEXT_WORDS;
+use crate::TRIPLE_WORDS;
+use crate::WAVEFORM_WORDS;
 use crate::values::dividend_word;
 use crate::values::divisor_word;
 use crate::values::edge_number;
@@ -28,7 +41,7 @@ use records::type_number;
 
 // ---- parts of records
 
-fn name_words(n: Name) -> [u64; 6]
+fn name_words(n: Name) -> [u64; NAME_WORDS]
     ensures { λ r. ⌜ r ≡ nameWords n ⌝ }
 {
     let b = n.bytes;
@@ -36,7 +49,7 @@ fn name_words(n: Name) -> [u64; 6]
     [w[0], w[1], w[2], w[3], w[4], n.len as u64]
 }
 
-pub fn text_words(t: Words) -> [u64; 16]
+pub fn text_words(t: Words) -> [u64; TEXT_WORDS]
     ensures { λ r. ⌜ r ≡ textWords t ⌝ }
 {
     let b = t.bytes;
@@ -62,13 +75,13 @@ pub fn text_words(t: Words) -> [u64; 16]
     ]
 }
 
-fn triple_words(t: Triple) -> [u64; 3]
+fn triple_words(t: Triple) -> [u64; TRIPLE_WORDS]
     ensures { λ r. ⌜ r ≡ tripleWords t ⌝ }
 {
     [typ_word(t), min_word(t), max_word(t)]
 }
 
-fn slope_words(t: RampTriple) -> [u64; 6]
+fn slope_words(t: RampTriple) -> [u64; SLOPE_WORDS]
     ensures { λ r. ⌜ r ≡ slopeWords t ⌝ }
 {
     let typ = t.typ;
@@ -84,7 +97,7 @@ fn slope_words(t: RampTriple) -> [u64; 6]
     ]
 }
 
-fn table_words(t: Table) -> [u64; 3]
+fn table_words(t: Table) -> [u64; TABLE_WORDS]
     ensures { λ r. ⌜ r ≡ tableWords t ⌝ }
 {
     [
@@ -96,7 +109,7 @@ fn table_words(t: Table) -> [u64; 3]
 
 // ---- records
 
-pub fn component_words(c: Component) -> [u64; 26]
+pub fn component_words(c: Component) -> [u64; COMPONENT_WORDS]
     ensures { λ r. ⌜ r ≡ componentWords c ⌝ }
 {
     let n = name_words(c.name);
@@ -136,7 +149,7 @@ pub fn component_words(c: Component) -> [u64; 26]
     ]
 }
 
-pub fn pin_words(p: Pin) -> [u64; 21]
+pub fn pin_words(p: Pin) -> [u64; PIN_WORDS]
     ensures { λ r. ⌜ r ≡ pinWords p ⌝ }
 {
     let n = name_words(p.name);
@@ -170,7 +183,7 @@ pub fn pin_words(p: Pin) -> [u64; 21]
     ]
 }
 
-pub fn selector_words(s: Selector) -> [u64; 9]
+pub fn selector_words(s: Selector) -> [u64; SELECTOR_WORDS]
     ensures { λ r. ⌜ r ≡ selectorWords s ⌝ }
 {
     let n = name_words(s.name);
@@ -187,7 +200,7 @@ pub fn selector_words(s: Selector) -> [u64; 9]
     ]
 }
 
-pub fn choice_words(c: Choice) -> [u64; 22]
+pub fn choice_words(c: Choice) -> [u64; CHOICE_WORDS]
     ensures { λ r. ⌜ r ≡ choiceWords c ⌝ }
 {
     let m = name_words(c.model);
@@ -219,7 +232,7 @@ pub fn choice_words(c: Choice) -> [u64; 22]
 }
 
 // A model in three parts: its first lines,
-pub fn model_first(m: Model) -> [u64; 19]
+pub fn model_first(m: Model) -> [u64; MODEL_FIRST_WORDS]
     ensures { λ r. ⌜ r ≡ modelFirst m ⌝ }
 {
     let n = name_words(m.name);
@@ -257,7 +270,7 @@ pub fn model_first(m: Model) -> [u64; 19]
 }
 
 // its ranges and current tables,
-pub fn model_tables(m: Model) -> [u64; 19]
+pub fn model_tables(m: Model) -> [u64; MODEL_TABLES_WORDS]
     ensures { λ r. ⌜ r ≡ modelTables m ⌝ }
 {
     let v = triple_words(m.voltage);
@@ -290,7 +303,7 @@ pub fn model_tables(m: Model) -> [u64; 19]
 }
 
 // its ramp and waveforms.
-pub fn model_ramp(m: Model) -> [u64; 16]
+pub fn model_ramp(m: Model) -> [u64; MODEL_RAMP_WORDS]
     ensures { λ r. ⌜ r ≡ modelRamp m ⌝ }
 {
     let ramp = m.ramp;
@@ -317,7 +330,7 @@ pub fn model_ramp(m: Model) -> [u64; 16]
     ]
 }
 
-pub fn waveform_words(w: Waveform) -> [u64; 12]
+pub fn waveform_words(w: Waveform) -> [u64; WAVEFORM_WORDS]
     ensures { λ r. ⌜ r ≡ waveformWords w ⌝ }
 {
     let edge = w.edge;

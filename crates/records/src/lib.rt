@@ -1,5 +1,5 @@
-// The types that everybody needs: the records of the tables, the counts, what is named in a file, and a fault with its line; and model
-// types by number.
+// The types that everybody needs: the records of the tables, the counts, what is named in a file, and a fault with its line; document 01's
+// bounds; texts as they lie in a record; and model types by number.
 ghost use mathlib.Core.Path.{_≡_};
 ghost use Rattle.records.specs.Types.{typeNumber};
 use decimal::Cell;
@@ -12,6 +12,20 @@ pub use texts::no_cells;
 pub use texts::no_name;
 pub use texts::no_words;
 pub use texts::words_of;
+
+// ---- how many of each a file has at most, if as many are lent; of waveforms, in all models
+
+pub const MOST_COMPONENTS: usize = 8;
+
+pub const MOST_PINS: usize = 512;
+
+pub const MOST_SELECTORS: usize = 32;
+
+pub const MOST_CHOICES: usize = 256;
+
+pub const MOST_MODELS: usize = 64;
+
+pub const MOST_WAVEFORMS: usize = 1024;
 
 // ---- faults and answers
 

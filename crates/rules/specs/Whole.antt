@@ -16,6 +16,7 @@ use Rattle.cut_lines.specs.Texts.{Text, plain, change, textsFrom}
 use Rattle.line_rules.specs.Fields.{firstWord, otherWords}
 use Rattle.rules.specs.Steps.{byStage, onText}
 use Rattle.rules.specs.Outline.{Entry, is, count, isUsed, isFound, isListed, firstFailing}
+use Rattle.records.specs.Bounds.{most, mostWaveforms}
 use Rattle.records.specs.declared.Kind.{Kind}
 use Rattle.records.specs.declared.Kind.the-variants.{OfComponent, OfPin, OfSelector, OfChoice, OfModel}
 use Rattle.records.specs.declared.Lengths.{Lengths}
@@ -29,14 +30,14 @@ use Rattle.rules.specs.declared.Went.the-variants.{On, Stop}
 -- ---- bounds: "A lent table other than the rows that is shorter than its bound has its length as the bound"
 
 abbrev pub bound : Lengths → Kind → ℕ
-bound l OfComponent = min 8 (l .components)
-bound l OfPin = min 512 (l .pins)
-bound l OfSelector = min 32 (l .selectors)
-bound l OfChoice = min 256 (l .choices)
-bound l OfModel = min 64 (l .models)
+bound l OfComponent = min (most OfComponent) (l .components)
+bound l OfPin = min (most OfPin) (l .pins)
+bound l OfSelector = min (most OfSelector) (l .selectors)
+bound l OfChoice = min (most OfChoice) (l .choices)
+bound l OfModel = min (most OfModel) (l .models)
 
 abbrev pub waveformBound : Lengths → ℕ
-waveformBound l = min 1024 (l .waveforms)
+waveformBound l = min mostWaveforms (l .waveforms)
 
 -- ---- what the file holds so far: what is named, the latest first; how many waveforms and rows
 

@@ -1,7 +1,7 @@
 -- Laws of `specs/Events.antt`: the log with one thing more is the store with its words written.
-use Prim.Native.Nat.{ℕ, _+_, _*_, _≤_, _<_, min}
-use mathlib.Core.Path.{_≡_, refl, sym, ap, _∙_, subst}
-use mathlib.Core.List.{List, [], _∷_}
+use Prim.Native.Nat.{ℕ, _+_, _*_, _≤_, _<_}
+use mathlib.Core.Path.{_≡_, refl, sym, ap, _∙_}
+use mathlib.Core.List.{List, []}
 use mathlib.Core.Bool.{Bool, true, false, cond}
 use native.Mathlib.Omega.{arith}
 use lib.ListN.{length}
@@ -9,67 +9,60 @@ use lib.Seq.{sets}
 use lib.Dec.{leb}
 use borrow.Author.Tests.{le-leb, lt-leb, eq-eqb, ne-eqb}
 use Rattle.laws.specs.Lists.{part}
+use Rattle.laws.proofs.Tests.{by-test, cond-yes, cond-no}
 use Rattle.words.specs.Words.{words}
 use Rattle.words.specs.declared.Word.{Word}
 use Rattle.cut_lines.specs.Texts.{rest}
 use Rattle.line_rules.specs.Fields.{firstWord, otherWords}
 use Rattle.rules.specs.Whole.{bound, waveformBound, thirdWord}
+use Rattle.records.specs.Bounds.{most}
 use Rattle.records.specs.declared.Kind.{Kind}
 use Rattle.records.specs.declared.Kind.the-variants.{OfComponent, OfPin, OfSelector, OfChoice, OfModel}
 use Rattle.rules.specs.declared.Event.the-variants.{WaveformOpened, TableRow, Ended}
 use Rattle.records.specs.declared.Lengths.{Lengths}
-use Rattle.notes.specs.Noted.{Note, Log, used, oneMore, moreWaveforms, moreRows, sections, rowNote, going, full, withNote, logged}
-use Rattle.records.specs.declared.Counts.{Counts}
+use Rattle.notes.specs.Noted.{Note, used, oneMore, moreWaveforms, moreRows, sections, rowNote, going, full, withNote}
 use Rattle.notes.proofs.Settles.{more-waveforms}
-use Rattle.note_words.specs.Store.{noteFrom, sectionFrom, rowFrom, kindOf, notesTo, logIn, nameWords, waveWords, wavesFrom, storeLength}
-use Rattle.note_words.specs.declared.Noting.{Noting}
-use Rattle.note_words.proofs.Laws.{log-note, log-wave}
+use Rattle.note_words.specs.Store.{namesHeld, wordsPerName, wordsPerWave, wavesFrom, wordsOfSection, sectionFrom, wordsOfRow, rowFrom, kindOf, isSection, noteAt, waveWords, logIn}
+use Rattle.note_words.specs.declared.SectionNote.{SectionNote}
+use Rattle.note_words.specs.declared.RowNote.{RowNote}
+use Rattle.note_words.proofs.Laws.{section-said, row-said, log-note, log-wave}
 use Rattle.scan.specs.Places.{FirstIn}
-use Rattle.scan.specs.Events.{logOf, toldIs, loggedAt, Within, Kept, Ready}
+use Rattle.scan.specs.Events.{logOf, toldIs, loggedAt, sectionIn, rowIn, counted, Within, Kept, Ready}
 use Rattle.scan.specs.declared.Spot.{Spot}
 use Rattle.scan.specs.declared.Tally.{Tally}
 use Rattle.scan.specs.declared.Told.{Told}
+use Rattle.scan.specs.declared.Told.the-variants.{Going, Full}
 
 -- ---- names
 
-note-kind : (s : List ℕ) (x : Noting) (k : Kind) → noteFrom s x k .kind ≡ k
-note-kind s x OfComponent = refl
-note-kind s x OfPin = refl
-note-kind s x OfSelector = refl
-note-kind s x OfChoice = refl
-note-kind s x OfModel = refl
-
-note-line : (s : List ℕ) (x : Noting) (k : Kind) → noteFrom s x k .line ≡ x .line
-note-line s x OfComponent = refl
-note-line s x OfPin = refl
-note-line s x OfSelector = refl
-note-line s x OfChoice = refl
-note-line s x OfModel = refl
-
-pub names-small : (t : Tally) → Within t → t .names ≤ 872
+pub names-small : (t : Tally) → Within t → t .names ≤ namesHeld
 names-small t w = omega (arith, w .names, w .components, w .pins, w .selectors, w .choices, w .models)
 
-pub used-small : (t : Tally) (k : Kind) → Within t → used (t .counts) k ≤ 512
+pub used-small : (t : Tally) (k : Kind) → Within t → used (t .counts) k ≤ most OfPin
 used-small t OfComponent w = omega (arith, w .components)
 used-small t OfPin w = w .pins
 used-small t OfSelector w = omega (arith, w .selectors)
 used-small t OfChoice w = omega (arith, w .choices)
 used-small t OfModel w = omega (arith, w .models)
 
-module _ (s xs : List ℕ) (l : Lengths) (t : Tally) (k : Kind) (x : Noting) (room : storeLength ≤ length xs) (within : Within t) (is : kindOf (x .kind) ≡ k) where
-  pub name-full : bound l k ≤ used (t .counts) k
-      → withNote l (logOf s xs t) (noteFrom s x k) ≡ full 17 (x .line) (logOf s (sets xs (9 * t .names) (nameWords x)) (record { names = t .names + 1; counts = t .counts }))
-  unfolding withNote logIn
-  name-full h =
-      rw (note-kind s x k) rw (note-line s x k) rw (le-leb (bound l k) (used (t .counts) k) h)
-      rw (log-note s xs (t .names) x (t .counts) (names-small t within) room) rw is refl
+module _ (l : Lengths) (t : Tally) (k : Kind) where
+  pub counted-full : bound l k ≤ used (t .counts) k → Full 17 (record { names = t .names + 1; counts = t .counts }) ≡ counted l t k
+  unfolding counted
+  counted-full h = sym (cond-yes _ _ (le-leb (bound l k) (used (t .counts) k) h))
 
-  pub name-going : used (t .counts) k < bound l k
-      → withNote l (logOf s xs t) (noteFrom s x k) ≡ going (logOf s (sets xs (9 * t .names) (nameWords x)) (record { names = t .names + 1; counts = oneMore (t .counts) k }))
-  unfolding withNote logIn
-  name-going h =
-      rw (note-kind s x k) rw (lt-leb (bound l k) (used (t .counts) k) h)
-      rw (log-note s xs (t .names) x (oneMore (t .counts) k) (names-small t within) room) rw is rw (more-waveforms (t .counts) k) refl
+  pub counted-going : used (t .counts) k < bound l k → Going (record { names = t .names + 1; counts = oneMore (t .counts) k }) ≡ counted l t k
+  unfolding counted
+  counted-going h = sym (cond-no _ _ (lt-leb (bound l k) (used (t .counts) k) h))
+
+-- the words that are written for a name say its note
+name-told : (s xs ws : List ℕ) (l : Lengths) (t : Tally) (n : Note) → Within t → length ws ≡ wordsPerName → noteAt s (sets xs (wordsPerName * t .names) ws) (t .names) ≡ n
+    → withNote l (logOf s xs t) n ≡ toldIs s (sets xs (wordsPerName * t .names) ws) (n .line) (counted l t (n .kind))
+unfolding withNote logIn counted
+name-told s xs ws l t n within nine says =
+    let held = names-small t within in
+    by-test (leb (bound l (n .kind)) (used (t .counts) (n .kind)))
+    (λ h. rw h rw (log-note s xs (t .names) ws n (t .counts) held nine says) refl)
+    (λ h. rw h rw (log-note s xs (t .names) ws n (oneMore (t .counts) (n .kind)) held nine says) rw (more-waveforms (t .counts) (n .kind)) refl)
 
 -- ---- the bounds
 
@@ -82,30 +75,27 @@ kept-more l t OfModel w h = record { within = record { names = omega (arith, w .
 
 -- ---- sections and rows
 
-abbrev pub sectionNoting : Spot → Counts → ℕ → ℕ → ℕ → ℕ → ℕ → Noting
-sectionNoting p c n a e start row =
-    record { kind = n; line = p .line; name = a; «name_end» = e; names = start; «names_end» = row; place = p .next .at; «place_end» = p .next .comment; section = c .components + c .selectors + c .models }
+module _ (s xs : List ℕ) (l : Lengths) (t : Tally) (p : Spot) (ready : Ready s xs t p) where
+  pub name-fits : wordsPerName * t .names + wordsPerName ≤ length xs
+  name-fits = omega (arith, names-small t (ready .within), ready .store)
 
-abbrev pub rowNoting : Spot → ℕ → Word → Word → Noting
-rowNoting p n x z =
-    record { kind = n; line = p .line; name = x .start; «name_end» = x .end; names = z .start; «names_end» = z .end; place = p .start; «place_end» = p .end; section = 0 }
-
-module _ (s ys : List ℕ) (l : Lengths) (g : Log) (p : Spot) (k : Kind) (r : Told) {x : Noting} where
-  pub told-section : (c : Counts) (n a e start row : ℕ) (w : List ℕ) → x ≡ sectionNoting p c n a e start row → p .next .line ≡ p .line + 1 → part a e s ≡ w
-      → withNote l g (sectionFrom s k x) ≡ toldIs s ys (x .line) r
-      → withNote l g (record { kind = k; line = p .line; name = w; names = []; text = []; behind = rest s (p .next); section = sections c; start = start; row = row }) ≡ toldIs s ys (p .line) r
+  pub told-section : (k : Kind) (n a e start row : ℕ) (w : List ℕ) {x : SectionNote} {ys : List ℕ} {r : Told} → x ≡ sectionIn n p a e (t .counts) start row → kindOf n ≡ k → isSection k ≡ true → part a e s ≡ w
+      → ys ≡ sets xs (wordsPerName * t .names) (wordsOfSection x) → r ≡ counted l t k
+      → withNote l (logOf s xs t) (record { kind = k; line = p .line; name = w; names = []; text = []; behind = rest s (p .next); section = sections (t .counts); start = start; row = row }) ≡ toldIs s ys (p .line) r
   unfolding rest sections
-  told-section c n a e start row w is line text told =
-      let m : withNote l g (sectionFrom s k (sectionNoting p c n a e start row)) ≡ toldIs s ys (p .line) r = subst (λ (y : Noting). withNote l g (sectionFrom s k y) ≡ toldIs s ys (y .line) r) is told in
-      rw (sym text) rw line m
+  told-section k n a e start row w is of kinds text written counts =
+      let y = sectionIn n p a e (t .counts) start row in
+      rw (written, counts, is, sym text, ready .text .line)
+      (name-told s xs (wordsOfSection y) l t (sectionFrom s k y) (ready .within) refl (section-said s xs (t .names) name-fits k y of kinds))
 
-  pub told-row : (n : ℕ) (name model : Word) (m : List ℕ) → x ≡ rowNoting p n name model
+  pub told-row : (k : Kind) (n : ℕ) (name model : Word) (m : List ℕ) {x : RowNote} {ys : List ℕ} {r : Told} → x ≡ rowIn n p name model → kindOf n ≡ k → isSection k ≡ false
       → part (name .start) (name .end) s ≡ firstWord (words (part (p .start) (p .end) s)) → part (model .start) (model .end) s ≡ m
-      → withNote l g (rowFrom s k x) ≡ toldIs s ys (x .line) r
-      → withNote l g (rowNote k (p .line) (part (p .start) (p .end) s) m) ≡ toldIs s ys (p .line) r
-  told-row n name model m is named says told =
-      let t : withNote l g (rowFrom s k (rowNoting p n name model)) ≡ toldIs s ys (p .line) r = subst (λ (y : Noting). withNote l g (rowFrom s k y) ≡ toldIs s ys (y .line) r) is told in
-      rw (sym named) rw (sym says) t
+      → ys ≡ sets xs (wordsPerName * t .names) (wordsOfRow x) → r ≡ counted l t k
+      → withNote l (logOf s xs t) (rowNote k (p .line) (part (p .start) (p .end) s) m) ≡ toldIs s ys (p .line) r
+  told-row k n name model m is of kinds named says written counts =
+      let y = rowIn n p name model in
+      rw (written, counts, is, sym named, sym says)
+      (name-told s xs (wordsOfRow y) l t (rowFrom s k y) (ready .within) refl (row-said s xs (t .names) name-fits k y of kinds))
 
 pub third-in : (s : List ℕ) (a e : ℕ) (x y z : Word) → FirstIn s a e x → FirstIn s (x .end) e y → FirstIn s (y .end) e z → part (z .start) (z .end) s ≡ thirdWord (words (part a e s))
 unfolding thirdWord
@@ -120,10 +110,10 @@ module _ (s xs : List ℕ) (l : Lengths) (t : Tally) (p : Spot) (ready : Ready s
 
   pub waveform-going : t .counts .waveforms < waveformBound l
       → loggedAt l s xs t p WaveformOpened
-      ≡ going (logOf s (sets xs (wavesFrom + 4 * t .counts .waveforms) (waveWords (p .start) (p .line) (p .next .comment) (t .counts .rows))) (record { names = t .names; counts = moreWaveforms (t .counts) }))
+      ≡ going (logOf s (sets xs (wavesFrom + wordsPerWave * t .counts .waveforms) (waveWords (p .start) (p .line) (p .next .comment) (t .counts .rows))) (record { names = t .names; counts = moreWaveforms (t .counts) }))
   unfolding logIn
   waveform-going h =
-      let n : t .names ≤ 872 = names-small t (ready .within) in
+      let n : t .names ≤ namesHeld = names-small t (ready .within) in
       rw (lt-leb (waveformBound l) (t .counts .waveforms) h)
       rw (log-wave s xs (t .names) (t .counts .waveforms) (p .start) (p .line) (p .next .comment) (t .counts .rows) (moreWaveforms (t .counts)) (omega (arith, n)) (omega (arith, h, ready .store)) refl)
       rw (ready .text .here) refl

@@ -13,7 +13,7 @@ use Rattle.rules.specs.Steps.{onPlain, onChange}
 use Rattle.records.specs.declared.Lengths.{Lengths}
 use Rattle.rules.specs.declared.Stage.{Stage}
 use Rattle.notes.specs.Noted.{Log, Finish, afterWent, runLog}
-use Rattle.note_words.specs.Store.{storeLength}
+use Rattle.note_words.specs.Store.{mostNames, storeLength}
 use Rattle.scan.specs.Events.{logOf, Within, Kept}
 use Rattle.scan.specs.declared.Spot.{Spot}
 use Rattle.scan.specs.declared.Tally.{Tally}
@@ -56,7 +56,7 @@ WithinAt t (Broken f) = Unit {0}
 
 pub record Ends (s xs : List ℕ) (f : Finish) (z : Scanned) : Type 0 where
   pub says : f ≡ finishIs s xs z
-  pub names : z .tally .names ≤ 873
+  pub names : z .tally .names ≤ mostNames
   pub within : WithinAt (z .tally) (z .ending)
 
 abbrev pub StepIs : Lengths → ℕ → List ℕ → List ℕ → Finish → Tally → Cursor → Turn → Type 0

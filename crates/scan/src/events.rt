@@ -1,12 +1,8 @@
 // What a line adds to the file is noted.
 ghost use mathlib.Core.Path.{_≡_};
-ghost use mathlib.Core.List.{List};
-ghost use Prim.Native.Nat.{ℕ, _+_, _≤_, _<_, _^_};
-ghost use lib.ListN.{length};
+ghost use Prim.Native.Nat.{_+_, _<_, _^_};
 ghost use Rattle.rules.specs.declared.Event.the-variants.{Opened, PinRow, ChoiceRow, WaveformOpened, TableRow, Ended};
-ghost use Rattle.notes.specs.Noted.{withNote};
-ghost use Rattle.note_words.specs.Store.{storeLength, kindOf, noteFrom};
-ghost use Rattle.scan.specs.Events.{logOf, toldIs, loggedAt, Within, KeptBy, Ready};
+ghost use Rattle.scan.specs.Events.{toldIs, loggedAt, counted, sectionIn, rowIn, Within, KeptBy, Ready};
 use crate::Spot;
 use crate::Tally;
 use crate::Told;
@@ -17,22 +13,30 @@ use crate::room::one_more;
 use crate::room::used_of;
 use crate::room::waveform_bound;
 use keywords::Section;
-use note_words::Noting;
+use note_words::OF_CHOICE;
+use note_words::OF_COMPONENT;
+use note_words::OF_MODEL;
+use note_words::OF_PIN;
+use note_words::OF_SELECTOR;
+use note_words::RowNote;
+use note_words::SectionNote;
+use note_words::put_row;
+use note_words::put_section;
+use note_words::put_wave;
 use records::Counts;
 use records::Kind;
 use records::Lengths;
 use rules::Event;
 use words::Word;
 
-// Notes a name, then asks for room in its table.
-fn note_name(notes: &mut [u32], l: Lengths, t: Tally, k: Kind, x: Noting) -> Told
-    requires { ⌜ (storeLength ≤ length (now notes)) × Within t × (kindOf (x .kind) ≡ k) ⌝ }
-    ensures { λ r. ⌜ ((s : List ℕ) → withNote l (logOf s (now (notes .entry)) t) (noteFrom s x k) ≡ toldIs s (now (notes .exit)) (x .line) r) ⌝ }
+// Counts a name that is noted, if its table has room.
+fn count_name(l: Lengths, t: Tally, k: Kind) -> Told
+    requires { ⌜ Within t ⌝ }
+    ensures { λ r. ⌜ r ≡ counted l t k ⌝ }
     ensures { λ r. ⌜ KeptBy t r ⌝ }
 {
     let counts = t.counts;
     let names = t.names;
-    note_words::put_name(notes, names, x);
     if bound_of(l, k) <= used_of(counts, k) {
         return Told::Full(
             17,
@@ -49,74 +53,79 @@ fn note_name(notes: &mut [u32], l: Lengths, t: Tally, k: Kind, x: Noting) -> Tol
 }
 
 // The note of a section whose name lies from a to e; start and row are the places of what is its own in other tables.
-fn section_noting(
-    kind: u32,
+fn section_note(
+    kind: usize,
     p: Spot,
     a: usize,
     e: usize,
     c: Counts,
     start: usize,
     row: usize,
-) -> Noting
-    requires { ⌜ (p .line < 2 ^ 32) × (a < 2 ^ 32) × (e < 2 ^ 32) × (start < 2 ^ 32) × (row < 2 ^ 32) × (p .next .at < 2 ^ 32) × (c .components + c .selectors + c .models < 2 ^ 32) ⌝ }
-    ensures { λ r. ⌜ r ≡ record { kind = kind; line = p .line; name = a; «name_end» = e; names = start; «names_end» = row; place = p .next .at; «place_end» = p .next .comment; section = c .components + c .selectors + c .models } ⌝ }
+) -> SectionNote
+    requires { ⌜ (kind < 2 ^ 32) × (p .line < 2 ^ 32) × (a < 2 ^ 32) × (e < 2 ^ 32) × (start < 2 ^ 32) × (row < 2 ^ 32) × (p .next .at < 2 ^ 32) × (c .components + c .selectors + c .models < 2 ^ 32) ⌝ }
+    ensures { λ r. ⌜ r ≡ sectionIn kind p a e c start row ⌝ }
 {
     let next = p.next;
-    Noting {
-        kind: kind,
+    SectionNote {
+        kind: kind as u32,
         line: p.line as u32,
         name: a as u32,
         name_end: e as u32,
-        names: start as u32,
-        names_end: row as u32,
-        place: next.at as u32,
-        place_end: next.comment as u32,
+        start: start as u32,
+        row: row as u32,
+        behind: next.at as u32,
+        comment: next.comment as u32,
         section: (c.components + c.selectors + c.models) as u32,
     }
 }
 
 // The note of a row with its name and the model it names.
-fn row_noting(kind: u32, p: Spot, x: Word, z: Word) -> Noting
-    requires { ⌜ (p .line < 2 ^ 32) × (p .start < 2 ^ 32) × (p .end < 2 ^ 32) × (x .start < 2 ^ 32) × (x .end < 2 ^ 32) × (z .start < 2 ^ 32) × (z .end < 2 ^ 32) ⌝ }
-    ensures { λ r. ⌜ r ≡ record { kind = kind; line = p .line; name = x .start; «name_end» = x .end; names = z .start; «names_end» = z .end; place = p .start; «place_end» = p .end; section = 0 } ⌝ }
+fn row_note(kind: usize, p: Spot, name: Word, model: Word) -> RowNote
+    requires { ⌜ (kind < 2 ^ 32) × (p .line < 2 ^ 32) × (p .start < 2 ^ 32) × (p .end < 2 ^ 32) × (name .start < 2 ^ 32) × (name .end < 2 ^ 32) × (model .start < 2 ^ 32) × (model .end < 2 ^ 32) ⌝ }
+    ensures { λ r. ⌜ r ≡ rowIn kind p name model ⌝ }
 {
-    Noting {
-        kind: kind,
+    RowNote {
+        kind: kind as u32,
         line: p.line as u32,
-        name: x.start as u32,
-        name_end: x.end as u32,
-        names: z.start as u32,
-        names_end: z.end as u32,
-        place: p.start as u32,
-        place_end: p.end as u32,
-        section: 0,
+        name: name.start as u32,
+        name_end: name.end as u32,
+        model: model.start as u32,
+        model_end: model.end as u32,
+        text: p.start as u32,
+        text_end: p.end as u32,
     }
 }
 
+// Notes a section, then asks for room in its table.
 fn note_section(notes: &mut [u32], src: &[u8], l: Lengths, t: Tally, p: Spot, o: Section) -> Told
     requires { ⌜ Ready (now src) (now notes) t p ⌝ }
     ensures { λ r. ⌜ loggedAt l (now (src .entry)) (now (notes .entry)) t p (Opened o) ≡ toldIs (now (src .entry)) (now (notes .exit)) (p .line) r ⌝ }
     ensures { λ r. ⌜ KeptBy t r ⌝ }
 {
     let c = t.counts;
+    let i = t.names;
     let a = argument_in(src, p.start, p.end);
     let w = first_in(src, a, p.end);
     match o {
         Section::Component => {
-            let x = section_noting(0, p, a, p.end, c, c.pins, 0);
-            note_name(notes, l, t, Kind::OfComponent, x)
+            let x = section_note(OF_COMPONENT, p, a, p.end, c, c.pins, 0);
+            put_section(notes, i, x);
+            count_name(l, t, Kind::OfComponent)
         }
         Section::Selector => {
-            let x = section_noting(2, p, w.start, w.end, c, c.choices, 0);
-            note_name(notes, l, t, Kind::OfSelector, x)
+            let x = section_note(OF_SELECTOR, p, w.start, w.end, c, c.choices, 0);
+            put_section(notes, i, x);
+            count_name(l, t, Kind::OfSelector)
         }
         Section::Model => {
-            let x = section_noting(4, p, w.start, w.end, c, c.waveforms, c.rows);
-            note_name(notes, l, t, Kind::OfModel, x)
+            let x = section_note(OF_MODEL, p, w.start, w.end, c, c.waveforms, c.rows);
+            put_section(notes, i, x);
+            count_name(l, t, Kind::OfModel)
         }
     }
 }
 
+// Notes a pin, then asks for room in the table of pins.
 fn note_pin(notes: &mut [u32], src: &[u8], l: Lengths, t: Tally, p: Spot) -> Told
     requires { ⌜ Ready (now src) (now notes) t p ⌝ }
     ensures { λ r. ⌜ loggedAt l (now (src .entry)) (now (notes .entry)) t p PinRow ≡ toldIs (now (src .entry)) (now (notes .exit)) (p .line) r ⌝ }
@@ -125,18 +134,21 @@ fn note_pin(notes: &mut [u32], src: &[u8], l: Lengths, t: Tally, p: Spot) -> Tol
     let name = first_in(src, p.start, p.end);
     let signal = first_in(src, name.end, p.end);
     let model = first_in(src, signal.end, p.end);
-    let x = row_noting(1, p, name, model);
-    note_name(notes, l, t, Kind::OfPin, x)
+    let x = row_note(OF_PIN, p, name, model);
+    put_row(notes, t.names, x);
+    count_name(l, t, Kind::OfPin)
 }
 
+// Notes a selector's row, then asks for room in their table.
 fn note_choice(notes: &mut [u32], src: &[u8], l: Lengths, t: Tally, p: Spot) -> Told
     requires { ⌜ Ready (now src) (now notes) t p ⌝ }
     ensures { λ r. ⌜ loggedAt l (now (src .entry)) (now (notes .entry)) t p ChoiceRow ≡ toldIs (now (src .entry)) (now (notes .exit)) (p .line) r ⌝ }
     ensures { λ r. ⌜ KeptBy t r ⌝ }
 {
     let name = first_in(src, p.start, p.end);
-    let x = row_noting(3, p, name, name);
-    note_name(notes, l, t, Kind::OfChoice, x)
+    let x = row_note(OF_CHOICE, p, name, name);
+    put_row(notes, t.names, x);
+    count_name(l, t, Kind::OfChoice)
 }
 
 fn note_waveform(notes: &mut [u32], src: &[u8], l: Lengths, t: Tally, p: Spot) -> Told
@@ -150,7 +162,7 @@ fn note_waveform(notes: &mut [u32], src: &[u8], l: Lengths, t: Tally, p: Spot) -
         return Told::Full(17, t);
     }
     let next = p.next;
-    note_words::put_wave(
+    put_wave(
         notes,
         j,
         p.start as u32,

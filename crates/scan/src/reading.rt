@@ -9,7 +9,7 @@ ghost use Rattle.rules.specs.declared.Stage.the-variants.{BeforeVersion};
 ghost use Rattle.records.specs.declared.Lengths.{Lengths};
 ghost use Rattle.notes.specs.Noted.{runLog, emptyLog, outOfLines};
 ghost use Rattle.scan.specs.declared.Ending.the-variants.{Broken};
-ghost use Rattle.note_words.specs.Store.{storeLength};
+ghost use Rattle.note_words.specs.Store.{mostNames, storeLength};
 ghost use Rattle.scan.specs.Events.{logOf, Ready, Within};
 ghost use Rattle.scan.specs.Scans.{textStep, changeStep, finishIs, StepIs, TurnIs, WithinAt, Sound};
 use crate::Ending;
@@ -132,7 +132,7 @@ fn turn(notes: &mut [u32], src: &[u8], l: Lengths, x: Standing) -> Turn
 pub fn scan(notes: &mut [u32], src: &[u8], l: Lengths) -> Scanned
     requires { ⌜ (length (now src) ≤ 65536) × (storeLength ≤ length (now notes)) ⌝ }
     ensures { λ r. ⌜ runLog l (past (now (src .entry)) firstCursor) BeforeVersion emptyLog (rest (now (src .entry)) firstCursor) ≡ finishIs (now (src .entry)) (now (notes .exit)) r ⌝ }
-    ensures { λ r. ⌜ (r .tally .names ≤ 873) × WithinAt (r .tally) (r .ending) ⌝ }
+    ensures { λ r. ⌜ (r .tally .names ≤ mostNames) × WithinAt (r .tally) (r .ending) ⌝ }
 {
     let mut x = Standing {
         stage: Stage::BeforeVersion,

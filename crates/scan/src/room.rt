@@ -7,6 +7,12 @@ use crate::Tally;
 use records::Counts;
 use records::Kind;
 use records::Lengths;
+use records::MOST_CHOICES;
+use records::MOST_COMPONENTS;
+use records::MOST_MODELS;
+use records::MOST_PINS;
+use records::MOST_SELECTORS;
+use records::MOST_WAVEFORMS;
 
 fn lesser(a: usize, b: usize) -> usize
     ensures { λ r. ⌜ r ≡ min a b ⌝ }
@@ -21,18 +27,18 @@ pub fn bound_of(l: Lengths, k: Kind) -> usize
     ensures { λ r. ⌜ r ≡ bound l k ⌝ }
 {
     match k {
-        Kind::OfComponent => lesser(8, l.components),
-        Kind::OfPin => lesser(512, l.pins),
-        Kind::OfSelector => lesser(32, l.selectors),
-        Kind::OfChoice => lesser(256, l.choices),
-        Kind::OfModel => lesser(64, l.models),
+        Kind::OfComponent => lesser(MOST_COMPONENTS, l.components),
+        Kind::OfPin => lesser(MOST_PINS, l.pins),
+        Kind::OfSelector => lesser(MOST_SELECTORS, l.selectors),
+        Kind::OfChoice => lesser(MOST_CHOICES, l.choices),
+        Kind::OfModel => lesser(MOST_MODELS, l.models),
     }
 }
 
 pub fn waveform_bound(l: Lengths) -> usize
     ensures { λ r. ⌜ r ≡ waveformBound l ⌝ }
 {
-    lesser(1024, l.waveforms)
+    lesser(MOST_WAVEFORMS, l.waveforms)
 }
 
 pub fn used_of(c: Counts, k: Kind) -> usize

@@ -9,7 +9,7 @@ use Rattle.from_notes.specs.Made.{componentAt, pinAt, selectorAt, choiceAt, mod
 use Rattle.records.specs.declared.Verdict.{Verdict}
 use Rattle.records.specs.declared.Verdict.the-variants.{Accepted, Refused}
 use Rattle.records.specs.declared.Answer.{Answer}
-use Rattle.record_words.specs.Records.{textWords, componentWords, pinWords, selectorWords, choiceWords, modelWords, waveformWords}
+use Rattle.record_words.specs.Records.{textWords, componentWords, pinWords, selectorWords, choiceWords, modelWords, waveformWords, componentSize, pinSize, selectorSize, choiceSize, modelSize, waveformSize}
 
 -- the words of the first n records
 unfoldable pub wordsTo : (ℕ → List ℕ) → ℕ → List ℕ
@@ -50,12 +50,12 @@ lent cs ps ss hs ms ws rs = record { components = cs; pins = ps; selectors = ss;
 -- ---- what the fills ask, and leave of what is noted: ns are the notes, and o says how many records they hold
 
 pub record Room (s ns : List ℕ) (o : Counts) (t : Lent) : Type 0 where
-  pub components : 26 * o .components ≤ length (t .components)
-  pub pins : 21 * o .pins ≤ length (t .pins)
-  pub selectors : 9 * o .selectors ≤ length (t .selectors)
-  pub choices : 22 * o .choices ≤ length (t .choices)
-  pub models : 54 * o .models ≤ length (t .models)
-  pub waveforms : 12 * o .waveforms ≤ length (t .waveforms)
+  pub components : componentSize * o .components ≤ length (t .components)
+  pub pins : pinSize * o .pins ≤ length (t .pins)
+  pub selectors : selectorSize * o .selectors ≤ length (t .selectors)
+  pub choices : choiceSize * o .choices ≤ length (t .choices)
+  pub models : modelSize * o .models ≤ length (t .models)
+  pub waveforms : waveformSize * o .waveforms ≤ length (t .waveforms)
   pub rows : length (stored (rowsAt s ns (o .models))) ≤ length (t .rows)
 
 abbrev pub filled : List ℕ → List ℕ → Counts → Lent → Lent

@@ -1,11 +1,17 @@
 // The answer and the tables as words, for C: a record is as many words as its fields need, and a table has its records one after the other.
 ghost use mathlib.Core.Path.{_≡_};
 ghost use Rattle.table_words.specs.Packed.{faultNumber, faultLine, countWords, answerWords, lent, Room, filled};
+use record_words::ANSWER_WORDS;
+use record_words::COUNT_WORDS;
+use record_words::TEXT_WORDS;
 use records::Answer;
 use records::Counts;
 use records::Verdict;
 
 pub mod fills; // fills.rt: tables as words
+
+// Where the words of the revision begin, behind those of the counts and the file's name.
+const REVISION_FROM: usize = COUNT_WORDS + TEXT_WORDS;
 
 pub fn fault_number(v: Verdict) -> u8
     ensures { λ r. ⌜ r ≡ faultNumber v ⌝ }
@@ -25,7 +31,7 @@ pub fn fault_line(v: Verdict) -> u64
     }
 }
 
-fn count_words(line: u64, c: Counts) -> [u64; 8]
+fn count_words(line: u64, c: Counts) -> [u64; COUNT_WORDS]
     ensures { λ r. ⌜ r ≡ countWords line c ⌝ }
 {
     [
@@ -40,7 +46,7 @@ fn count_words(line: u64, c: Counts) -> [u64; 8]
     ]
 }
 
-pub fn put_answer(answer: &mut [u64; 40], a: Answer)
+pub fn put_answer(answer: &mut [u64; ANSWER_WORDS], a: Answer)
     ensures { λ _. ⌜ now (answer .exit) ≡ answerWords a ⌝ }
 {
     let v = a.verdict;
@@ -48,8 +54,8 @@ pub fn put_answer(answer: &mut [u64; 40], a: Answer)
     let name = record_words::tables::text_words(a.header.name);
     let revision = record_words::tables::text_words(a.header.revision);
     fills::put(answer, 0, &head);
-    fills::put(answer, 8, &name);
-    fills::put(answer, 24, &revision);
+    fills::put(answer, COUNT_WORDS, &name);
+    fills::put(answer, REVISION_FROM, &revision);
 }
 
 pub fn fill_tables(

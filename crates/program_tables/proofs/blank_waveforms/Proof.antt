@@ -2,6 +2,7 @@
 use mathlib.Core.Path.{ap}
 use lib.ListN.{replicate}
 use borrow.Author.Needs.{needs}
+use Rattle.records.specs.Bounds.{mostWaveforms}
 use Rattle.records.specs.declared.Waveform.{Waveform}
 use Rattle.program_tables.specs.Shelved.{blankWaveforms}
 use Rattle.program_tables.proofs.blank_waveforms.Statement.{statement}
@@ -12,7 +13,7 @@ blank-waveform-requires c κs = search needs
 
 returns : tie.Need-returns
 unfolding blankWaveforms
-returns c = ap (λ (x : Waveform). replicate 1024 x) (c .blank-waveform .ensures)
+returns c = ap (λ (x : Waveform). replicate mostWaveforms x) (c .blank-waveform .ensures)
 
 pub blank-waveforms-spec : {M : Type 1} → statement M
 blank-waveforms-spec = tie.close (tie.spec blank-waveform-requires returns)

@@ -99,11 +99,11 @@ unfolding code.routine tablesOf
 read-spec 𝓤 H 𝓜 𝓖 𝓡 =
     entered 𝓤 H (tripleOf 𝓤 H (𝓖 .A) read.signature (read.spec 𝓤 H (𝓖 .A) (𝓜 .mem) (𝓡 .run)))
     (tables 𝓤 H 𝓜 𝓡 code.env .C) (tables 𝓤 H 𝓜 𝓡 code.env .Λ) #read code.function (code.unfolded 𝓤 H 𝓜 𝓡)
-    (read-meets R.components R.pins R.selectors R.choices R.models R.waveforms R.rows R.lengths answer R.counts lengthsOf wants tells Outlines (λ (r : Answer). r .counts) components pins selectors choices models waveforms rows Read 12825 blankNotes #lengths-of #outlined #counts-of #fill-components #fill-pins #fill-selectors #fill-choices #fill-models #fill-waveforms #fill-rows
+    (read-meets R.components R.pins R.selectors R.choices R.models R.waveforms R.rows R.lengths answer R.counts lengthsOf wants tells Outlines (λ (r : Answer). r .counts) components pins selectors choices models waveforms rows Read storeLength blankNotes #lengths-of #outlined #counts-of #fill-components #fill-pins #fill-selectors #fill-choices #fill-models #fill-waveforms #fill-rows
     R.components-elem R.pins-elem R.selectors-elem R.choices-elem R.models-elem R.waveforms-elem R.rows-elem R.lengths-elem answer-elem R.counts-elem (lit< tt, lit< tt) blank-is (λ M 𝓤 s l. factI 𝓤 _ (emp 𝓤) long-enough) (λ M 𝓤 s l r ns. id⊢ 𝓤 _) fits finishes 𝓤 H (𝓖 .A) (givenOf 𝓤 H 𝓜 𝓖) (tablesOf 𝓤 H 𝓜 (tables 𝓤 H 𝓜 𝓡 code.env))
-    (cited 𝓤 H (Lengthened R.components R.pins R.selectors R.choices R.models R.waveforms R.rows R.lengths answer R.counts lengthsOf wants tells Outlines (λ (r : Answer). r .counts) components pins selectors choices models waveforms rows Read 12825 blankNotes #lengths-of #outlined #counts-of #fill-components #fill-pins #fill-selectors #fill-choices #fill-models #fill-waveforms #fill-rows 𝓤 H (𝓖 .A)) 𝓜 𝓡 code.env #lengths-of lengths-of-def.routine code.calls-reader·lengths-of (lengths-of-thm.met 𝓤 H 𝓜 𝓖 𝓡))
-    (cited 𝓤 H (Outlining R.components R.pins R.selectors R.choices R.models R.waveforms R.rows R.lengths answer R.counts lengthsOf wants tells Outlines (λ (r : Answer). r .counts) components pins selectors choices models waveforms rows Read 12825 blankNotes #lengths-of #outlined #counts-of #fill-components #fill-pins #fill-selectors #fill-choices #fill-models #fill-waveforms #fill-rows 𝓤 H (𝓖 .A)) 𝓜 𝓡 code.env #outlined outlined-def.routine code.calls-file-answer·settling·outlined (outlined-thm.met 𝓤 H 𝓜 𝓖 𝓡))
-    (cited 𝓤 H (Counted R.components R.pins R.selectors R.choices R.models R.waveforms R.rows R.lengths answer R.counts lengthsOf wants tells Outlines (λ (r : Answer). r .counts) components pins selectors choices models waveforms rows Read 12825 blankNotes #lengths-of #outlined #counts-of #fill-components #fill-pins #fill-selectors #fill-choices #fill-models #fill-waveforms #fill-rows 𝓤 H (𝓖 .A)) 𝓜 𝓡 code.env #counts-of counts-of-def.routine code.calls-reader·counts-of (counts-of-thm.met 𝓤 H 𝓜 𝓖 𝓡))
+    (cited 𝓤 H (Lengthened R.components R.pins R.selectors R.choices R.models R.waveforms R.rows R.lengths answer R.counts lengthsOf wants tells Outlines (λ (r : Answer). r .counts) components pins selectors choices models waveforms rows Read storeLength blankNotes #lengths-of #outlined #counts-of #fill-components #fill-pins #fill-selectors #fill-choices #fill-models #fill-waveforms #fill-rows 𝓤 H (𝓖 .A)) 𝓜 𝓡 code.env #lengths-of lengths-of-def.routine code.calls-reader·lengths-of (lengths-of-thm.met 𝓤 H 𝓜 𝓖 𝓡))
+    (cited 𝓤 H (Outlining R.components R.pins R.selectors R.choices R.models R.waveforms R.rows R.lengths answer R.counts lengthsOf wants tells Outlines (λ (r : Answer). r .counts) components pins selectors choices models waveforms rows Read storeLength blankNotes #lengths-of #outlined #counts-of #fill-components #fill-pins #fill-selectors #fill-choices #fill-models #fill-waveforms #fill-rows 𝓤 H (𝓖 .A)) 𝓜 𝓡 code.env #outlined outlined-def.routine code.calls-file-answer·settling·outlined (outlined-thm.met 𝓤 H 𝓜 𝓖 𝓡))
+    (cited 𝓤 H (Counted R.components R.pins R.selectors R.choices R.models R.waveforms R.rows R.lengths answer R.counts lengthsOf wants tells Outlines (λ (r : Answer). r .counts) components pins selectors choices models waveforms rows Read storeLength blankNotes #lengths-of #outlined #counts-of #fill-components #fill-pins #fill-selectors #fill-choices #fill-models #fill-waveforms #fill-rows 𝓤 H (𝓖 .A)) 𝓜 𝓡 code.env #counts-of counts-of-def.routine code.calls-reader·counts-of (counts-of-thm.met 𝓤 H 𝓜 𝓖 𝓡))
     (cited 𝓤 H (Fill R.counts R.components components 𝓤 H (𝓖 .A)) 𝓜 𝓡 code.env #fill-components fill-components-def.routine code.calls-reader·fill-components (fill-components-thm.met 𝓤 H 𝓜 𝓖 𝓡))
     (cited 𝓤 H (Fill R.counts R.pins pins 𝓤 H (𝓖 .A)) 𝓜 𝓡 code.env #fill-pins fill-pins-def.routine code.calls-reader·fill-pins (fill-pins-thm.met 𝓤 H 𝓜 𝓖 𝓡))
     (cited 𝓤 H (Fill R.counts R.selectors selectors 𝓤 H (𝓖 .A)) 𝓜 𝓡 code.env #fill-selectors fill-selectors-def.routine code.calls-reader·fill-selectors (fill-selectors-thm.met 𝓤 H 𝓜 𝓖 𝓡))

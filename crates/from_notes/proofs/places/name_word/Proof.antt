@@ -3,12 +3,13 @@ use Prim.Native.Nat.{_+_, _*_}
 use native.Mathlib.Omega.{arith}
 use borrow.Author.Needs.{needs}
 use denote.Ref.{now}
+use Rattle.note_words.specs.Store.{wordsPerName}
 use Rattle.from_notes.proofs.Words.{word-past}
 use Rattle.from_notes.proofs.places.name_word.Statement.{statement}
 use Rattle.from_notes.proofs.places.name_word.Tie as tie
 
 returns : tie.Need-returns
-returns c = word-past (now (c .before .before .args .notes)) (9 * c .before .before .args .n + c .before .before .args .j) (omega arith)
+returns c = word-past (now (c .before .before .args .notes)) (wordsPerName * c .before .before .args .n + c .before .before .args .j) (omega arith)
 
 mul-word-behind : tie.Need-mul-word-behind
 mul-word-behind c = search needs

@@ -3,13 +3,13 @@ use Prim.Native.Nat.{_+_, _*_}
 use native.Mathlib.Omega.{arith}
 use borrow.Author.Needs.{needs}
 use denote.Ref.{now}
-use Rattle.note_words.specs.Store.{wavesFrom}
+use Rattle.note_words.specs.Store.{wavesFrom, wordsPerWave}
 use Rattle.from_notes.proofs.Words.{word-past}
 use Rattle.from_notes.proofs.places.wave_word.Statement.{statement}
 use Rattle.from_notes.proofs.places.wave_word.Tie as tie
 
 returns : tie.Need-returns
-returns c = word-past (now (c .before .before .args .notes)) (wavesFrom + 4 * c .before .before .args .n + c .before .before .args .j) (omega arith)
+returns c = word-past (now (c .before .before .args .notes)) (wavesFrom + wordsPerWave * c .before .before .args .n + c .before .before .args .j) (omega arith)
 
 mul-word-behind : tie.Need-mul-word-behind
 mul-word-behind c = search needs

@@ -4,6 +4,7 @@ use mathlib.Core.Path.{sym}
 use native.Mathlib.Omega.{arith}
 use borrow.Author.Needs.{needs}
 use denote.Ref.{now}
+use Rattle.note_words.specs.Store.{wordsPerName}
 use Rattle.from_notes.specs.Made.{modelAt}
 use Rattle.from_notes.proofs.Sections.{model-noted}
 use Rattle.from_notes.proofs.tables.model_at.Statement.{statement}
@@ -28,7 +29,7 @@ name-noted-requires : tie.Need-name-noted-requires
 name-noted-requires c κs = search needs
 
 model-of-requires : tie.Need-model-of-requires
-model-of-requires c κs = (c .before .section-noted .ensures .placed, omega (arith, c .before .before .before .name-word2 .ensures, c .before .before .before .before .before .before .shared-slice-known2 .given (9 * c .before .before .before .before .before .word-behind .result + 5)))
+model-of-requires c κs = (c .before .section-noted .ensures .placed, omega (arith, c .before .before .before .name-word2 .ensures, c .before .before .before .before .before .before .shared-slice-known2 .given (wordsPerName * c .before .before .before .before .before .word-behind .result + 5)))
 
 returns : tie.Need-returns
 unfolding modelAt

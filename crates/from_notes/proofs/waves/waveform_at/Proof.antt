@@ -6,7 +6,7 @@ use native.Mathlib.Omega.{arith}
 use borrow.Author.Needs.{needs}
 use denote.Ref.{now}
 use Rattle.layout.specs.Laid.{waveformLaid}
-use Rattle.note_words.specs.Store.{wavesFrom, waveAt}
+use Rattle.note_words.specs.Store.{wavesFrom, wordsPerWave, waveAt}
 use Rattle.layout_by_notes.specs.Lies.{waveformFrom, waveNoted}
 use Rattle.from_notes.specs.Made.{waveformAt}
 use Rattle.from_notes.proofs.Numberless.{stands, waveform-numberless}
@@ -32,7 +32,7 @@ returns : tie.Need-returns
 unfolding waveformAt waveNoted waveAt
 returns c =
     let ns = now (c .before .before .before .before .before .before .before .args .notes) in
-    let at : ℕ = wavesFrom + 4 * c .before .before .before .before .before .before .before .args .i in
+    let at : ℕ = wavesFrom + wordsPerWave * c .before .before .before .before .before .before .before .args .i in
     let z : c .before .before .before .before .wave-word .result ≡ getD ns at 0 = c .before .before .before .before .wave-word .ensures ∙ ap (λ (k : ℕ). getD ns k 0) (omega arith) in
     rw (c .waveform-from .ensures, c .before .before .wave-word3 .ensures, sym (c .before .before .before .wave-word2 .ensures), sym z)
     (ap (waveformLaid (getD ns (at + 3) 0)) (stands waveformFrom waveform-numberless (c .before .cursor-at .ensures) (getD ns (at + 1) 0)))

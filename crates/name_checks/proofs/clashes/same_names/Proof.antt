@@ -5,7 +5,7 @@ use native.Mathlib.Omega.{arith}
 use borrow.Author.Needs.{needs}
 use denote.Ref.{now}
 use borrow.Author.Tests.{not-true}
-use Rattle.name_checks.specs.Lookup.{nameAt}
+use Rattle.note_words.specs.Store.{wordsPerName, nameAt}
 use Rattle.name_checks.proofs.NoteLaws.{parts-said}
 use Rattle.name_checks.proofs.ClashLaws.{keys-apart}
 use Rattle.name_checks.proofs.clashes.same_names.Statement.{statement}
@@ -40,9 +40,9 @@ same-parts-requires c κs = search needs
 returns-2 : tie.Need-returns-2
 returns-2 c =
     let a = c .before .before .before .before .before .before .args in
-    let e : 9 * (a .i) + 3 ≡ 9 * (a .i) + 2 + 1 = omega arith in
-    let f : 9 * (a .j) + 3 ≡ 9 * (a .j) + 2 + 1 = omega arith in
-    parts-said (now (a .src)) (now (a .notes)) (c .before .before .part-at .result) (c .before .part-at2 .result) (9 * (a .i) + 2) (9 * (a .j) + 2) (c .before .before .part-at .ensures) (c .before .part-at2 .ensures) (c .same-parts .result) (c .same-parts .ensures) (9 * (a .i) + 3) (9 * (a .j) + 3) e f
+    let e : wordsPerName * (a .i) + 3 ≡ wordsPerName * (a .i) + 2 + 1 = omega arith in
+    let f : wordsPerName * (a .j) + 3 ≡ wordsPerName * (a .j) + 2 + 1 = omega arith in
+    parts-said (now (a .src)) (now (a .notes)) (c .before .before .part-at .result) (c .before .part-at2 .result) (wordsPerName * (a .i) + 2) (wordsPerName * (a .j) + 2) (c .before .before .part-at .ensures) (c .before .part-at2 .ensures) (c .same-parts .result) (c .same-parts .ensures) (wordsPerName * (a .i) + 3) (wordsPerName * (a .j) + 3) e f
 
 pub same-names-spec : {M : Type 1} → statement M
 same-names-spec =

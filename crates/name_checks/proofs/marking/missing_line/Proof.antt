@@ -6,7 +6,7 @@ use borrow.Author.Needs.{needs}
 use denote.Ref.{now}
 use mathlib.Core.Bool.{Bool, cond}
 use Rattle.line_rules.specs.Fields.{needsNoModel}
-use Rattle.name_checks.specs.Lookup.{lineAt}
+use Rattle.note_words.specs.Store.{wordsPerName, lineAt}
 use Rattle.name_checks.proofs.NoteLaws.{part-said}
 use Rattle.name_checks.proofs.TargetLaws.{missing-pin, missing-row, missing-section}
 use Rattle.name_checks.proofs.marking.missing_line.Statement.{statement}
@@ -42,10 +42,10 @@ needs-no-model-requires c κs = search needs
 returns : tie.Need-returns
 returns c =
     let a = c .before .before .before .before .before .before .before .before .before .args in
-    let e : 9 * (a .i) + 5 ≡ 9 * (a .i) + 4 + 1 = omega arith in
+    let e : wordsPerName * (a .i) + 5 ≡ wordsPerName * (a .i) + 4 + 1 = omega arith in
     ap (λ (t : Bool). cond t (a .later) (lineAt (now (a .notes)) (a .i))) (sym (c .if2 .taken))
     ∙ missing-pin (now (a .src)) (now (a .notes)) (a .i) (c .before .before .before .before .before .before .kind-at .result) (a .later) (c .before .before .before .before .before .before .kind-at .ensures) (c .before .needs-no-model .result) (c .before .before .before .before .before .if1 .taken)
-    (c .before .needs-no-model .ensures ∙ ap needsNoModel (part-said (now (a .src)) (now (a .notes)) (c .before .before .before .before .part-at .result) (c .before .before .before .within .result) (9 * (a .i) + 4) (c .before .before .before .before .part-at .ensures) (c .before .before .before .within .ensures) (9 * (a .i) + 5) e))
+    (c .before .needs-no-model .ensures ∙ ap needsNoModel (part-said (now (a .src)) (now (a .notes)) (c .before .before .before .before .part-at .result) (c .before .before .before .within .result) (wordsPerName * (a .i) + 4) (c .before .before .before .before .part-at .ensures) (c .before .before .before .within .ensures) (wordsPerName * (a .i) + 5) e))
 
 line-at-requires : tie.Need-line-at-requires
 line-at-requires c κs = search needs
@@ -53,11 +53,11 @@ line-at-requires c κs = search needs
 returns-2 : tie.Need-returns-2
 returns-2 c =
     let a = c .before .before .before .before .before .before .before .before .before .before .args in
-    let e : 9 * (a .i) + 5 ≡ 9 * (a .i) + 4 + 1 = omega arith in
+    let e : wordsPerName * (a .i) + 5 ≡ wordsPerName * (a .i) + 4 + 1 = omega arith in
     c .line-at .ensures
     ∙ ap (λ (t : Bool). cond t (a .later) (lineAt (now (a .notes)) (a .i))) (sym (c .before .if2 .left))
     ∙ missing-pin (now (a .src)) (now (a .notes)) (a .i) (c .before .before .before .before .before .before .before .kind-at .result) (a .later) (c .before .before .before .before .before .before .before .kind-at .ensures) (c .before .before .needs-no-model .result) (c .before .before .before .before .before .before .if1 .taken)
-    (c .before .before .needs-no-model .ensures ∙ ap needsNoModel (part-said (now (a .src)) (now (a .notes)) (c .before .before .before .before .before .part-at .result) (c .before .before .before .before .within .result) (9 * (a .i) + 4) (c .before .before .before .before .before .part-at .ensures) (c .before .before .before .before .within .ensures) (9 * (a .i) + 5) e))
+    (c .before .before .needs-no-model .ensures ∙ ap needsNoModel (part-said (now (a .src)) (now (a .notes)) (c .before .before .before .before .before .part-at .result) (c .before .before .before .before .within .result) (wordsPerName * (a .i) + 4) (c .before .before .before .before .before .part-at .ensures) (c .before .before .before .before .within .ensures) (wordsPerName * (a .i) + 5) e))
 
 line-at-requires-2 : tie.Need-line-at-requires-2
 line-at-requires-2 c κs = search needs

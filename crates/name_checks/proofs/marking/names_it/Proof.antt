@@ -4,6 +4,7 @@ use mathlib.Core.Path.{_≡_, sym, _∙_}
 use native.Mathlib.Omega.{arith}
 use borrow.Author.Needs.{needs}
 use denote.Ref.{now}
+use Rattle.note_words.specs.Store.{wordsPerName}
 use Rattle.name_checks.proofs.NoteLaws.{parts-said}
 use Rattle.name_checks.proofs.TargetLaws.{reach-may, reach-not}
 use Rattle.name_checks.proofs.marking.names_it.Statement.{statement}
@@ -42,10 +43,10 @@ same-parts-requires c κs = search needs
 returns : tie.Need-returns
 returns c =
     let a = c .before .before .before .before .before .before .before .before .before .args in
-    let e : 9 * (a .i) + 5 ≡ 9 * (a .i) + 4 + 1 = omega arith in
-    let f : 9 * (a .j) + 3 ≡ 9 * (a .j) + 2 + 1 = omega arith in
+    let e : wordsPerName * (a .i) + 5 ≡ wordsPerName * (a .i) + 4 + 1 = omega arith in
+    let f : wordsPerName * (a .j) + 3 ≡ wordsPerName * (a .j) + 2 + 1 = omega arith in
     reach-may (now (a .src)) (now (a .notes)) (a .i) (a .j) (c .before .before .before .before .before .before .kind-at .result) (c .before .before .before .before .before .kind-at2 .result) (c .before .before .before .before .before .before .kind-at .ensures) (c .before .before .before .before .before .kind-at2 .ensures) (c .same-parts .result) (sym (c .before .before .before .before .may-name .ensures) ∙ c .before .before .before .if1 .taken)
-    (parts-said (now (a .src)) (now (a .notes)) (c .before .before .part-at .result) (c .before .part-at2 .result) (9 * (a .i) + 4) (9 * (a .j) + 2) (c .before .before .part-at .ensures) (c .before .part-at2 .ensures) (c .same-parts .result) (c .same-parts .ensures) (9 * (a .i) + 5) (9 * (a .j) + 3) e f)
+    (parts-said (now (a .src)) (now (a .notes)) (c .before .before .part-at .result) (c .before .part-at2 .result) (wordsPerName * (a .i) + 4) (wordsPerName * (a .j) + 2) (c .before .before .part-at .ensures) (c .before .part-at2 .ensures) (c .same-parts .result) (c .same-parts .ensures) (wordsPerName * (a .i) + 5) (wordsPerName * (a .j) + 3) e f)
 
 returns-2 : tie.Need-returns-2
 returns-2 c =

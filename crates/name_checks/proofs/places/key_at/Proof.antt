@@ -4,6 +4,7 @@ use mathlib.Core.Path.{_≡_, ap, _∙_}
 use native.Mathlib.Omega.{arith}
 use borrow.Author.Needs.{needs}
 use denote.Ref.{now}
+use Rattle.note_words.specs.Store.{wordsPerName}
 use Rattle.name_checks.specs.Lookup.{keyFrom}
 use Rattle.name_checks.proofs.NoteLaws.{part-said}
 use Rattle.name_checks.proofs.places.key_at.Statement.{statement}
@@ -36,8 +37,8 @@ name-key-requires c κs = search needs
 returns : tie.Need-returns
 returns c =
     let a = c .before .before .before .before .before .before .args in
-    let e : 9 * (a .i) + 3 ≡ 9 * (a .i) + 2 + 1 = omega arith in
-    c .name-key .ensures ∙ ap (keyFrom 0) (part-said (now (a .src)) (now (a .notes)) (c .before .before .before .part-at .result) (c .before .before .within .result) (9 * (a .i) + 2) (c .before .before .before .part-at .ensures) (c .before .before .within .ensures) (9 * (a .i) + 3) e)
+    let e : wordsPerName * (a .i) + 3 ≡ wordsPerName * (a .i) + 2 + 1 = omega arith in
+    c .name-key .ensures ∙ ap (keyFrom 0) (part-said (now (a .src)) (now (a .notes)) (c .before .before .before .part-at .result) (c .before .before .within .result) (wordsPerName * (a .i) + 2) (c .before .before .before .part-at .ensures) (c .before .before .within .ensures) (wordsPerName * (a .i) + 3) e)
 
 pub key-at-spec : {M : Type 1} → statement M
 key-at-spec =

@@ -5,19 +5,20 @@ use lib.ListN.{length, length-set, length-replicate}
 use native.Mathlib.Omega.{arith}
 use borrow.Author.Needs.{needs}
 use denote.Ref.{now}
+use Rattle.note_words.specs.Store.{mostNames}
 use Rattle.name_checks.specs.Lookup.{Keyed}
 use Rattle.name_checks.proofs.ClashLaws.{keyed-next}
 use Rattle.name_checks.proofs.places.keys_of.Statement.{statement}
 use Rattle.name_checks.proofs.places.keys_of.Tie as tie
 
 abbrev Inv-loop : tie.InvT-loop
-Inv-loop src notes n keys₀ i₀ keys i = (i ≤ n) × (length keys ≡ 873) × Keyed src notes i keys
+Inv-loop src notes n keys₀ i₀ keys i = (i ≤ n) × (length keys ≡ mostNames) × Keyed src notes i keys
 
 abbrev μ-loop : tie.MeasureT-loop
 μ-loop src notes n keys₀ i₀ keys i = n - i
 
 loop-holds : tie.Need-loop-holds Inv-loop μ-loop
-loop-holds c = (omega arith, length-replicate {A = ℕ} 873 0, λ j h. absurd (omega (arith, h)))
+loop-holds c = (omega arith, length-replicate {A = ℕ} mostNames 0, λ j h. absurd (omega (arith, h)))
 
 key-at-requires : tie.Need-key-at-requires Inv-loop μ-loop
 key-at-requires c κs = search needs

@@ -1,25 +1,26 @@
 -- By the number of the kind.
 use mathlib.Core.Path.{refl}
 use Rattle.laws.proofs.Numbers.{apart-le}
+use Rattle.note_words.specs.Store.{kindOf}
 use Rattle.name_checks.specs.Lookup.{kindFrom}
 use Rattle.name_checks.proofs.SortLaws.{from-last}
 use Rattle.name_checks.proofs.sorting.kind_from.Statement.{statement}
 use Rattle.name_checks.proofs.sorting.kind_from.Tie as tie
 
 returns : tie.Need-returns
-unfolding kindFrom
+unfolding kindFrom kindOf
 returns c = rw (c .match .keys1) refl
 
 returns-2 : tie.Need-returns-2
-unfolding kindFrom
+unfolding kindFrom kindOf
 returns-2 c = rw (c .match .keys2) refl
 
 returns-3 : tie.Need-returns-3
-unfolding kindFrom
+unfolding kindFrom kindOf
 returns-3 c = rw (c .match .keys3) refl
 
 returns-4 : tie.Need-returns-4
-unfolding kindFrom
+unfolding kindFrom kindOf
 returns-4 c = rw (c .match .keys4) refl
 
 returns-5 : tie.Need-returns-5

@@ -7,7 +7,7 @@ use borrow.Author.Needs.{needs}
 use denote.Ref.{now}
 use Rattle.records.specs.Stored.{over}
 use Rattle.from_notes.specs.Made.{componentAt}
-use Rattle.record_words.specs.Records.{componentWords}
+use Rattle.record_words.specs.Records.{componentWords, componentSize}
 use Rattle.table_words.specs.Packed.{wordsTo}
 use Rattle.table_words.proofs.Laws.{words-none, words-keep, words-room, words-turn}
 use Rattle.table_words.proofs.fills.fill_components.Statement.{statement}
@@ -34,13 +34,13 @@ component-words-requires : tie.Need-component-words-requires Inv-loop μ-loop
 component-words-requires c κs = search needs
 
 mul-put : tie.Need-mul-put Inv-loop μ-loop
-mul-put c = omega (arith, words-room (λ (k : ℕ). componentWords (componentAt (now (c .before .before .before .before .before .before .before .before .args .src)) (now (c .before .before .before .before .before .before .before .before .args .notes)) k)) 26 (λ k. refl) (now (c .before .before .before .before .before .before .before .before .args .out)) (c .before .before .before .before .loop .out) (c .before .before .before .before .loop .i) (c .before .before .before .before .before .before .before .before .args .n) (c .before .before .before .before .loop .inv .1) (c .before .before .before .before .before .before .before .before .pre) (c .before .before .before .loop-test .taken), words-keep (λ (k : ℕ). componentWords (componentAt (now (c .before .before .before .before .before .before .before .before .args .src)) (now (c .before .before .before .before .before .before .before .before .args .notes)) k)) 26 (λ k. refl) (now (c .before .before .before .before .before .before .before .before .args .out)) (c .before .before .before .before .loop .out) (c .before .before .before .before .loop .i) (c .before .before .before .before .before .before .before .before .args .n) (c .before .before .before .before .loop .inv .1) (c .before .before .before .before .before .before .before .before .pre) (c .before .before .before .before .loop .inv .0), c .before .before .before .before .before .before .before .before .good)
+mul-put c = omega (arith, words-room (λ (k : ℕ). componentWords (componentAt (now (c .before .before .before .before .before .before .before .before .args .src)) (now (c .before .before .before .before .before .before .before .before .args .notes)) k)) componentSize (λ k. refl) (now (c .before .before .before .before .before .before .before .before .args .out)) (c .before .before .before .before .loop .out) (c .before .before .before .before .loop .i) (c .before .before .before .before .before .before .before .before .args .n) (c .before .before .before .before .loop .inv .1) (c .before .before .before .before .before .before .before .before .pre) (c .before .before .before .loop-test .taken), words-keep (λ (k : ℕ). componentWords (componentAt (now (c .before .before .before .before .before .before .before .before .args .src)) (now (c .before .before .before .before .before .before .before .before .args .notes)) k)) componentSize (λ k. refl) (now (c .before .before .before .before .before .before .before .before .args .out)) (c .before .before .before .before .loop .out) (c .before .before .before .before .loop .i) (c .before .before .before .before .before .before .before .before .args .n) (c .before .before .before .before .loop .inv .1) (c .before .before .before .before .before .before .before .before .pre) (c .before .before .before .before .loop .inv .0), c .before .before .before .before .before .before .before .before .good)
 
 slice-aggregate-put : tie.Need-slice-aggregate-put Inv-loop μ-loop
 slice-aggregate-put c = search needs
 
 put-requires : tie.Need-put-requires Inv-loop μ-loop
-put-requires c κs = omega (arith, ap length (c .before .before .component-words .ensures), words-room (λ (k : ℕ). componentWords (componentAt (now (c .before .before .before .before .before .before .before .before .before .args .src)) (now (c .before .before .before .before .before .before .before .before .before .args .notes)) k)) 26 (λ k. refl) (now (c .before .before .before .before .before .before .before .before .before .args .out)) (c .before .before .before .before .before .loop .out) (c .before .before .before .before .before .loop .i) (c .before .before .before .before .before .before .before .before .before .args .n) (c .before .before .before .before .before .loop .inv .1) (c .before .before .before .before .before .before .before .before .before .pre) (c .before .before .before .before .loop-test .taken))
+put-requires c κs = omega (arith, ap length (c .before .before .component-words .ensures), words-room (λ (k : ℕ). componentWords (componentAt (now (c .before .before .before .before .before .before .before .before .before .args .src)) (now (c .before .before .before .before .before .before .before .before .before .args .notes)) k)) componentSize (λ k. refl) (now (c .before .before .before .before .before .before .before .before .before .args .out)) (c .before .before .before .before .before .loop .out) (c .before .before .before .before .before .loop .i) (c .before .before .before .before .before .before .before .before .before .args .n) (c .before .before .before .before .before .loop .inv .1) (c .before .before .before .before .before .before .before .before .before .pre) (c .before .before .before .before .loop-test .taken))
 
 add-i : tie.Need-add-i Inv-loop μ-loop
 add-i c = search needs
@@ -49,10 +49,10 @@ loop-less : tie.Need-loop-less Inv-loop μ-loop
 loop-less c = omega arith
 
 loop-again : tie.Need-loop-again Inv-loop μ-loop
-loop-again c = (omega (arith, c .before .before .before .before .before .before .before .loop-test .taken), c .before .before .put .ensures ∙ words-turn (λ (k : ℕ). componentWords (componentAt (now (c .before .before .before .before .before .before .before .before .before .before .before .before .args .src)) (now (c .before .before .before .before .before .before .before .before .before .before .before .before .args .notes)) k)) 26 (λ k. refl) (now (c .before .before .before .before .before .before .before .before .before .before .before .before .args .out)) (c .before .before .before .before .before .before .before .before .loop .out) (c .before .before .before .before .before .before .before .before .loop .i) (c .before .before .before .before .before .before .before .before .before .before .before .before .args .n) (c .before .before .before .before .before .before .before .before .loop .inv .1) (c .before .before .before .before .before .before .before .before .before .before .before .before .pre) (c .before .before .before .before .before .component-words .result) (c .before .before .before .before .before .before .before .loop-test .taken) (c .before .before .before .before .before .component-words .ensures ∙ ap componentWords (c .before .before .before .before .before .before .component-at .ensures)))
+loop-again c = (omega (arith, c .before .before .before .before .before .before .before .loop-test .taken), c .before .before .put .ensures ∙ words-turn (λ (k : ℕ). componentWords (componentAt (now (c .before .before .before .before .before .before .before .before .before .before .before .before .args .src)) (now (c .before .before .before .before .before .before .before .before .before .before .before .before .args .notes)) k)) componentSize (λ k. refl) (now (c .before .before .before .before .before .before .before .before .before .before .before .before .args .out)) (c .before .before .before .before .before .before .before .before .loop .out) (c .before .before .before .before .before .before .before .before .loop .i) (c .before .before .before .before .before .before .before .before .before .before .before .before .args .n) (c .before .before .before .before .before .before .before .before .loop .inv .1) (c .before .before .before .before .before .before .before .before .before .before .before .before .pre) (c .before .before .before .before .before .component-words .result) (c .before .before .before .before .before .before .before .loop-test .taken) (c .before .before .before .before .before .component-words .ensures ∙ ap componentWords (c .before .before .before .before .before .before .component-at .ensures)))
 
 same-length : tie.Need-same-length Inv-loop μ-loop
-same-length c = words-keep (λ (k : ℕ). componentWords (componentAt (now (c .before .before .before .before .before .args .src)) (now (c .before .before .before .before .before .args .notes)) k)) 26 (λ k. refl) (now (c .before .before .before .before .before .args .out)) (c .before .loop .out) (c .before .loop .i) (c .before .before .before .before .before .args .n) (c .before .loop .inv .1) (c .before .before .before .before .before .pre) (c .before .loop .inv .0)
+same-length c = words-keep (λ (k : ℕ). componentWords (componentAt (now (c .before .before .before .before .before .args .src)) (now (c .before .before .before .before .before .args .notes)) k)) componentSize (λ k. refl) (now (c .before .before .before .before .before .args .out)) (c .before .loop .out) (c .before .loop .i) (c .before .before .before .before .before .args .n) (c .before .loop .inv .1) (c .before .before .before .before .before .pre) (c .before .loop .inv .0)
 
 returns : tie.Need-returns Inv-loop μ-loop
 returns c = let e : c .before .loop .i ≡ c .before .before .before .before .before .args .n = omega (arith, c .loop-test .left, c .before .loop .inv .0) in rw (sym e) (c .before .loop .inv .1)

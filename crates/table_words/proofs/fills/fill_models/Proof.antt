@@ -6,7 +6,7 @@ use borrow.Author.Needs.{needs}
 use denote.Ref.{now}
 use Rattle.records.specs.Stored.{over}
 use Rattle.from_notes.specs.Made.{modelAt}
-use Rattle.record_words.specs.Records.{modelWords}
+use Rattle.record_words.specs.Records.{modelWords, modelSize}
 use Rattle.table_words.specs.Packed.{wordsTo}
 use Rattle.table_words.proofs.Laws.{words-none, words-keep, words-room, words-turn}
 use Rattle.table_words.proofs.fills.fill_models.Statement.{statement}
@@ -29,10 +29,10 @@ model-at-requires : tie.Need-model-at-requires Inv-loop μ-loop
 model-at-requires c κs = search needs
 
 mul-put-model : tie.Need-mul-put-model Inv-loop μ-loop
-mul-put-model c = omega (arith, words-room (λ (k : ℕ). modelWords (modelAt (now (c .before .before .before .before .before .before .before .args .src)) (now (c .before .before .before .before .before .before .before .args .notes)) k)) 54 (λ k. refl) (now (c .before .before .before .before .before .before .before .args .out)) (c .before .before .before .loop .out) (c .before .before .before .loop .i) (c .before .before .before .before .before .before .before .args .n) (c .before .before .before .loop .inv .1) (c .before .before .before .before .before .before .before .pre) (c .before .before .loop-test .taken), words-keep (λ (k : ℕ). modelWords (modelAt (now (c .before .before .before .before .before .before .before .args .src)) (now (c .before .before .before .before .before .before .before .args .notes)) k)) 54 (λ k. refl) (now (c .before .before .before .before .before .before .before .args .out)) (c .before .before .before .loop .out) (c .before .before .before .loop .i) (c .before .before .before .before .before .before .before .args .n) (c .before .before .before .loop .inv .1) (c .before .before .before .before .before .before .before .pre) (c .before .before .before .loop .inv .0), c .before .before .before .before .before .before .before .good)
+mul-put-model c = omega (arith, words-room (λ (k : ℕ). modelWords (modelAt (now (c .before .before .before .before .before .before .before .args .src)) (now (c .before .before .before .before .before .before .before .args .notes)) k)) modelSize (λ k. refl) (now (c .before .before .before .before .before .before .before .args .out)) (c .before .before .before .loop .out) (c .before .before .before .loop .i) (c .before .before .before .before .before .before .before .args .n) (c .before .before .before .loop .inv .1) (c .before .before .before .before .before .before .before .pre) (c .before .before .loop-test .taken), words-keep (λ (k : ℕ). modelWords (modelAt (now (c .before .before .before .before .before .before .before .args .src)) (now (c .before .before .before .before .before .before .before .args .notes)) k)) modelSize (λ k. refl) (now (c .before .before .before .before .before .before .before .args .out)) (c .before .before .before .loop .out) (c .before .before .before .loop .i) (c .before .before .before .before .before .before .before .args .n) (c .before .before .before .loop .inv .1) (c .before .before .before .before .before .before .before .pre) (c .before .before .before .loop .inv .0), c .before .before .before .before .before .before .before .good)
 
 put-model-requires : tie.Need-put-model-requires Inv-loop μ-loop
-put-model-requires c κs = words-room (λ (k : ℕ). modelWords (modelAt (now (c .before .before .before .before .before .before .before .args .src)) (now (c .before .before .before .before .before .before .before .args .notes)) k)) 54 (λ k. refl) (now (c .before .before .before .before .before .before .before .args .out)) (c .before .before .before .loop .out) (c .before .before .before .loop .i) (c .before .before .before .before .before .before .before .args .n) (c .before .before .before .loop .inv .1) (c .before .before .before .before .before .before .before .pre) (c .before .before .loop-test .taken)
+put-model-requires c κs = words-room (λ (k : ℕ). modelWords (modelAt (now (c .before .before .before .before .before .before .before .args .src)) (now (c .before .before .before .before .before .before .before .args .notes)) k)) modelSize (λ k. refl) (now (c .before .before .before .before .before .before .before .args .out)) (c .before .before .before .loop .out) (c .before .before .before .loop .i) (c .before .before .before .before .before .before .before .args .n) (c .before .before .before .loop .inv .1) (c .before .before .before .before .before .before .before .pre) (c .before .before .loop-test .taken)
 
 add-i : tie.Need-add-i Inv-loop μ-loop
 add-i c = search needs
@@ -41,10 +41,10 @@ loop-less : tie.Need-loop-less Inv-loop μ-loop
 loop-less c = omega arith
 
 loop-again : tie.Need-loop-again Inv-loop μ-loop
-loop-again c = (omega (arith, c .before .before .before .before .before .loop-test .taken), c .before .before .put-model .ensures ∙ words-turn (λ (k : ℕ). modelWords (modelAt (now (c .before .before .before .before .before .before .before .before .before .before .args .src)) (now (c .before .before .before .before .before .before .before .before .before .before .args .notes)) k)) 54 (λ k. refl) (now (c .before .before .before .before .before .before .before .before .before .before .args .out)) (c .before .before .before .before .before .before .loop .out) (c .before .before .before .before .before .before .loop .i) (c .before .before .before .before .before .before .before .before .before .before .args .n) (c .before .before .before .before .before .before .loop .inv .1) (c .before .before .before .before .before .before .before .before .before .before .pre) (modelWords (c .before .before .before .before .model-at .result)) (c .before .before .before .before .before .loop-test .taken) (ap modelWords (c .before .before .before .before .model-at .ensures)))
+loop-again c = (omega (arith, c .before .before .before .before .before .loop-test .taken), c .before .before .put-model .ensures ∙ words-turn (λ (k : ℕ). modelWords (modelAt (now (c .before .before .before .before .before .before .before .before .before .before .args .src)) (now (c .before .before .before .before .before .before .before .before .before .before .args .notes)) k)) modelSize (λ k. refl) (now (c .before .before .before .before .before .before .before .before .before .before .args .out)) (c .before .before .before .before .before .before .loop .out) (c .before .before .before .before .before .before .loop .i) (c .before .before .before .before .before .before .before .before .before .before .args .n) (c .before .before .before .before .before .before .loop .inv .1) (c .before .before .before .before .before .before .before .before .before .before .pre) (modelWords (c .before .before .before .before .model-at .result)) (c .before .before .before .before .before .loop-test .taken) (ap modelWords (c .before .before .before .before .model-at .ensures)))
 
 same-length : tie.Need-same-length Inv-loop μ-loop
-same-length c = words-keep (λ (k : ℕ). modelWords (modelAt (now (c .before .before .before .before .before .args .src)) (now (c .before .before .before .before .before .args .notes)) k)) 54 (λ k. refl) (now (c .before .before .before .before .before .args .out)) (c .before .loop .out) (c .before .loop .i) (c .before .before .before .before .before .args .n) (c .before .loop .inv .1) (c .before .before .before .before .before .pre) (c .before .loop .inv .0)
+same-length c = words-keep (λ (k : ℕ). modelWords (modelAt (now (c .before .before .before .before .before .args .src)) (now (c .before .before .before .before .before .args .notes)) k)) modelSize (λ k. refl) (now (c .before .before .before .before .before .args .out)) (c .before .loop .out) (c .before .loop .i) (c .before .before .before .before .before .args .n) (c .before .loop .inv .1) (c .before .before .before .before .before .pre) (c .before .loop .inv .0)
 
 returns : tie.Need-returns Inv-loop μ-loop
 returns c = let e : c .before .loop .i ≡ c .before .before .before .before .before .args .n = omega (arith, c .loop-test .left, c .before .loop .inv .0) in rw (sym e) (c .before .loop .inv .1)
