@@ -1,5 +1,5 @@
 -- Laws of what a user of the tables asks: a name's bytes, a row of the row store, and a search from the top of a table.
-use Prim.Native.Nat.{ℕ, suc, _+_, _*_, _/_, _<_, _≤_, min}
+use Prim.Native.Nat.{ℕ, suc, _+_, _-_, _*_, _/_, _<_, _≤_, min}
 use mathlib.Core.Path.{_≡_, refl, sym, ap, _∙_, subst}
 use mathlib.Core.List.{List, [], _∷_, map}
 use mathlib.Core.Bool.{Bool, true, false, not, _&&_}
@@ -9,6 +9,7 @@ use native.Mathlib.Omega.{arith}
 use lib.Dec.{T, ltb, ltb→lt, nltb→le}
 use lib.ListN.{length, take, drop, getD, drop-of-length-le, length-take, length-drop}
 use lib.Seq.{take-all, drop-cons, getD-take}
+use borrow.Author.Tests.{lt-ltb, le-ltb}
 use Rattle.laws.proofs.Tests.{by-order}
 use Rattle.laws.proofs.Lists.{from-cons}
 use Rattle.laws.proofs.Same.{map-same}
@@ -76,6 +77,11 @@ row-whole ws k h = ap rowIn (four ws (k * 4) (omega arith))
 pub row-is : (ws : List ℕ) (k : ℕ) (first is typ min max : Cell) → k < length ws / 4 → first ≡ cellIn (getD ws (k * 4) 0) → typ ≡ cellIn (getD ws (k * 4 + 1) 0) → min ≡ cellIn (getD ws (k * 4 + 2) 0) → max ≡ cellIn (getD ws (k * 4 + 3) 0) → first ≡ is
     → rowAt ws k ≡ asRow is (record { typ = typ; min = min; max = max })
 row-is ws k first is typ min max h a b c d e = row-whole ws k h ∙ rw (sym a, sym b, sym c, sym d, e) refl
+
+-- ---- spans
+
+pub within-span : (i start count : ℕ) → start ≤ i → ltb (i - start) count ≡ (not (ltb i start) && ltb i (start + count))
+within-span i start count h = rw (le-ltb i start h) (by-order count (i - start) (λ past. le-ltb (i - start) count past ∙ sym (le-ltb i (start + count) (omega (arith, past, h)))) (λ below. lt-ltb (i - start) count below ∙ sym (lt-ltb i (start + count) (omega (arith, below, h)))))
 
 -- ---- a search from the top: what is found by place i, or in what follows, is what the whole search finds
 

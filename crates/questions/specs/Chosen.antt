@@ -1,7 +1,7 @@
--- What a user of the filled tables asks: whether names are the same, a row of the row store, a pin's package values, and the model chosen for a pin.
+-- What a user of the filled tables asks: whether names are the same, a row of the row store, a component's pin by its name, a pin's package values, and the model chosen for it.
 use Prim.Native.Nat.{ℕ, _+_, _*_}
 use mathlib.Core.List.{List, [], _∷_}
-use mathlib.Core.Bool.{Bool, true, false, cond, _&&_}
+use mathlib.Core.Bool.{Bool, true, false, not, cond, _&&_}
 use lib.Dec.{ltb, eqb}
 use lib.ListN.{take, drop}
 use Rattle.laws.specs.Lists.{eqs}
@@ -15,6 +15,7 @@ use Rattle.line_rules.specs.Fields.{needsNoModel}
 use Rattle.records.specs.declared.Name.{Name}
 use Rattle.records.specs.declared.Triple.{Triple}
 use Rattle.records.specs.declared.Row.{Row}
+use Rattle.records.specs.declared.Span.{Span}
 use Rattle.records.specs.declared.Component.{Component}
 use Rattle.records.specs.declared.Pin.{Pin}
 use Rattle.records.specs.declared.Selector.{Selector}
@@ -22,6 +23,7 @@ use Rattle.records.specs.declared.Choice.{Choice}
 use Rattle.records.specs.declared.Model.{Model}
 use Rattle.questions.specs.declared.StoredRow.{StoredRow}
 use Rattle.questions.specs.declared.StoredRow.the-variants.{Kept, NoRow}
+use Rattle.questions.specs.declared.Sought.{Sought}
 use Rattle.questions.specs.declared.Chosen.{Chosen}
 use Rattle.questions.specs.declared.Chosen.the-variants.{Model as atPlace, Nobody}
 
@@ -91,6 +93,14 @@ unfoldable pub firstOf : {A : Type 0} → (ℕ → A → Found) → ℕ → List
 firstOf try k [] = Nothing
 firstOf try k (x ∷ xs) = orElse (try k x) (firstOf try (k + 1) xs)
 
+-- place k is one of a span's: not before its first, nor past its last
+unfoldable pub inSpan : Span → ℕ → Bool
+inSpan s k = not (ltb k (s .start)) && ltb k (s .start + s .count)
+
+-- a pin gives its place, where it is one of the component's and has the name
+unfoldable pub tryPin : Sought → ℕ → Pin → Found
+tryPin sought k p = cond (inSpan (sought .pins) k && sameName (p .name) (sought .name)) (At k) Nothing
+
 -- a model gives its place
 unfoldable pub tryModel : Name → ℕ → Model → Found
 tryModel name k m = cond (sameName (m .name) name) (At k) Nothing
@@ -98,6 +108,9 @@ tryModel name k m = cond (sameName (m .name) name) (At k) Nothing
 -- a selector that has rows gives the place of the first among the choices
 unfoldable pub trySelector : Name → ℕ → Selector → Found
 trySelector name k s = cond (eqb (s .choices .count) 0) Nothing (cond (sameName (s .name) name) (At (s .choices .start)) Nothing)
+
+unfoldable pub pinPlace : List Pin → Sought → Found
+pinPlace pins sought = firstOf (tryPin sought) 0 pins
 
 unfoldable pub modelPlace : List Model → Name → Found
 modelPlace models name = firstOf (tryModel name) 0 models

@@ -1,4 +1,5 @@
-// What a user of the filled tables asks: whether two names are the same, a row of the row store, the package values of a pin, and the model chosen for it.
+// What a user of the filled tables asks: whether two names are the same, a row of the row store, a component's pin by its name, the package values
+// of a pin, and the model chosen for it.
 pub mod tables; // tables.rt: the model chosen for a pin, in tables by value
 
 use decimal::Cell;
@@ -11,6 +12,7 @@ use records::Name;
 use records::Pin;
 use records::Row;
 use records::Selector;
+use records::Span;
 use records::Triple;
 ghost use mathlib.Core.Path.{_≡_};
 ghost use Prim.Native.Nat.{_<_, min};
@@ -19,13 +21,20 @@ ghost use Rattle.name_table.specs.declared.Found.the-variants.{Nothing};
 ghost use Rattle.line_rules.specs.Fields.{needsNoModel};
 ghost use Rattle.records.specs.declared.Choice.{Choice};
 ghost use Rattle.records.specs.declared.Model.{Model};
+ghost use Rattle.records.specs.declared.Pin.{Pin};
 ghost use Rattle.records.specs.declared.Selector.{Selector};
-ghost use Rattle.questions.specs.Chosen.{textOf, sameName, isNamed, rowAt, orPackage, resistanceOf, inductanceOf, capacitanceOf, isSeeking, tryModel, trySelector, modelPlace, selectorRow, isThere, rowPlace, nameAt, nameFor, chosenOf, modelFor};
+ghost use Rattle.questions.specs.Chosen.{textOf, sameName, isNamed, rowAt, orPackage, resistanceOf, inductanceOf, capacitanceOf, isSeeking, inSpan, tryPin, tryModel, trySelector, pinPlace, modelPlace, selectorRow, isThere, rowPlace, nameAt, nameFor, chosenOf, modelFor};
 
 // A row of the row store, or none.
 pub enum StoredRow {
     Kept(Row),
     NoRow,
+}
+
+// A pin that is sought: where the pins of its component lie in the table of pins, and its name.
+pub struct Sought {
+    pub pins: Span,
+    pub name: Name,
 }
 
 // The model of a pin, by its place in the table of models.
@@ -136,7 +145,7 @@ pub fn capacitance_of(p: Pin, c: Component) -> Triple
     or_package(own, c.capacitance)
 }
 
-// ---- searches: a table of records, how many of them are used, and the name
+// ---- searches: a table of records, how many of them are used, and what is sought
 
 fn nothing_yet() -> Found
     ensures { λ r. ⌜ r ≡ Nothing ⌝ }
@@ -152,6 +161,28 @@ fn seeking(f: Found, i: usize, used: usize, len: usize) -> bool
         Found::At(k) => false,
         Found::Nothing => { if i < used { i < len } else { false } }
     }
+}
+
+// Whether place i is one of a span's.
+fn in_span(s: Span, i: usize) -> bool
+    ensures { λ r. ⌜ r ≡ inSpan s i ⌝ }
+{
+    if i < s.start {
+        false
+    } else {
+        i - s.start < s.count
+    }
+}
+
+fn try_pin(p: Pin, sought: Sought, i: usize) -> Found
+    ensures { λ r. ⌜ r ≡ tryPin sought i p ⌝ }
+{
+    if in_span(sought.pins, i) {
+        if same_name(p.name, sought.name) {
+            return Found::At(i);
+        }
+    }
+    Found::Nothing
 }
 
 fn try_model(m: Model, name: Name, i: usize) -> Found
@@ -178,6 +209,13 @@ fn try_selector(s: Selector, name: Name, i: usize) -> Found
     }
 }
 
+fn get_pin(pins: &[Pin], i: usize) -> Pin
+    requires { ⌜ i < length (now pins) ⌝ }
+    ensures { λ r. ⌜ ((d : Pin) → r ≡ getD (now (pins .entry)) i d) ⌝ }
+{
+    pins[i]
+}
+
 fn get_model(models: &[Model], i: usize) -> Model
     requires { ⌜ i < length (now models) ⌝ }
     ensures { λ r. ⌜ ((d : Model) → r ≡ getD (now (models .entry)) i d) ⌝ }
@@ -197,6 +235,21 @@ fn get_choice(choices: &[Choice], i: usize) -> Choice
     ensures { λ r. ⌜ ((d : Choice) → r ≡ getD (now (choices .entry)) i d) ⌝ }
 {
     choices[i]
+}
+
+// The place in the table of the first pin that lies among its component's and has that name. A span past the table's end is cut there.
+pub fn find_pin(pins: &[Pin], used: usize, sought: Sought) -> Found
+    ensures { λ r. ⌜ r ≡ pinPlace (take used (now (pins .entry))) sought ⌝ }
+{
+    let len = pins.len();
+    let mut f = nothing_yet();
+    let mut i = 0;
+    while seeking(f, i, used, len) {
+        let p = get_pin(pins, i);
+        f = try_pin(p, sought, i);
+        i += 1;
+    }
+    f
 }
 
 // The place of the first model of that name.

@@ -28,8 +28,8 @@ unfolding code.routine tablesOf modelPlace
 find-model-spec 𝓤 H 𝓜 𝓖 𝓡 =
     entered 𝓤 H (tripleOf 𝓤 H (𝓖 .A) find-model.signature (find-model.spec 𝓤 H (𝓖 .A) (𝓜 .mem) (𝓡 .run)))
     (tables 𝓤 H 𝓜 𝓡 code.env .C) (tables 𝓤 H 𝓜 𝓡 code.env .Λ) #questions·find-model code.function (code.unfolded 𝓤 H 𝓜 𝓡)
-    (scan-meets models places names (search-by models tryModel) #start #more #get #step models-elem places-elem names-elem 𝓤 H (𝓖 .A) (givenOf 𝓤 H 𝓜 𝓖) (tablesOf 𝓤 H 𝓜 (tables 𝓤 H 𝓜 𝓡 code.env))
-    (cited 𝓤 H (Start models places names (search-by models tryModel) #start #more #get #step 𝓤 H (𝓖 .A)) 𝓜 𝓡 code.env #start start-def.routine code.calls-questions·nothing-yet (start-thm.met 𝓤 H 𝓜 𝓖 𝓡))
-    (cited 𝓤 H (More models places names (search-by models tryModel) #start #more #get #step 𝓤 H (𝓖 .A)) 𝓜 𝓡 code.env #more more-def.routine code.calls-questions·seeking (more-thm.met 𝓤 H 𝓜 𝓖 𝓡))
-    (cited 𝓤 H (Get models places names (search-by models tryModel) #start #more #get #step 𝓤 H (𝓖 .A)) 𝓜 𝓡 code.env #get get-def.routine code.calls-questions·get-model (get-thm.met 𝓤 H 𝓜 𝓖 𝓡))
-    (cited 𝓤 H (Step models places names (search-by models tryModel) #start #more #get #step 𝓤 H (𝓖 .A)) 𝓜 𝓡 code.env #step step-def.routine code.calls-questions·try-model (step-thm.met 𝓤 H 𝓜 𝓖 𝓡)))
+    (scan-meets models places names (search-by models names tryModel) #start #more #get #step models-elem places-elem names-elem 𝓤 H (𝓖 .A) (givenOf 𝓤 H 𝓜 𝓖) (tablesOf 𝓤 H 𝓜 (tables 𝓤 H 𝓜 𝓡 code.env))
+    (cited 𝓤 H (Start models places names (search-by models names tryModel) #start #more #get #step 𝓤 H (𝓖 .A)) 𝓜 𝓡 code.env #start start-def.routine code.calls-questions·nothing-yet (start-thm.met 𝓤 H 𝓜 𝓖 𝓡))
+    (cited 𝓤 H (More models places names (search-by models names tryModel) #start #more #get #step 𝓤 H (𝓖 .A)) 𝓜 𝓡 code.env #more more-def.routine code.calls-questions·seeking (more-thm.met 𝓤 H 𝓜 𝓖 𝓡))
+    (cited 𝓤 H (Get models places names (search-by models names tryModel) #start #more #get #step 𝓤 H (𝓖 .A)) 𝓜 𝓡 code.env #get get-def.routine code.calls-questions·get-model (get-thm.met 𝓤 H 𝓜 𝓖 𝓡))
+    (cited 𝓤 H (Step models places names (search-by models names tryModel) #start #more #get #step 𝓤 H (𝓖 .A)) 𝓜 𝓡 code.env #step step-def.routine code.calls-questions·try-model (step-thm.met 𝓤 H 𝓜 𝓖 𝓡)))
