@@ -1,7 +1,12 @@
 // The reader by example: standard input is read into lent tables of odd lengths, then into the same with a row too few, and is checked
 // for one pin. Printed are the verdict, every pin record, and the words past the rows that are used: what is not used keeps what it held.
+// The pins of the first reading are then lent to a search.
 ghost use mathlib.Core.Path.{_≡_};
+ghost use lib.ListN.{take};
+ghost use Rattle.questions.specs.Chosen.{pinPlace};
 ghost use Rattle.lending.specs.Lent.{sparePin, oneComponent, threePins, noSelectors, noChoices, twoModels, oneWaveform, manyWords, fewWords, enoughOf, scantOf, ReadEnough, ReadScant};
+use name_table::Found;
+use questions::Sought;
 use records::Answer;
 use records::Choice;
 use records::Component;
@@ -221,6 +226,15 @@ fn read_scant(src: &[u8]) -> Scant
     )
 }
 
+// ---- the search
+
+// A component's pin by its name, in the table that is lent for the search.
+fn find_pin(pins: [Pin; 3], used: usize, sought: Sought) -> Found
+    ensures { λ r. ⌜ r ≡ pinPlace (take used pins) sought ⌝ }
+{
+    questions::find_pin(&pins, used, sought)
+}
+
 // ---- what is printed
 
 fn print_verdict(verdict: Verdict, counts: Counts) {
@@ -264,6 +278,44 @@ fn print_words(rows: &[u64], used: usize) {
     }
 }
 
+// A pin's place and its signal.
+fn print_place(k: usize, pin: Pin) {
+    let mut out = io::buffer();
+    let n = text_buffer::put_bytes(&mut out, 0, b"FOUND ");
+    let m = text_buffer::put_number(&mut out, n, k as u64);
+    let s = text_buffer::put_byte(&mut out, m, b' ');
+    let e = text_buffer::put_name(&mut out, s, pin.signal);
+    let l = text_buffer::put_byte(&mut out, e, b'\n');
+    program_output::put_out(&out, l);
+}
+
+fn print_found(pins: [Pin; 3], f: Found) {
+    match f {
+        Found::At(k) => {
+            if k < 3 {
+                print_place(k, pins[k]);
+            }
+        }
+        Found::Nothing => {
+            program_output::put_out(b"FOUND NOTHING\n", 14);
+        }
+    }
+}
+
+// The pin of that name, of the first component.
+fn print_pin_named(t: Enough, name: &[u8]) {
+    let components = t.components;
+    let component = components[0];
+    let span = component.pins;
+    let sought = Sought {
+        pins: span,
+        name: records::name_of(name),
+    };
+    let pins = t.pins;
+    let f = find_pin(pins, t.answer.counts.pins, sought);
+    print_found(pins, f);
+}
+
 // The verdict alone, were one pin lent.
 fn print_check(src: &[u8], counts: Counts) {
     let l = Lengths {
@@ -283,6 +335,8 @@ fn print_readings(src: &[u8]) {
     print_answer(t.answer);
     print_pins(t.pins);
     print_words(&t.rows, t.answer.counts.rows);
+    print_pin_named(t, b"1");
+    print_pin_named(t, b"xxxxx");
     let u = read_scant(src);
     print_answer(u.answer);
     print_pins(u.pins);
