@@ -84,7 +84,7 @@ fn print_pins(
 ) {
     for i in 0..MOST_PINS {
         let p = pins[i];
-        if program_output::holds(span, i) {
+        if questions::in_span(span, i) {
             let choice = questions::tables::model_for(selectors, choices, models, counts, p);
             print_pin(w, p, models, choice);
         }

@@ -1,8 +1,5 @@
 // The dump of a shelf on standard output: the sections in file order, each with what is its own in other tables.
-ghost use mathlib.Core.Path.{_≡_};
-ghost use mathlib.Core.Bool.{_&&_};
-ghost use Prim.Native.Nat.{_-_, _≤_};
-ghost use lib.Dec.{ltb, leb};
+ghost use Prim.Native.Nat.{_≤_};
 use program_tables::Shelf;
 use records::Choice;
 use records::Component;
@@ -30,19 +27,9 @@ pub fn put_out(out: &[u8], n: usize) {
     }
 }
 
-// Whether place i is one of a span's.
-pub fn holds(s: Span, i: usize) -> bool
-    ensures { λ r. ⌜ r ≡ leb (s .start) i && ltb (i - s .start) (s .count) ⌝ }
-{
-    if i < s.start {
-        return false;
-    }
-    i - s.start < s.count
-}
-
 fn print_pins(pins: [Pin; MOST_PINS], span: Span) {
     for i in 0..MOST_PINS {
-        if holds(span, i) {
+        if questions::in_span(span, i) {
             let mut out = io::buffer();
             let n = dump_text::pin_line(&mut out, 0, pins[i]);
             put_out(&out, n);
@@ -59,7 +46,7 @@ fn print_component(i: usize, c: Component, pins: [Pin; MOST_PINS]) {
 
 fn print_choices(choices: [Choice; MOST_CHOICES], span: Span) {
     for i in 0..MOST_CHOICES {
-        if holds(span, i) {
+        if questions::in_span(span, i) {
             let mut out = io::buffer();
             let n = dump_text::choice_line(&mut out, 0, choices[i]);
             put_out(&out, n);
@@ -77,7 +64,7 @@ fn print_selector(i: usize, s: Selector, choices: [Choice; MOST_CHOICES]) {
 fn print_rows(rows: &[u64], span: Span) {
     let n = rows.len() / 4;
     for i in 0..n {
-        if holds(span, i) {
+        if questions::in_span(span, i) {
             let mut out = io::buffer();
             let n = dump_model_text::row_line(
                 &mut out,
@@ -101,7 +88,7 @@ fn print_table(name: &[u8], t: Table, rows: &[u64]) {
 
 fn print_waveforms(waveforms: [Waveform; MOST_WAVEFORMS], span: Span, rows: &[u64]) {
     for i in 0..MOST_WAVEFORMS {
-        if holds(span, i) {
+        if questions::in_span(span, i) {
             let w = waveforms[i];
             let mut out = io::buffer();
             let n = dump_model_text::waveform_lines(&mut out, 0, w);

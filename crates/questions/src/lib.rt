@@ -164,7 +164,7 @@ fn seeking(f: Found, i: usize, used: usize, len: usize) -> bool
 }
 
 // Whether place i is one of a span's.
-fn in_span(s: Span, i: usize) -> bool
+pub fn in_span(s: Span, i: usize) -> bool
     ensures { λ r. ⌜ r ≡ inSpan s i ⌝ }
 {
     if i < s.start {

@@ -13,8 +13,8 @@ abbrev μ-loop : tie.MeasureT-loop
 loop-holds : tie.Need-loop-holds Inv-loop μ-loop
 loop-holds c = search needs
 
-holds-requires : tie.Need-holds-requires Inv-loop μ-loop
-holds-requires c κs = search needs
+in-span-requires : tie.Need-in-span-requires Inv-loop μ-loop
+in-span-requires c κs = search needs
 
 buffer-requires : tie.Need-buffer-requires Inv-loop μ-loop
 buffer-requires c κs = search needs
@@ -56,7 +56,7 @@ print-choices-spec =
     Inv-loop
     μ-loop
     loop-holds
-    holds-requires
+    in-span-requires
     buffer-requires
     slice-aggregate-choice-line
     mul-choice-line

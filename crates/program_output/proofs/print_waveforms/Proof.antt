@@ -13,8 +13,8 @@ abbrev μ-loop : tie.MeasureT-loop
 loop-holds : tie.Need-loop-holds Inv-loop μ-loop
 loop-holds c = search needs
 
-holds-requires : tie.Need-holds-requires Inv-loop μ-loop
-holds-requires c κs = search needs
+in-span-requires : tie.Need-in-span-requires Inv-loop μ-loop
+in-span-requires c κs = search needs
 
 mul-w : tie.Need-mul-w Inv-loop μ-loop
 mul-w c = search needs
@@ -59,7 +59,7 @@ print-waveforms-spec =
     Inv-loop
     μ-loop
     loop-holds
-    holds-requires
+    in-span-requires
     mul-w
     array-copy-out-w
     buffer-requires

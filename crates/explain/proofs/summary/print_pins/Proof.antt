@@ -19,8 +19,8 @@ mul-p c = search needs
 array-copy-out-p : tie.Need-array-copy-out-p Inv-loop μ-loop
 array-copy-out-p c = search needs
 
-holds-requires : tie.Need-holds-requires Inv-loop μ-loop
-holds-requires c κs = search needs
+in-span-requires : tie.Need-in-span-requires Inv-loop μ-loop
+in-span-requires c κs = search needs
 
 model-for-requires : tie.Need-model-for-requires Inv-loop μ-loop
 model-for-requires c κs = search needs
@@ -49,7 +49,7 @@ print-pins-spec =
     loop-holds
     mul-p
     array-copy-out-p
-    holds-requires
+    in-span-requires
     model-for-requires
     print-pin-requires
     add-i
