@@ -3,8 +3,7 @@
 ghost use mathlib.Core.Path.{_≡_};
 ghost use Prim.Native.Nat.{_≤_, _<_};
 ghost use lib.ListN.{length};
-use program_output::files::Form;
-use program_output::files::print_file;
+use dump_output::print_file;
 use records::Lengths;
 use records::MOST_CHOICES;
 use records::MOST_COMPONENTS;
@@ -74,7 +73,7 @@ fn next_file(head: &mut [u8], src: &mut [u8]) -> bool {
         return false;
     }
     let l = lengths_in(head);
-    print_file(&src[0..n], l, Form::Dump);
+    print_file(&src[0..n], l);
     true
 }
 

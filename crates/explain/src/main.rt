@@ -12,7 +12,7 @@ fn print_refusal(name: &[u8], src: &[u8], fault: Fault) {
 }
 
 fn print_file(name: &[u8], src: &[u8]) {
-    match file_answer::check(src, program_output::files::lent_lengths(8192)) {
+    match file_answer::check(src, program_output::lent_lengths(8192)) {
         Verdict::Accepted => summary::print_summary(name, program_tables::loaded(src)),
         Verdict::Refused(f) => print_refusal(name, src, f),
     }
@@ -21,7 +21,7 @@ fn print_file(name: &[u8], src: &[u8]) {
 fn main() {
     let mut name = io::buffer();
     let n = os::arg(1, &mut name);
-    let mut src = program_output::files::file_buffer();
+    let mut src = program_output::file_buffer();
     let m = io::read_full(0, &mut src);
     if n == 0 {
         print_file(b"standard input", &src[..m]);

@@ -345,7 +345,7 @@ fn print_readings(src: &[u8]) {
 }
 
 fn main() {
-    let mut src = program_output::files::file_buffer();
+    let mut src = program_output::file_buffer();
     let n = io::read_full(0, &mut src);
     print_readings(&src[..n]);
 }

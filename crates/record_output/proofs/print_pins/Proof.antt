@@ -1,14 +1,14 @@
 -- A place at a time, up to the table's end.
 use Prim.Native.Nat.{_≤_, _-_}
 use borrow.Author.Needs.{needs}
-use Rattle.program_output.proofs.print_choices.Statement.{statement}
-use Rattle.program_output.proofs.print_choices.Tie as tie
+use Rattle.record_output.proofs.print_pins.Statement.{statement}
+use Rattle.record_output.proofs.print_pins.Tie as tie
 
 abbrev Inv-loop : tie.InvT-loop
-Inv-loop span choices i₀ i = i ≤ 256
+Inv-loop span pins i₀ i = i ≤ 512
 
 abbrev μ-loop : tie.MeasureT-loop
-μ-loop span choices i₀ i = 256 - i
+μ-loop span pins i₀ i = 512 - i
 
 loop-holds : tie.Need-loop-holds Inv-loop μ-loop
 loop-holds c = search needs
@@ -19,17 +19,17 @@ in-span-requires c κs = search needs
 buffer-requires : tie.Need-buffer-requires Inv-loop μ-loop
 buffer-requires c κs = search needs
 
-slice-aggregate-choice-line : tie.Need-slice-aggregate-choice-line Inv-loop μ-loop
-slice-aggregate-choice-line c = search needs
+slice-aggregate-pin-line : tie.Need-slice-aggregate-pin-line Inv-loop μ-loop
+slice-aggregate-pin-line c = search needs
 
-mul-choice-line : tie.Need-mul-choice-line Inv-loop μ-loop
-mul-choice-line c = search needs
+mul-pin-line : tie.Need-mul-pin-line Inv-loop μ-loop
+mul-pin-line c = search needs
 
-array-copy-out-choice-line : tie.Need-array-copy-out-choice-line Inv-loop μ-loop
-array-copy-out-choice-line c = search needs
+array-copy-out-pin-line : tie.Need-array-copy-out-pin-line Inv-loop μ-loop
+array-copy-out-pin-line c = search needs
 
-choice-line-requires : tie.Need-choice-line-requires Inv-loop μ-loop
-choice-line-requires c κs = search needs
+pin-line-requires : tie.Need-pin-line-requires Inv-loop μ-loop
+pin-line-requires c κs = search needs
 
 slice-aggregate-put-out : tie.Need-slice-aggregate-put-out Inv-loop μ-loop
 slice-aggregate-put-out c = search needs
@@ -49,8 +49,8 @@ loop-again c = search needs
 returns : tie.Need-returns Inv-loop μ-loop
 returns c = search needs
 
-pub print-choices-spec : {M : Type 1} → statement M
-print-choices-spec =
+pub print-pins-spec : {M : Type 1} → statement M
+print-pins-spec =
     tie.close
     (tie.spec
     Inv-loop
@@ -58,10 +58,10 @@ print-choices-spec =
     loop-holds
     in-span-requires
     buffer-requires
-    slice-aggregate-choice-line
-    mul-choice-line
-    array-copy-out-choice-line
-    choice-line-requires
+    slice-aggregate-pin-line
+    mul-pin-line
+    array-copy-out-pin-line
+    pin-line-requires
     slice-aggregate-put-out
     put-out-requires
     add-i

@@ -1,6 +1,6 @@
-// The listing of a shelf on standard output: the counts, and a line for each pin with the thresholds of the model chosen for it.
-use crate::put_out;
+// The listing on standard output: the counts, and a line for each pin with the thresholds of the model chosen for it.
 use decimal::Cell;
+use program_output::put_out;
 use program_tables::Shelf;
 use questions::Chosen;
 use records::MOST_MODELS;
@@ -30,7 +30,7 @@ fn print_pin(pin: Pin, model: Name, models: [Model; MOST_MODELS], choice: Chosen
 }
 
 // The listing of an accepted file.
-pub fn print_listing(t: Shelf) {
+pub(crate) fn print_listing(t: Shelf) {
     let a = t.answer;
     let counts = a.counts;
     let pins = t.pins;

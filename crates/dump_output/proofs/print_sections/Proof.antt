@@ -1,8 +1,8 @@
 -- A place at a time, up to the table's end.
 use Prim.Native.Nat.{_≤_, _-_}
 use borrow.Author.Needs.{needs}
-use Rattle.program_output.proofs.print_sections.Statement.{statement}
-use Rattle.program_output.proofs.print_sections.Tie as tie
+use Rattle.dump_output.proofs.print_sections.Statement.{statement}
+use Rattle.dump_output.proofs.print_sections.Tie as tie
 
 abbrev Inv-loop : tie.InvT-loop
 Inv-loop components pins selectors choices models waveforms c rows n k₀ k = k ≤ 104

@@ -1,8 +1,8 @@
 -- A place at a time, up to the table's end.
 use Prim.Native.Nat.{_≤_, _-_}
 use borrow.Author.Needs.{needs}
-use Rattle.program_output.proofs.print_rows.Statement.{statement}
-use Rattle.program_output.proofs.print_rows.Tie as tie
+use Rattle.record_output.proofs.print_rows.Statement.{statement}
+use Rattle.record_output.proofs.print_rows.Tie as tie
 
 abbrev Inv-loop : tie.InvT-loop
 Inv-loop rows span n i₀ i = i ≤ n

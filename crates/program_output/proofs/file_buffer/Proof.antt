@@ -1,8 +1,8 @@
 -- By computing.
 use mathlib.Core.Path.{refl}
 use Rattle.program_output.specs.Lent.{fileBuffer}
-use Rattle.program_output.proofs.files.file_buffer.Statement.{statement}
-use Rattle.program_output.proofs.files.file_buffer.Tie as tie
+use Rattle.program_output.proofs.file_buffer.Statement.{statement}
+use Rattle.program_output.proofs.file_buffer.Tie as tie
 
 returns : tie.Need-returns
 unfolding fileBuffer

@@ -1,8 +1,8 @@
 -- A place at a time, up to the table's end.
 use Prim.Native.Nat.{_≤_, _-_}
 use borrow.Author.Needs.{needs}
-use Rattle.program_output.proofs.listing.print_listing.Statement.{statement}
-use Rattle.program_output.proofs.listing.print_listing.Tie as tie
+use Rattle.listing.proofs.listing.print_listing.Statement.{statement}
+use Rattle.listing.proofs.listing.print_listing.Tie as tie
 
 abbrev Inv-loop : tie.InvT-loop
 Inv-loop counts pins selectors choices models n i₀ i = i ≤ 512
