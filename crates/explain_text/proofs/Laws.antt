@@ -1,17 +1,19 @@
--- Laws of `specs/Refusals.antt`: a line further on, lines run out, the text of a line, and a byte of a text made visible.
+-- Laws of `specs/Refusals.antt`: a line further on, lines run out, where a reader stands, the text of a line, and a byte of a text made visible.
 use Prim.Native.Nat.{ℕ, zero, suc, _+_, _-_, _≤_, _<_}
 use mathlib.Core.Path.{_≡_, refl, sym, ap, _∙_, subst}
 use mathlib.Core.List.{List, [], _∷_, _++_, map}
 use native.Mathlib.Omega.{arith}
+use native.Mathlib.Numerals.{add-one}
 use lib.ListN.{length, take, drop, getD, length-map, drop-of-length-le}
 use lib.Seq.{drop-drop, drop-nil}
 use Rattle.lines.specs.Lines.{Physical, linesOf}
 use Rattle.lines.specs.Places.{lineAt, RawAt}
 use Rattle.lines.specs.declared.Line.{Line}
-use Rattle.lines.proofs.Handed.{raw-at}
+use Rattle.lines.proofs.Handed.{hands-none, raw-at}
 use Rattle.laws.specs.Bytes.{bytes}
 use Rattle.laws.specs.Lists.{part}
-use Rattle.explain_text.specs.Refusals.{visibleText, firstText, sourceText}
+use Rattle.laws.proofs.Tests.{by-order}
+use Rattle.explain_text.specs.Refusals.{visibleText, firstText, placeBehind, sourceText}
 use Rattle.text_buffer.specs.Put.{Put}
 use Rattle.text_buffer.proofs.Laws.{put-next, put-as}
 
@@ -31,6 +33,37 @@ lines-out s at i n h k e =
     let none : linesOf (drop at s) ≡ [] = ap linesOf (drop-of-length-le s h) in
     let sum : i + (n - i) ≡ n = omega (arith, k) in
     none ∙ sym (drop-nil (n - i)) ∙ ap (drop (n - i)) (sym none ∙ e) ∙ drop-drop (n - i) i (linesOf s) ∙ ap (λ (m : ℕ). drop m (linesOf s)) sum
+
+-- ---- a reader that has handed out n lines stands at p
+
+pub record Behind (s : List ℕ) (n p : ℕ) : Type 0 where
+  pub within : p ≤ length s
+  pub lines : linesOf (drop p s) ≡ drop n (linesOf s)
+  -- each line takes a byte
+  pub far : p < length s → n ≤ p
+
+behind-next : (s : List ℕ) (n p : ℕ) → Behind s n p → Behind s (suc n) (lineAt s p .next)
+behind-next s n p b =
+    by-order (suc p) (length s)
+    (λ h.
+    let on = lines-on s p n (lineAt s p) h refl (b .lines) in
+    record { within = on .0; lines = on .1 ∙ ap (λ (k : ℕ). drop k (linesOf s)) (add-one n); far = λ _. omega (arith, b .far h, raw-at s p h .rises) })
+    (λ h.
+    subst (Behind s (suc n)) (ap (λ (l : Line). l .next) (hands-none s p (omega (arith, h))))
+    (record { within = b .within; lines = lines-out s p n (suc n) (omega (arith, h)) (omega arith) (b .lines); far = λ k. absurd (omega (arith, h, k)) }))
+
+pub stands-behind : (s : List ℕ) (n : ℕ) → Behind s n (placeBehind s n)
+unfolding placeBehind
+stands-behind s zero = record { within = omega arith; lines = refl; far = λ _. omega arith }
+stands-behind s (suc n) = behind-next s n (placeBehind s n) (stands-behind s n)
+
+-- a file has no more lines than bytes
+pub all-passed : (s : List ℕ) (n : ℕ) → length s ≤ n → linesOf (drop (length s) s) ≡ drop n (linesOf s)
+all-passed s n h =
+    let b = stands-behind s n in
+    let e : placeBehind s n ≡ length s =
+    by-order (length s) (placeBehind s n) (λ k. omega (arith, k, b .within)) (λ k. absurd (omega (arith, b .far k, h, k))) in
+    ap (λ (p : ℕ). linesOf (drop p s)) (sym e) ∙ b .lines
 
 -- ---- the text of a line
 

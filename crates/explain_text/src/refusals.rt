@@ -5,7 +5,8 @@ ghost use Prim.Native.Nat.{_≤_};
 ghost use lib.ListN.{length, drop};
 ghost use Rattle.lines.specs.Lines.{linesOf};
 ghost use Rattle.text_buffer.specs.Put.{Put};
-ghost use Rattle.explain_text.specs.Refusals.{placeText, faultText, visible, visibleText, firstText, sourceText, refusalText};
+ghost use Rattle.explain_text.specs.Refusals.{placeText, faultText, visible, visibleText, firstText, placeBehind, sourceText, refusalText};
+use lines::LineReader;
 use records::Fault;
 use text_buffer::put_byte;
 use text_buffer::put_bytes;
@@ -70,22 +71,28 @@ fn put_cut(out: &mut [u8], at: usize, line: &[u8]) -> usize
     put_visible(out, at, line)
 }
 
-// Where the lines begin that have so many before them.
+// Where a reader stands that has handed out so many lines: one reader hands out all of them.
+fn pass_lines(src: &[u8], before: u64) -> usize
+    ensures { λ r. ⌜ r ≡ placeBehind (now (src .entry)) before ⌝ }
+{
+    let mut reader = LineReader::new(src, 0);
+    let mut i: u64 = 0;
+    while i < before {
+        reader.next();
+        i += 1;
+    }
+    reader.at
+}
+
+// Where the lines begin that have so many before them. A file has no more lines than bytes.
 fn skip_lines(src: &[u8], before: u64) -> usize
     ensures { λ r. ⌜ linesOf (drop r (now (src .entry))) ≡ drop before (linesOf (now (src .entry))) ⌝ }
     ensures { λ r. ⌜ r ≤ length (now (src .entry)) ⌝ }
 {
-    let mut at = 0;
-    let mut i: u64 = 0;
-    while i < before {
-        if src.len() <= at {
-            return at;
-        }
-        let line = lines::line_at(src, at);
-        at = line.next;
-        i += 1;
+    if src.len() as u64 <= before {
+        return src.len();
     }
-    at
+    pass_lines(src, before)
 }
 
 // The line that begins at a place; nothing at the end of the file.
