@@ -1,6 +1,6 @@
 """Every public function of a library promises one result and one content of lent memory, in a form that crates/promise_forms proves
-to leave no choice, and asks nothing of its caller; or docs/CONTRACTS.md lists it as an exception. An exception that is none fails
-too. With --list, the functions and their forms are printed."""
+to leave no choice; or docs/CONTRACTS.md lists it as an exception. An exception that is none fails too. And docs/CONTRACTS.md has a
+line for each function, which says what it asks of its caller where it asks something. With --list, the functions and their forms are printed."""
 import re
 import sys
 from pathlib import Path
@@ -10,19 +10,42 @@ FUNCTION = re.compile(r'^ *pub (?:extern "C" )?fn (\w+)', re.M)
 PROMISE = re.compile(r"ensures \{ λ (\w+)\. ⌜ (.*?) ⌝ \}", re.S)
 BODY = re.compile(r"^ *\{$|\)(?: -> [^{\n]*)? \{$", re.M)
 LISTED = re.compile(r"`(\w+)::(\w+|\{[^}]*\})`")
+PROVED = re.compile(r"^pub \w+ : .*→ One \((\w+)", re.M)
+DESCRIBED = re.compile(r"^- `(?:\w+::)*(\w+)`: (.+)$")
+
+
+def section(heading):
+    """The text of a section of docs/CONTRACTS.md."""
+    text = (ROOT / "docs" / "CONTRACTS.md").read_text()
+    found = re.search(rf"^## {heading}\n(.*?)(?=^## |\Z)", text, re.M | re.S)
+    if not found:
+        sys.exit(f"promises: docs/CONTRACTS.md has no section '{heading}'")
+    return found.group(1)
 
 
 def exceptions(heading):
     """The functions that a section of docs/CONTRACTS.md lists."""
-    text = (ROOT / "docs" / "CONTRACTS.md").read_text()
-    section = re.search(rf"^## {heading}\n(.*?)(?=^## |\Z)", text, re.M | re.S)
-    if not section:
-        sys.exit(f"promises: docs/CONTRACTS.md has no section '{heading}'")
     found = set()
-    for crate, names in LISTED.findall(section.group(1)):
+    for crate, names in LISTED.findall(section(heading)):
         for name in names.strip("{}").split(","):
             found.add(f"{crate}::{name.strip()}")
     return found
+
+
+def described(heading):
+    """The functions that a section of docs/CONTRACTS.md has a line for, in order, and whether the line says what is asked."""
+    found, crate = {}, None
+    for line in section(heading).splitlines():
+        if line.startswith("### "):
+            crate = line[4:].strip()
+        elif match := DESCRIBED.match(line):
+            found.setdefault(f"{crate}::{match.group(1)}", []).append(" asks: " in match.group(2))
+    return found
+
+
+def proved():
+    """The promises on a result alone that crates/promise_forms proves to leave one, by their names."""
+    return set(PROVED.findall((ROOT / "crates" / "promise_forms" / "proofs" / "Forms.antt").read_text()))
 
 
 def parsed(text):
@@ -90,7 +113,7 @@ def by_cases(terms, result):
         at = parts.index(result)
         if plain(parts[:at], result) and all(left(part) for part in parts[at + 1 :]):
             return {"result"} | exits(parts)
-    if head == "Loaded" and parts[-1] == result and plain(parts[:-1], result):
+    if isinstance(head, str) and (head == "Loaded" or head in proved()) and parts[-1] == result and plain(parts[:-1], result):
         return {"result"}
     return set()
 
@@ -125,8 +148,16 @@ def wanted(signature):
     return lent | ({"result"} if "->" in head else set())
 
 
+def missing(name, asks, lines):
+    """What a function's line in docs/CONTRACTS.md lacks; its line is taken from those left."""
+    if not lines.get(name):
+        return "has no line"
+    said = lines[name].pop(0)
+    return "" if said == asks else "asks something that its line does not say" if asks else "asks nothing, but its line says so"
+
+
 def main():
-    free, asking = exceptions("Promises that leave a choice"), exceptions("Asked of the caller")
+    free, lines = exceptions("Promises that leave a choice"), described("Every public function")
     passed, faults = 0, []
     seen = set()
     for name, signature in functions():
@@ -135,13 +166,13 @@ def main():
         asks = "requires" in signature
         if "--list" in sys.argv:
             print(name, "fixes", ", ".join(sorted(forms(signature))) or "nothing", "and asks" if asks else "")
+        wrong = [missing(name, asks, lines)]
         if bool(left) != (name in free):
-            faults.append(f"{name}: " + (f"leaves {', '.join(sorted(left))} open" if left else "leaves no choice, but is listed"))
-        elif asks != (name in asking):
-            faults.append(f"{name}: " + ("asks something of its caller" if asks else "asks nothing, but is listed"))
-        else:
-            passed += 1
-    faults += [f"{name}: is listed, but there is no such function" for name in sorted((free | asking) - seen)]
+            wrong.append(f"leaves {', '.join(sorted(left))} open" if left else "leaves no choice, but is listed")
+        faults += [f"{name}: {fault}" for fault in wrong if fault]
+        passed += not any(wrong)
+    faults += [f"{name}: is listed, but there is no such function" for name in sorted(free - seen)]
+    faults += [f"{name}: has a line, but there is no such function" for name in lines if lines[name]]
     for fault in faults:
         print(f"promises: {fault}")
     print(f"{passed} passed, {len(faults)} failed")

@@ -7,7 +7,7 @@ use Rattle.laws.specs.Bytes.{bytes, capital}
 use Rattle.laws.specs.Lists.{eqs}
 use Rattle.laws.proofs.Same.{eqs-eq}
 use Rattle.line_rules.specs.Fields.{needsNoModel, oneOf}
-use Rattle.rules.specs.Reading.{keptModel}
+use Rattle.rules.specs.Component.{keptModel}
 
 module _ (w : List ℕ) where
   pub kept-power : eqs (map capital w) (bytes "POWER") ≡ true → keptModel w ≡ bytes "POWER"

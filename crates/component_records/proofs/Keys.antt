@@ -1,199 +1,138 @@
--- The keywords of the header and of a component, one after another.
-use Prim.Native.Nat.{ℕ, _+_, _≤_}
-use mathlib.Core.Path.{_≡_, refl, sym, ap, _∙_, subst}
-use mathlib.Core.List.{List, [], _∷_, map}
-use mathlib.Core.Bool.{true, false, cond}
-use mathlib.Core.Option.{Option, none, some}
+-- The keywords of the header and of a component, as folds over the keywords; and the component as it lies in its table.
+use Prim.Native.Nat.{ℕ, _+_}
+use mathlib.Core.Path.{_≡_, refl, sym, ap, _∙_}
+use mathlib.Core.List.{List, [], _∷_, _++_, map}
+use mathlib.Core.Bool.{Bool, true, false, cond}
+use mathlib.Core.Option.{none, some}
 use native.Mathlib.Omega.{arith}
 use lib.ListN.{length, length-append, length-map}
-use Rattle.laws.specs.Lists.{front, after, part}
-use Rattle.laws.proofs.Tests.{cond-yes, cond-no}
+use Rattle.laws.specs.Bytes.{bytes}
+use Rattle.laws.specs.Lists.{front, eqs}
 use Rattle.keywords.specs.declared.Keyword.{Keyword}
-use Rattle.keywords.specs.declared.Keyword.the-variants as key
-use Rattle.keywords.specs.declared.HeaderText.{HeaderText}
-use Rattle.keywords.specs.declared.HeaderText.the-variants.{Date, Source, Notes, Disclaimer, Copyright}
-use Rattle.keywords.specs.declared.ComponentPart.{ComponentPart}
+use Rattle.keywords.specs.declared.Keyword.the-variants.{InHeader, InComponent}
+use Rattle.keywords.specs.declared.HeaderPart.the-variants.{FileName, FileRev}
 use Rattle.keywords.specs.declared.ComponentPart.the-variants.{Manufacturer, Package, Pin}
-use Rattle.cut_lines.specs.Texts.{Text, rest}
-use Rattle.cut_lines.specs.declared.Cursor.{Cursor}
-use Rattle.rules.specs.Header.{textPlace}
-use Rattle.rules.specs.Reading.{under, keyAt, argumentAt, isEnd, isWithin, pinIn, packageIn, ComponentIs, onComponentPart, onComponentKey, withComponentKeys, orArgument, headerIn}
-use Rattle.layout.specs.Laid.{componentLaid}
-use Rattle.records.specs.Stored.{nameLaid}
-use Rattle.records.specs.declared.Location.{Location}
-use Rattle.records.specs.declared.Name.{Name}
-use Rattle.lines_under.specs.Under.{isKeyless, StopsAt, KeyIs}
-use Rattle.lines_under.proofs.Laws.{keys-behind, under-within, keys-only, keys-within, within-stop, within-go}
-use Rattle.component_records.specs.Views.{isHead, boxesOf, sitesOf, noParts, Stands, PartIs, bare}
+use Rattle.keywords.proofs.Spelling.{spelling}
+use Rattle.cut_lines.specs.Texts.{Text}
+use Rattle.line_rules.specs.Fields.{cellsLine, lineSays}
+use Rattle.line_rules.proofs.Places.{says-append}
+use Rattle.records.specs.Stored.{nameLaid, wordsLaid}
+use Rattle.records.specs.declared.Header.{Header}
+use Rattle.rules.specs.Component.{pinIn}
+use Rattle.rules.specs.Reading.{argumentAt, under, linesUnder, keySays, pinsIn, componentIn, headerSays, isWithin}
+use Rattle.rules.specs.Keys.{keyAt}
+use Rattle.rules.proofs.Keys.{each-keyword, says-skip, says-key, lines-skip, lines-key, says-map}
+use Rattle.lines_under.proofs.Laws.{under-within}
+use Rattle.lines_under.proofs.Keyed.{KeyFold}
+use Rattle.component_records.specs.Views.{headerLaid, noHeader, headIn, headStep, boxesIn, sitesIn, noSites, noParts, partsIn, partStep}
 use Rattle.component_records.specs.declared.lists.Boxes.{Boxes}
-use Rattle.component_records.specs.declared.lists.Sites.{Sites}
 use Rattle.component_records.specs.declared.sections.Parts.{Parts}
-use Rattle.component_records.specs.declared.sections.PartRead.{PartRead}
 
 -- ---- the header
 
--- the five texts stand behind [File Name] and [File Rev]
-pub text-place : (t : HeaderText) → 2 ≤ textPlace t
-text-place Date = omega arith
-text-place Source = omega arith
-text-place Notes = omega arith
-text-place Disclaimer = omega arith
-text-place Copyright = omega arith
+head-skip : (h : Header) (t : Text) (ts : List Text) → keyAt t ≡ none → headIn h (t ∷ ts) ≡ headIn h ts
+unfolding headIn
+head-skip h t ts e =
+    rw (says-skip (λ w ls. wordsLaid w) (h .name) t ts (InHeader FileName) e, says-skip (λ w ls. wordsLaid w) (h .revision) t ts (InHeader FileRev) e)
 
-or-head : (n : ℕ) (w more : List ℕ) (k : Keyword) → orArgument n w more (some k) ≡ cond (isHead n k) w more
-or-head n w more key.IbisVer = refl
-or-head n w more (key.InHeader p) = refl
-or-head n w more (key.Opens o) = refl
-or-head n w more (key.InComponent p) = refl
-or-head n w more (key.InModel p) = refl
-or-head n w more key.End = refl
+-- by a keyword's name
+abbrev headBy : Header → List ℕ → List ℕ → List Text → Header
+headBy h name w ts =
+    record {
+      name = keySays "file_name" (λ v ls. wordsLaid v) (cond (eqs name (bytes "file_name")) (wordsLaid w) (h .name)) ts;
+      revision = keySays "file_rev" (λ v ls. wordsLaid v) (cond (eqs name (bytes "file_rev")) (wordsLaid w) (h .revision)) ts;
+    }
 
-head-skips : (n : ℕ) (t : Text) (ts : List Text) → keyAt t ≡ none → headerIn n (t ∷ ts) ≡ headerIn n ts
-unfolding headerIn
-head-skips n t ts h = ap (orArgument n (argumentAt t) (headerIn n ts)) h
+head-by : (h : Header) (w : List ℕ) (ls : List (List ℕ)) (ts : List Text) (k : Keyword) → headBy h (bytes (spelling k)) w ts ≡ headIn (headStep h k w ls) ts
+unfolding headIn eqs
+head-by h w ls ts = each-keyword _ refl refl refl refl refl refl refl refl refl refl refl refl refl refl refl refl refl refl refl refl refl refl refl refl
 
-module _ {s : List ℕ} {d m : Cursor} {k : Keyword} {a e : ℕ} (n : ℕ) (h : KeyIs s d k a e m) where
-  head-key : headerIn n (rest s d) ≡ cond (isHead n k) (part a e s) (headerIn n (rest s m))
-  unfolding headerIn
-  head-key =
-      keys-only (headerIn n) (head-skips n) (rest s d)
-      ∙ ap (headerIn n) (h .more)
-      ∙ ap (orArgument n (argumentAt (h .text)) (headerIn n (rest s m))) (h .key)
-      ∙ or-head n (argumentAt (h .text)) (headerIn n (rest s m)) k
-      ∙ ap (λ (w : List ℕ). cond (isHead n k) w (headerIn n (rest s m))) (h .said)
+head-more : (h : Header) (t : Text) (ts : List Text) (k : Keyword) → keyAt t ≡ some k → headIn h (t ∷ ts) ≡ headIn (headStep h k (argumentAt t) (under ts)) ts
+unfolding headIn
+head-more h t ts k e =
+    rw (says-key (λ w ls. wordsLaid w) (h .name) t ts "file_name" k e, says-key (λ w ls. wordsLaid w) (h .revision) t ts "file_rev" k e)
+    (head-by h (argumentAt t) (under ts) ts k)
 
-  pub head-found : isHead n k ≡ true → headerIn n (rest s d) ≡ part a e s
-  head-found q = head-key ∙ cond-yes _ _ q
+pub head-fold : KeyFold headIn headStep
+unfolding headIn keySays
+head-fold = record { empty = λ h. refl; skip = head-skip; more = head-more }
 
-  pub head-more : isHead n k ≡ false → headerIn n (rest s d) ≡ headerIn n (rest s m)
-  head-more q = head-key ∙ cond-no _ _ q
+pub head-laid : (ts : List Text) → headIn noHeader (front isWithin ts) ≡ headerLaid ts
+unfolding headIn headerSays
+head-laid ts =
+    rw (says-map wordsLaid "file_name" (λ w ls. w) [] (front isWithin ts), says-map wordsLaid "file_rev" (λ w ls. w) [] (front isWithin ts))
 
-pub head-none : (n : ℕ) (ts : List Text) → after isKeyless ts ≡ [] → headerIn n ts ≡ []
-unfolding headerIn
-head-none n ts h = keys-only (headerIn n) (head-skips n) ts ∙ ap (headerIn n) h
+-- ---- a component's keywords
 
--- ---- a component's keywords, within its section
+boxes-append : (b : Boxes) (ls ks : List (List ℕ)) → boxesIn b (ls ++ ks) ≡ boxesIn (boxesIn b ls) ks
+unfolding boxesIn
+boxes-append b ls ks =
+    rw (says-append "R_pkg" cellsLine (b .resistance) ls ks, says-append "L_pkg" cellsLine (b .inductance) ls ks, says-append "C_pkg" cellsLine (b .capacitance) ls ks)
 
-component-skips : (x : ComponentIs) (t : Text) (ts : List Text) → keyAt t ≡ none → withComponentKeys x (t ∷ ts) ≡ withComponentKeys x ts
-unfolding withComponentKeys
-component-skips x t ts h = ap (λ (k : Option Keyword). withComponentKeys (onComponentKey x (argumentAt t) (under ts) k) ts) h
+part-skip : (q : Parts) (t : Text) (ts : List Text) → keyAt t ≡ none → partsIn q (t ∷ ts) ≡ partsIn q ts
+unfolding partsIn
+part-skip q t ts e =
+    rw (says-skip (λ w ls. nameLaid w) (q .manufacturer) t ts (InComponent Manufacturer) e, lines-skip t ts (InComponent Package) e, lines-skip t ts (InComponent Pin) e)
 
--- the component that the keywords within a section make of x
-abbrev made : ComponentIs → List Text → ComponentIs
-made x ts = withComponentKeys x (front isWithin ts)
+abbrev partBy : Parts → List ℕ → List ℕ → List (List ℕ) → List Text → Parts
+partBy q name w ls ts =
+    record {
+      manufacturer = keySays "manufacturer" (λ v ks. nameLaid v) (cond (eqs name (bytes "manufacturer")) (nameLaid w) (q .manufacturer)) ts;
+      boxes = boxesIn (boxesIn (q .boxes) (cond (eqs name (bytes "package")) ls [])) (linesUnder "package" ts);
+      pins = cond (eqs name (bytes "pin")) (q .pins + length ls) (q .pins) + length (linesUnder "pin" ts);
+    }
 
-made-keys : (x : ComponentIs) (ts us : List Text) → after isKeyless ts ≡ after isKeyless us → made x ts ≡ made x us
-made-keys x ts us h =
-    let f = keys-within (withComponentKeys x) (component-skips x) in
-    f ts ∙ ap (made x) h ∙ sym (f us)
+part-by : (q : Parts) (w : List ℕ) (ls : List (List ℕ)) (ts : List Text) (k : Keyword) → partBy q (bytes (spelling k)) w ls ts ≡ partsIn (partStep q k w ls) ts
+unfolding partsIn boxesIn lineSays eqs
+part-by q w ls ts = each-keyword _ refl refl refl refl refl refl refl refl refl refl refl refl refl refl refl refl refl refl refl refl refl refl refl refl
 
--- where the lines under a keyword end, the same keywords follow
-pub keys-stop : {s : List ℕ} {c n : Cursor} → StopsAt s c n → after isKeyless (rest s c) ≡ after isKeyless (rest s n)
-keys-stop {s} {c} h = sym (keys-behind (rest s c)) ∙ ap (after isKeyless) (h .behind)
+more-lines : (n : ℕ) (t : Bool) (ls ks : List (List ℕ)) → n + length (cond t ls [] ++ ks) ≡ cond t (n + length ls) n + length ks
+more-lines n true ls ks = omega (arith, length-append ls ks)
+more-lines n false ls ks = refl
 
-pub made-stop : {s : List ℕ} {c n : Cursor} (x : ComponentIs) → StopsAt s c n → made x (rest s c) ≡ made x (rest s n)
-made-stop {s} {c} {n} x h = made-keys x (rest s c) (rest s n) (keys-stop h)
+part-more : (q : Parts) (t : Text) (ts : List Text) (k : Keyword) → keyAt t ≡ some k → partsIn q (t ∷ ts) ≡ partsIn (partStep q k (argumentAt t) (under ts)) ts
+unfolding partsIn
+part-more q t ts k e =
+    rw (
+      says-key (λ w ls. nameLaid w) (q .manufacturer) t ts "manufacturer" k e,
+      lines-key t ts "package" k e,
+      lines-key t ts "pin" k e,
+      boxes-append (q .boxes) (cond (eqs (bytes (spelling k)) (bytes "package")) (under ts) []) (linesUnder "package" ts),
+      more-lines (q .pins) (eqs (bytes (spelling k)) (bytes "pin")) (under ts) (linesUnder "pin" ts),
+    )
+    (part-by q (argumentAt t) (under ts) ts k)
 
-made-none : (x : ComponentIs) (ts : List Text) → after isKeyless ts ≡ [] → made x ts ≡ x
-unfolding withComponentKeys front
-made-none x ts h = keys-within (withComponentKeys x) (component-skips x) ts ∙ ap (made x) h
+no-more : (n : ℕ) → n + 0 ≡ n
+no-more n = omega arith
 
-module _ {s : List ℕ} {d m : Cursor} {k : Keyword} {a e : ℕ} (x : ComponentIs) (h : KeyIs s d k a e m) where
-  made-first : made x (rest s d) ≡ made x (h .text ∷ rest s m)
-  made-first = keys-within (withComponentKeys x) (component-skips x) (rest s d) ∙ ap (made x) (h .more)
+part-empty : (q : Parts) → partsIn q [] ≡ q
+unfolding partsIn boxesIn lineSays keySays linesUnder
+part-empty q = rw (no-more (q .pins))
 
-  made-end : isEnd (some k) ≡ true → made x (rest s d) ≡ x
-  unfolding withComponentKeys
-  made-end q = made-first ∙ ap (withComponentKeys x) (within-stop (h .text) (rest s m) k (h .key) q)
+pub part-fold : KeyFold partsIn partStep
+part-fold = record { empty = part-empty; skip = part-skip; more = part-more }
 
-  made-more : isEnd (some k) ≡ false → made x (rest s d) ≡ made (onComponentKey x (part a e s) (under (rest s m)) (some k)) (rest s m)
-  unfolding withComponentKeys
-  made-more q =
-      made-first
-      ∙ ap (withComponentKeys x) (within-go (h .text) (rest s m) k (h .key) q)
-      ∙ ap (λ (o : Option Keyword). made (onComponentKey x (argumentAt (h .text)) (under (front isWithin (rest s m))) o) (rest s m)) (h .key)
-      ∙ ap (λ (w : List ℕ). made (onComponentKey x w (under (front isWithin (rest s m))) (some k)) (rest s m)) (h .said)
-      ∙ ap (λ (l : List (List ℕ)). made (onComponentKey x (part a e s) l (some k)) (rest s m)) (under-within (rest s m))
+-- ---- the component as it lies in its table: x and q are what its first lines and its keywords give
 
--- ---- a reading of the keywords that has come from c to d
+module _ (ts : List Text) where
+  pins-are : (0 + length (linesUnder "pin" (front isWithin ts))) ≡ length (pinsIn (front isWithin ts))
+  unfolding pinsIn
+  pins-are = omega (arith, length-map (linesUnder "pin" (front isWithin ts)) pinIn)
 
-pub record Standing (s : List ℕ) (c d : Cursor) (n : List ℕ) (ls : List Location) (q : Parts) : Type 0 where
-  pub so : ComponentIs
-  pub stands : Stands n ls so q
-  pub goes : made (bare n ls) (rest s c) ≡ made so (rest s d)
-
-pub standing-start : (s : List ℕ) (c : Cursor) (n : List ℕ) (ls : List Location) → Standing s c c n ls noParts
-standing-start s c n ls =
-    record { so = bare n ls; stands = record { name = refl; locations = refl; manufacturer = refl; boxed = refl; pins = refl }; goes = refl }
-
-module _ {s : List ℕ} {c d : Cursor} {n : List ℕ} {ls : List Location} {q : Parts} (g : Standing s c d n ls q) where
-  ended : made (g .so) (rest s d) ≡ g .so → Stands n ls (made (bare n ls) (rest s c)) q
-  ended h = subst (λ (x : ComponentIs). Stands n ls x q) (sym (g .goes ∙ h)) (g .stands)
-
-  pub standing-out : after isKeyless (rest s d) ≡ [] → Stands n ls (made (bare n ls) (rest s c)) q
-  standing-out h = ended (made-none (g .so) (rest s d) h)
-
-  module _ {m : Cursor} {k : Keyword} {a e : ℕ} (h : KeyIs s d k a e m) where
-    pub standing-end : (j : Keyword) → k ≡ j → isEnd (some j) ≡ true → Stands n ls (made (bare n ls) (rest s c)) q
-    standing-end j i t = ended (made-end (g .so) h (ap (λ (x : Keyword). isEnd (some x)) i ∙ t))
-
-    -- a keyword of another section changes nothing
-    pub standing-pass : (j : Keyword) → k ≡ j → isEnd (some j) ≡ false → ((x : ComponentIs) (w : List ℕ) (l : List (List ℕ)) → onComponentKey x w l (some j) ≡ x)
-        → Standing s c m n ls q
-    standing-pass j i t same =
-        let key = ap (λ (x : Keyword). onComponentKey (g .so) (part a e s) (under (rest s m)) (some x)) i ∙ same (g .so) (part a e s) (under (rest s m)) in
-        record {
-          so = g .so;
-          stands = g .stands;
-          goes = g .goes ∙ made-more (g .so) h (ap (λ (x : Keyword). isEnd (some x)) i ∙ t) ∙ ap (λ (x : ComponentIs). made x (rest s m)) key;
-        }
-
-    pub standing-part : (p : ComponentPart) (r : PartRead) → k ≡ key.InComponent p → PartIs s q p (part a e s) m r → Standing s c (r .next) n ls (r .parts)
-    standing-part p r i t =
-        let so : ComponentIs = onComponentPart (g .so) (part a e s) (under (rest s m)) p in
-        let key = ap (λ (x : Keyword). onComponentKey (g .so) (part a e s) (under (rest s m)) (some x)) i in
-        record {
-          so = so;
-          stands = t .stands n ls (g .so) (g .stands);
-          goes =
-              g .goes
-              ∙ made-more (g .so) h (ap (λ (x : Keyword). isEnd (some x)) i)
-              ∙ ap (λ (x : ComponentIs). made x (rest s m)) key
-              ∙ made-keys so (rest s m) (rest s (r .next)) (t .keys);
-        }
-
--- ---- a part more
-
-module _ {n : List ℕ} {ls : List Location} {x : ComponentIs} {q : Parts} (w : List ℕ) (l : List (List ℕ)) {p : ComponentPart} (h : Stands n ls x q) where
-  pub stands-manufacturer : p ≡ Manufacturer → (m : Name) → m ≡ nameLaid w
-      → Stands n ls (onComponentPart x w l p) (record { manufacturer = m; boxes = q .boxes; pins = q .pins })
-  stands-manufacturer i m e =
-      rw i (record { name = h .name; locations = h .locations; manufacturer = e; boxed = h .boxed; pins = h .pins })
-
-  pub stands-package : p ≡ Package → (b : Boxes) → boxesOf b ≡ packageIn (boxesOf (q .boxes)) l
-      → Stands n ls (onComponentPart x w l p) (record { manufacturer = q .manufacturer; boxes = b; pins = q .pins })
-  stands-package i b e =
-      rw i (record { name = h .name; locations = h .locations; manufacturer = h .manufacturer; boxed = e ∙ ap (λ (z : List _). packageIn z l) (h .boxed); pins = h .pins })
-
-  pub stands-pin : p ≡ Pin → (k : ℕ) → k ≡ length l
-      → Stands n ls (onComponentPart x w l p) (record { manufacturer = q .manufacturer; boxes = q .boxes; pins = q .pins + k })
-  stands-pin i k e =
-      rw i (record { name = h .name; locations = h .locations; manufacturer = h .manufacturer; boxed = h .boxed; pins = omega (arith, h .pins, e, length-append (x .pins) (map pinIn l), length-map l pinIn) })
-
--- ---- the component as it lies in its table
-
-pub component-laid : {n : List ℕ} {ls : List Location} {x : ComponentIs} {q : Parts} (section start : ℕ) (t : Sites)
-    → Stands n ls x q → ls ≡ sitesOf t
-    → record {
-      section = section;
-      name = nameLaid n;
-      si = t .si;
-      timing = t .timing;
-      manufacturer = q .manufacturer;
-      resistance = q .boxes .resistance;
-      inductance = q .boxes .inductance;
-      capacitance = q .boxes .capacitance;
-      pins = record { start = start; count = q .pins };
-    } ≡ componentLaid section start x
-unfolding componentLaid
-component-laid section start t h e = rw (h .name, h .locations ∙ e, h .manufacturer, sym (h .boxed), h .pins)
+  pub component-is : (section start : ℕ) (name : List ℕ)
+      → (let x = sitesIn noSites (under ts) in
+      let q = partsIn noParts (front isWithin ts) in
+      record {
+        section = section;
+        name = nameLaid name;
+        si = x .si;
+        timing = x .timing;
+        manufacturer = q .manufacturer;
+        resistance = q .boxes .resistance;
+        inductance = q .boxes .inductance;
+        capacitance = q .boxes .capacitance;
+        pins = record { start = start; count = q .pins };
+      })
+      ≡ componentIn section (record { start = start; count = length (pinsIn (front isWithin ts)) }) name (front isWithin ts)
+  unfolding componentIn sitesIn partsIn boxesIn
+  component-is section start name = rw (sym (under-within ts), pins-are)

@@ -6,97 +6,108 @@ use native.Mathlib.Omega.{arith}
 use lib.ListN.{length, drop, drop-of-length-le, length-drop}
 use lib.Seq.{drop-drop}
 use Rattle.laws.specs.Bytes.{isBlank}
-use Rattle.laws.specs.Lists.{front, after, part, eqs}
+use Rattle.laws.specs.Lists.{front, after, part}
 use Rattle.laws.proofs.Tests.{by-order}
 use Rattle.laws.proofs.Lists.{part-none, part-length}
 use Rattle.laws.proofs.Fronts.{after-at, front-le}
-use Rattle.decimal.specs.Decimal.{cellOf, isMissing, numberOf, unsigned, figures, places, afterSign, pointPlaces}
-use Rattle.words.specs.Words.{isInk, words}
-use Rattle.words.specs.Places.{WordAt}
+use Rattle.laws.specs.Said.{orElse}
+use Rattle.words.specs.Words.{word, words}
+use Rattle.words.specs.Places.{WordAt, isInk}
 use Rattle.words.specs.declared.Word.{Word}
 use Rattle.words.proofs.Laws.{words-none, words-some}
 use Rattle.line_cells.specs.Threes.{bytesOf, Within}
-use Rattle.line_rules.specs.Fields.{firstWord, otherWords, cellIs}
-use Rattle.rules.specs.Reading.{cellFrom, pinIn, keptModel}
-use Rattle.layout.specs.Laid.{pinLaid}
-use Rattle.records.specs.Stored.{nameLaid}
+use Rattle.line_rules.specs.Answers.{tripleRead, tripleSays}
+use Rattle.line_rules.specs.declared.TripleRead.{TripleRead}
+use Rattle.line_rules.proofs.Answers.{triple-said}
+use Rattle.rules.specs.Component.{keptModel, pinCells, pinIn}
+use Rattle.records.specs.Stored.{nameLaid, noCells}
 
 pub record WordFrom (s : List ℕ) (at : ℕ) (r : Word) : Type 0 where
-  pub text : bytesOf s r ≡ firstWord (words (drop at s))
-  pub others : words (drop (r .end) s) ≡ otherWords (words (drop at s))
+  pub text : bytesOf s r ≡ word 0 (words (drop at s))
+  pub others : words (drop (r .end) s) ≡ drop 1 (words (drop at s))
   pub within : Within s r
 
 pub word-from : (s : List ℕ) (at : ℕ) (r : Word) → WordAt s at r → WordFrom s at r
-unfolding firstWord otherWords words
+unfolding word words
 word-from s at r h =
     by-order (length s) (r .start)
     (λ k.
     let e : r .end ≡ r .start = omega (arith, h .starts, h .ends) in
     let l : length s ≤ r .end = omega (arith, h .starts) in
     record {
-      text = ap (λ (n : ℕ). part (r .start) n s) e ∙ part-none s (r .start) ∙ sym (ap firstWord (h .none k));
-      others = ap words (drop-of-length-le s l) ∙ sym (ap otherWords (h .none k));
+      text = ap (λ (n : ℕ). part (r .start) n s) e ∙ part-none s (r .start) ∙ sym (ap (word 0) (h .none k));
+      others = ap words (drop-of-length-le s l) ∙ sym (ap (λ (l : List (List ℕ)). drop 1 l) (h .none k));
       within = record { starts = h .starts; ends = h .ends };
     })
     (λ k.
     record {
-      text = sym (ap firstWord (h .some k));
-      others = sym (ap otherWords (h .some k));
+      text = sym (ap (word 0) (h .some k));
+      others = sym (ap (λ (l : List (List ℕ)). drop 1 l) (h .some k));
       within = record { starts = h .starts; ends = h .ends };
     })
 
--- a word that is not there is a missing cell, as an empty one is
-cell-from : (ws : List (List ℕ)) → cellIs (cellOf (firstWord ws)) ≡ cellFrom ws
-unfolding cellFrom firstWord cellOf isMissing numberOf unsigned figures places afterSign pointPlaces eqs front after
-cell-from [] = refl
-cell-from (a ∷ ws) = refl
+-- words by their places
+word-second : (ws : List (List ℕ)) → word 0 (drop 1 ws) ≡ word 1 ws
+unfolding word
+word-second [] = refl
+word-second (a ∷ ws) = refl
 
-cell-at : {s : List ℕ} {at : ℕ} {r : Word} {ws : List (List ℕ)} → WordFrom s at r → words (drop at s) ≡ ws → cellIs (cellOf (bytesOf s r)) ≡ cellFrom ws
-cell-at {ws} h e = ap (λ (x : List ℕ). cellIs (cellOf x)) (h .text ∙ ap firstWord e) ∙ cell-from ws
+word-third : (ws : List (List ℕ)) → word 0 (drop 1 (drop 1 ws)) ≡ word 2 ws
+unfolding word
+word-third [] = refl
+word-third (a ∷ []) = refl
+word-third (a ∷ b ∷ ws) = refl
 
--- ---- a pin row: six words, each from where the one before ends
+drop-third : (ws : List (List ℕ)) → drop 1 (drop 1 (drop 1 ws)) ≡ drop 3 ws
+drop-third [] = refl
+drop-third (a ∷ []) = refl
+drop-third (a ∷ b ∷ []) = refl
+drop-third (a ∷ b ∷ c ∷ ws) = refl
 
-module _ (w : List ℕ) (name signal model resistance inductance capacitance : Word) (a : WordFrom w 0 name)
-    (b : WordFrom w (name .end) signal) (c : WordFrom w (signal .end) model) (d : WordFrom w (model .end) resistance)
-    (e : WordFrom w (resistance .end) inductance) (f : WordFrom w (inductance .end) capacitance) where
-  pub pin-laid : record {
-    name = nameLaid (bytesOf w name);
-    signal = nameLaid (bytesOf w signal);
-    model = nameLaid (keptModel (bytesOf w model));
-    resistance = cellIs (cellOf (bytesOf w resistance));
-    inductance = cellIs (cellOf (bytesOf w inductance));
-    capacitance = cellIs (cellOf (bytesOf w capacitance));
-  } ≡ pinLaid (pinIn w)
-  unfolding pinLaid pinIn
-  pin-laid =
-      let signals = a .others in
-      let models = b .others ∙ ap otherWords signals in
-      let cells = c .others ∙ ap otherWords models in
-      let second = d .others ∙ ap otherWords cells in
-      let third = e .others ∙ ap otherWords second in
-      rw (a .text, b .text ∙ ap firstWord signals, c .text ∙ ap firstWord models, cell-at d cells, cell-at e second, cell-at f third)
+-- ---- a pin row: three words, each from where the one before ends, and the cells behind them
+
+module _ (w : List ℕ) (name signal model : Word) (a : WordFrom w 0 name) (b : WordFrom w (name .end) signal) (c : WordFrom w (signal .end) model) where
+  pub pin-is : (r : TripleRead) → r ≡ tripleRead (pinCells (words (drop (model .end) w)))
+      → (let cells = orElse noCells (tripleSays r) in
+      record {
+        name = nameLaid (bytesOf w name);
+        signal = nameLaid (bytesOf w signal);
+        model = nameLaid (keptModel (bytesOf w model));
+        resistance = cells .typ;
+        inductance = cells .min;
+        capacitance = cells .max;
+      })
+      ≡ pinIn w
+  unfolding pinIn
+  pin-is r e =
+      let next : List (List ℕ) → List (List ℕ) = λ l. drop 1 l in
+      let second = b .text ∙ ap (word 0) (a .others) ∙ word-second (words w) in
+      let third = c .text ∙ ap (word 0) (b .others ∙ ap next (a .others)) ∙ word-third (words w) in
+      let behind = c .others ∙ ap next (b .others ∙ ap next (a .others)) ∙ drop-third (words w) in
+      let cells = triple-said r (pinCells (words (drop (model .end) w))) e ∙ ap pinCells behind in
+      rw (a .text, second, third, cells)
 
 -- ---- a selector row
 
 module _ (w : List ℕ) (model : Word) (start : ℕ) (m : WordFrom w 0 model) (s : start ≡ 0 + length (front isBlank w)) where
-  long : length (firstWord (words w)) ≡ model .end - model .start
+  long : length (word 0 (words w)) ≡ model .end - model .start
   long = sym (ap length (m .text)) ∙ part-length w (model .start) (model .end) (m .within .ends)
 
   pub choice-fits : start + (model .end - model .start) ≤ length w
-  unfolding firstWord
+  unfolding word
   choice-fits =
       by-order (length w) start
-      (λ k. omega (arith, sym long ∙ ap (λ (ws : List (List ℕ)). length (firstWord ws)) (words-none w 0 start s k), front-le isBlank w))
+      (λ k. omega (arith, sym long ∙ ap (λ (ws : List (List ℕ)). length (word 0 ws)) (words-none w 0 start s k), front-le isBlank w))
       (λ k.
       let end : ℕ = start + length (front isInk (drop start w)) in
       let fits : end ≤ length w = omega (arith, front-le isInk (drop start w), length-drop start w) in
-      omega (arith, sym long ∙ ap (λ (ws : List (List ℕ)). length (firstWord ws)) (words-some w 0 start s k end refl), part-length w start end fits))
+      omega (arith, sym long ∙ ap (λ (ws : List (List ℕ)). length (word 0 ws)) (words-some w 0 start s k end refl), part-length w start end fits))
 
   pub choice-behind : (at : ℕ) → at ≡ start + (model .end - model .start) + length (front isBlank (drop (start + (model .end - model .start)) w))
-      → drop at w ≡ after isBlank (drop (length (firstWord (words w))) (after isBlank w))
+      → drop at w ≡ after isBlank (drop (length (word 0 (words w))) (after isBlank w))
   choice-behind at h =
       sym
-      (ap (λ (x : List ℕ). after isBlank (drop (length (firstWord (words w))) x)) (after-at isBlank w 0 start s)
+      (ap (λ (x : List ℕ). after isBlank (drop (length (word 0 (words w))) x)) (after-at isBlank w 0 start s)
       ∙ ap (λ (n : ℕ). after isBlank (drop n (drop start w))) long
       ∙ ap (after isBlank) (drop-drop (model .end - model .start) start w)
       ∙ after-at isBlank w (start + (model .end - model .start)) at h)

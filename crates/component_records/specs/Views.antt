@@ -1,19 +1,22 @@
--- What the code's structs say of what is read from a section's texts.
-use Prim.Native.Nat.{ℕ, _≤_}
+-- What the code's structs hold of what is read from a section's texts, line by line and keyword by keyword.
+use Prim.Native.Nat.{ℕ, _+_, _≤_}
 use mathlib.Core.Path.{_≡_}
-use mathlib.Core.List.{List, [], _∷_, map}
-use mathlib.Core.Bool.{Bool, false}
-use lib.ListN.{length, replicate}
+use mathlib.Core.List.{List, []}
+use mathlib.Core.Bool.{cond}
+use lib.ListN.{length}
 use lib.Dec.{eqb}
-use Rattle.laws.specs.Lists.{front, after}
+use Rattle.laws.specs.Lists.{after}
 use Rattle.keywords.specs.declared.Keyword.{Keyword}
 use Rattle.keywords.specs.declared.Keyword.the-variants as key
+use Rattle.keywords.specs.declared.HeaderPart.the-variants.{FileName, FileRev, FreeText}
 use Rattle.keywords.specs.declared.ComponentPart.{ComponentPart}
-use Rattle.cut_lines.specs.Texts.{Text, rest}
-use Rattle.cut_lines.specs.Cursors.{Placed}
+use Rattle.keywords.specs.declared.ComponentPart.the-variants.{Manufacturer, Package, Pin}
+use Rattle.cut_lines.specs.Texts.{Text}
+use Rattle.cut_lines.specs.Cursors.{rest, Placed}
 use Rattle.cut_lines.specs.declared.Cursor.{Cursor}
-use Rattle.rules.specs.Header.{headerPlace}
-use Rattle.rules.specs.Reading.{under, isWithin, locationsIn, packageIn, ComponentIs, onComponentPart, withComponentKeys, choiceIn, SelectorIs, headerIn}
+use Rattle.line_rules.specs.Fields.{wordLine, cellsLine, takes, lineSays}
+use Rattle.line_rules.specs.Tables.{locations}
+use Rattle.rules.specs.Reading.{under, linesUnder, keySays, headerSays}
 use Rattle.records.specs.Stored.{noCells, nameLaid, wordsLaid}
 use Rattle.records.specs.declared.Triple.{Triple}
 use Rattle.records.specs.declared.Location.{Location}
@@ -30,36 +33,72 @@ use Rattle.component_records.specs.declared.sections.PartRead.{PartRead}
 -- ---- the header
 
 abbrev pub headerLaid : List Text → Header
-headerLaid ts = record { name = wordsLaid (headerIn 0 ts); revision = wordsLaid (headerIn 1 ts) }
+headerLaid ts = record { name = wordsLaid (headerSays "file_name" ts); revision = wordsLaid (headerSays "file_rev" ts) }
 
--- a keyword at place n of the header
-abbrev pub isHead : ℕ → Keyword → Bool
-isHead n key.IbisVer = false
-isHead n (key.InHeader p) = eqb n (headerPlace p)
-isHead n (key.Opens o) = false
-isHead n (key.InComponent p) = false
-isHead n (key.InModel p) = false
-isHead n key.End = false
+abbrev pub noHeader : Header
+noHeader = record { name = wordsLaid []; revision = wordsLaid [] }
 
--- ---- [Model Selector]; ts are the section's texts behind its keyword
+-- what texts make of a header, and one keyword of them
+unfoldable pub headIn : Header → List Text → Header
+headIn h ts =
+    record { name = keySays "file_name" (λ w ls. wordsLaid w) (h .name) ts; revision = keySays "file_rev" (λ w ls. wordsLaid w) (h .revision) ts }
 
-abbrev pub selectorIn : List ℕ → List Text → SelectorIs
-selectorIn n ts = record { name = n; choices = map choiceIn (under ts) }
+abbrev pub headStep : Header → Keyword → List ℕ → List (List ℕ) → Header
+headStep h key.IbisVer w ls = h
+headStep h (key.InHeader FileName) w ls = record { name = wordsLaid w; revision = h .revision }
+headStep h (key.InHeader FileRev) w ls = record { name = h .name; revision = wordsLaid w }
+headStep h (key.InHeader (FreeText t)) w ls = h
+headStep h (key.Opens o) w ls = h
+headStep h (key.InComponent p) w ls = h
+headStep h (key.InModel p) w ls = h
+headStep h key.End w ls = h
 
--- ---- a component's lists
+-- ---- a component's lists: what lines make of them, one line of them, and a value at its place
 
-abbrev pub boxesOf : Boxes → List Triple
-boxesOf b = b .resistance ∷ b .inductance ∷ b .capacitance ∷ []
+unfoldable pub boxesIn : Boxes → List (List ℕ) → Boxes
+boxesIn b ls =
+    record {
+      resistance = lineSays "R_pkg" cellsLine (b .resistance) ls;
+      inductance = lineSays "L_pkg" cellsLine (b .inductance) ls;
+      capacitance = lineSays "C_pkg" cellsLine (b .capacitance) ls;
+    }
+
+abbrev pub boxLine : Boxes → List ℕ → Boxes
+boxLine b w =
+    record {
+      resistance = takes "R_pkg" cellsLine (b .resistance) w;
+      inductance = takes "L_pkg" cellsLine (b .inductance) w;
+      capacitance = takes "C_pkg" cellsLine (b .capacitance) w;
+    }
+
+abbrev pub boxAt : Boxes → ℕ → Triple → Boxes
+boxAt b n t =
+    record {
+      resistance = cond (eqb n 0) t (b .resistance);
+      inductance = cond (eqb n 1) t (b .inductance);
+      capacitance = cond (eqb n 2) t (b .capacitance);
+    }
 
 pub record BoxesAre (s : List ℕ) (c : Cursor) (b : Boxes) (r : BoxesRead) : Type 0 where
-  pub boxes : boxesOf (r .boxes) ≡ packageIn (boxesOf b) (under (rest s c))
+  pub boxes : r .boxes ≡ boxesIn b (under (rest s c))
   pub stops : StopsAt s c (r .next)
 
-abbrev pub sitesOf : Sites → List Location
-sitesOf l = l .si ∷ l .timing ∷ []
+unfoldable pub sitesIn : Sites → List (List ℕ) → Sites
+sitesIn x ls =
+    record { si = lineSays "Si_location" (wordLine locations) (x .si) ls; timing = lineSays "Timing_location" (wordLine locations) (x .timing) ls }
+
+abbrev pub siteLine : Sites → List ℕ → Sites
+siteLine x w =
+    record { si = takes "Si_location" (wordLine locations) (x .si) w; timing = takes "Timing_location" (wordLine locations) (x .timing) w }
+
+abbrev pub siteAt : Sites → ℕ → Location → Sites
+siteAt x n l = record { si = cond (eqb n 0) l (x .si); timing = cond (eqb n 1) l (x .timing) }
+
+abbrev pub noSites : Sites
+noSites = record { si = AtPin; timing = AtPin }
 
 pub record SitesAre (s : List ℕ) (c : Cursor) (r : SitesRead) : Type 0 where
-  pub sites : sitesOf (r .sites) ≡ locationsIn (AtPin ∷ AtPin ∷ []) (under (rest s c))
+  pub sites : r .sites ≡ sitesIn noSites (under (rest s c))
   pub stops : StopsAt s c (r .next)
 
 -- ---- a component's keywords
@@ -67,25 +106,32 @@ pub record SitesAre (s : List ℕ) (c : Cursor) (r : SitesRead) : Type 0 where
 abbrev pub noParts : Parts
 noParts = record { manufacturer = nameLaid []; boxes = record { resistance = noCells; inductance = noCells; capacitance = noCells }; pins = 0 }
 
--- the struct stands for a component with this name and these locations
-pub record Stands (n : List ℕ) (ls : List Location) (x : ComponentIs) (q : Parts) : Type 0 where
-  pub name : x .name ≡ n
-  pub locations : x .locations ≡ ls
-  pub manufacturer : q .manufacturer ≡ nameLaid (x .manufacturer)
-  pub boxed : boxesOf (q .boxes) ≡ x .boxed
-  pub pins : q .pins ≡ length (x .pins)
+-- what texts make of the parts, and one keyword of them, w being its argument and ls the lines under it
+unfoldable pub partsIn : Parts → List Text → Parts
+partsIn q ts =
+    record {
+      manufacturer = keySays "manufacturer" (λ w ls. nameLaid w) (q .manufacturer) ts;
+      boxes = boxesIn (q .boxes) (linesUnder "package" ts);
+      pins = q .pins + length (linesUnder "pin" ts);
+    }
 
--- the part read, w being its argument, and a place from where the same keywords follow
-pub record PartIs (s : List ℕ) (q : Parts) (p : ComponentPart) (w : List ℕ) (c : Cursor) (r : PartRead) : Type 0 where
-  pub stands : (n : List ℕ) (ls : List Location) (x : ComponentIs) → Stands n ls x q → Stands n ls (onComponentPart x w (under (rest s c)) p) (r .parts)
+abbrev pub onPart : Parts → ComponentPart → List ℕ → List (List ℕ) → Parts
+onPart q Manufacturer w ls = record { manufacturer = nameLaid w; boxes = q .boxes; pins = q .pins }
+onPart q Package w ls = record { manufacturer = q .manufacturer; boxes = boxesIn (q .boxes) ls; pins = q .pins }
+onPart q Pin w ls = record { manufacturer = q .manufacturer; boxes = q .boxes; pins = q .pins + length ls }
+
+abbrev pub partStep : Parts → Keyword → List ℕ → List (List ℕ) → Parts
+partStep q key.IbisVer w ls = q
+partStep q (key.InHeader p) w ls = q
+partStep q (key.Opens o) w ls = q
+partStep q (key.InComponent p) w ls = onPart q p w ls
+partStep q (key.InModel p) w ls = q
+partStep q key.End w ls = q
+
+-- a keyword read, w being its argument, and a place from where the same keywords follow
+pub record PartIs (s : List ℕ) (q : Parts) (k : Keyword) (w : List ℕ) (c : Cursor) (r : PartRead) : Type 0 where
+  pub parts : r .parts ≡ partStep q k w (under (rest s c))
   pub keys : after isKeyless (rest s c) ≡ after isKeyless (rest s (r .next))
   pub placed : Placed s (r .next)
   pub rises : c .at ≤ r .next .at
   pub bounded : r .parts .pins ≤ r .next .at
-
--- nothing read yet
-abbrev pub bare : List ℕ → List Location → ComponentIs
-bare n ls = record { name = n; locations = ls; manufacturer = []; boxed = replicate 3 noCells; pins = [] }
-
-abbrev pub PartsAre : List ℕ → Cursor → Parts → Type 0
-PartsAre s c q = (n : List ℕ) (ls : List Location) → Stands n ls (withComponentKeys (bare n ls) (front isWithin (rest s c))) q

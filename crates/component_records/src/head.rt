@@ -1,44 +1,62 @@
-// The header: the arguments of [File Name] and [File Rev]. A search stops at its keyword, so it does not leave the header of a good file.
+// The header: the arguments of [File Name] and [File Rev], which stand before the first section.
 ghost use mathlib.Core.Path.{_≡_};
-ghost use Prim.Native.Nat.{_<_};
-ghost use Rattle.cut_lines.specs.Texts.{rest};
-ghost use Rattle.cut_lines.specs.Cursors.{Placed};
-ghost use Rattle.rules.specs.Reading.{headerIn};
-ghost use Rattle.records.specs.Stored.{wordsLaid};
-ghost use Rattle.component_records.specs.Views.{isHead, headerLaid};
+ghost use mathlib.Core.List.{List};
+ghost use Prim.Native.Nat.{ℕ};
+ghost use Rattle.keywords.specs.declared.Keyword.the-variants.{InHeader};
+ghost use Rattle.cut_lines.specs.Cursors.{rest, Placed};
+ghost use Rattle.component_records.specs.Views.{noHeader, headStep, headerLaid};
 use cut_lines::Cursor;
 use keywords::HeaderPart;
 use keywords::Keyword;
 use lines_under::KeyNext;
 use records::Header;
-use records::Words;
 use records::no_words;
 use records::words_of;
 
-// The keyword at place n of the header: [File Name] at 0, [File Rev] at 1.
-fn is_head(k: Keyword, n: usize) -> bool
-    requires { ⌜ n < 2 ⌝ }
-    ensures { λ r. ⌜ r ≡ isHead n k ⌝ }
+fn no_header() -> Header
+    ensures { λ r. ⌜ r ≡ noHeader ⌝ }
 {
-    match k {
-        Keyword::InHeader(p) => match p {
-            HeaderPart::FileName => n == 0,
-            HeaderPart::FileRev => n == 1,
-            HeaderPart::FreeText(_) => false,
-        },
-        Keyword::IbisVer => false,
-        Keyword::Opens(_) => false,
-        Keyword::InComponent(_) => false,
-        Keyword::InModel(_) => false,
-        Keyword::End => false,
+    Header {
+        name: no_words(),
+        revision: no_words(),
     }
 }
 
-fn argument_of(src: &[u8], c: Cursor, n: usize) -> Words
-    requires { ⌜ Placed (now src) c ⌝ }
-    requires { ⌜ n < 2 ⌝ }
-    ensures { λ r. ⌜ r ≡ wordsLaid (headerIn n (rest (now (src .entry)) c)) ⌝ }
+fn with_part(h: Header, p: HeaderPart, argument: &[u8]) -> Header
+    ensures { λ r. ⌜ ((ls : List (List ℕ)) → r ≡ headStep h (InHeader p) (now (argument .entry)) ls) ⌝ }
 {
+    let mut header = h;
+    match p {
+        HeaderPart::FileName => {
+            header.name = words_of(argument);
+        }
+        HeaderPart::FileRev => {
+            header.revision = words_of(argument);
+        }
+        HeaderPart::FreeText(_) => {}
+    }
+    header
+}
+
+// A keyword of the header goes to its place; another changes nothing.
+fn with_key(h: Header, k: Keyword, argument: &[u8]) -> Header
+    ensures { λ r. ⌜ ((ls : List (List ℕ)) → r ≡ headStep h k (now (argument .entry)) ls) ⌝ }
+{
+    match k {
+        Keyword::InHeader(p) => with_part(h, p, argument),
+        Keyword::IbisVer => h,
+        Keyword::Opens(_) => h,
+        Keyword::InComponent(_) => h,
+        Keyword::InModel(_) => h,
+        Keyword::End => h,
+    }
+}
+
+pub fn header_of(src: &[u8], c: Cursor) -> Header
+    requires { ⌜ Placed (now src) c ⌝ }
+    ensures { λ r. ⌜ r ≡ headerLaid (rest (now (src .entry)) c) ⌝ }
+{
+    let mut header = no_header();
     let mut d = c;
     loop {
         match lines_under::next_key(src, d) {
@@ -48,24 +66,13 @@ fn argument_of(src: &[u8], c: Cursor, n: usize) -> Words
                 end,
                 next,
             } => {
-                if is_head(keyword, n) {
-                    return words_of(&src[start..end]);
+                if lines_under::ends(keyword) {
+                    return header;
                 }
+                header = with_key(header, keyword, &src[start..end]);
                 d = next;
             }
-            KeyNext::NoKey => {
-                return no_words();
-            }
+            KeyNext::NoKey => return header,
         }
-    }
-}
-
-pub fn header_of(src: &[u8], c: Cursor) -> Header
-    requires { ⌜ Placed (now src) c ⌝ }
-    ensures { λ r. ⌜ r ≡ headerLaid (rest (now (src .entry)) c) ⌝ }
-{
-    Header {
-        name: argument_of(src, c, 0),
-        revision: argument_of(src, c, 1),
     }
 }

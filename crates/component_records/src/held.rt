@@ -1,6 +1,6 @@
 // A pin's model as it lies in its record.
 ghost use mathlib.Core.Path.{_≡_};
-ghost use Rattle.rules.specs.Reading.{keptModel};
+ghost use Rattle.rules.specs.Component.{keptModel};
 ghost use Rattle.records.specs.Stored.{nameLaid};
 use records::Name;
 use records::name_of;

@@ -1,13 +1,9 @@
 // A component's lists of named lines, each line at its place: Si_location and Timing_location; R_pkg, L_pkg and C_pkg.
 ghost use mathlib.Core.Path.{_≡_};
-ghost use lib.ListN.{set};
 ghost use Rattle.cut_lines.specs.Cursors.{Placed};
-ghost use Rattle.line_rules.specs.Fields.{lineAt, wordMeaning, namedCells, orGiven, tripleIs};
-ghost use Rattle.line_rules.specs.Tables.{componentLines, locations, packageLines};
-ghost use Rattle.rules.specs.Reading.{atPlace};
-ghost use Rattle.records.specs.declared.Location.the-variants.{AtPin};
-ghost use Rattle.component_records.specs.Views.{boxesOf, sitesOf, BoxesAre, SitesAre};
+ghost use Rattle.component_records.specs.Views.{boxLine, boxAt, siteLine, siteAt, BoxesAre, SitesAre};
 use cut_lines::Cursor;
+use line_rules::TripleRead;
 use lines_under::LineNext;
 use name_table::Found;
 use named_lines::LocationRead;
@@ -39,7 +35,7 @@ pub struct SitesRead {
 
 // The cells at place n; there are three places.
 fn box_at(b: Boxes, n: usize, cells: Triple) -> Boxes
-    ensures { λ r. ⌜ boxesOf r ≡ set (boxesOf b) n cells ⌝ }
+    ensures { λ r. ⌜ r ≡ boxAt b n cells ⌝ }
 {
     let mut boxes = b;
     match n {
@@ -58,10 +54,13 @@ fn box_at(b: Boxes, n: usize, cells: Triple) -> Boxes
 }
 
 fn box_line(b: Boxes, w: &[u8]) -> Boxes
-    ensures { λ r. ⌜ boxesOf r ≡ atPlace (boxesOf b) (tripleIs (namedCells (now (w .entry)))) (lineAt packageLines (now (w .entry))) ⌝ }
+    ensures { λ r. ⌜ r ≡ boxLine b (now (w .entry)) ⌝ }
 {
     match named_lines::package_line(w) {
-        Found::At(n) => box_at(b, n, line_cells::triple_is(line_faults::named_cells(w))),
+        Found::At(n) => match line_faults::cells_line(w) {
+            TripleRead::Cells(cells) => box_at(b, n, cells),
+            TripleRead::Flawed(_) => b,
+        },
         Found::Nothing => b,
     }
 }
@@ -89,19 +88,9 @@ pub(crate) fn boxes_under(src: &[u8], c: Cursor, b: Boxes) -> BoxesRead
     }
 }
 
-// "Pin if absent".
-fn location_or_pin(w: &[u8]) -> Location
-    ensures { λ r. ⌜ r ≡ orGiven (wordMeaning locations (now (w .entry))) AtPin ⌝ }
-{
-    match named_lines::location_of(w) {
-        LocationRead::Located(l) => l,
-        LocationRead::NoLocation => Location::AtPin,
-    }
-}
-
 // The location at place n; there are two places.
 fn site_at(s: Sites, n: usize, l: Location) -> Sites
-    ensures { λ r. ⌜ sitesOf r ≡ set (sitesOf s) n l ⌝ }
+    ensures { λ r. ⌜ r ≡ siteAt s n l ⌝ }
 {
     let si = s.si;
     let timing = s.timing;
@@ -116,10 +105,13 @@ fn site_at(s: Sites, n: usize, l: Location) -> Sites
 }
 
 fn site_line(s: Sites, w: &[u8]) -> Sites
-    ensures { λ r. ⌜ sitesOf r ≡ atPlace (sitesOf s) (orGiven (wordMeaning locations (now (w .entry))) AtPin) (lineAt componentLines (now (w .entry))) ⌝ }
+    ensures { λ r. ⌜ r ≡ siteLine s (now (w .entry)) ⌝ }
 {
     match named_lines::component_line(w) {
-        Found::At(n) => site_at(s, n, location_or_pin(w)),
+        Found::At(n) => match named_lines::location_of(w) {
+            LocationRead::Located(l) => site_at(s, n, l),
+            LocationRead::NoLocation => s,
+        },
         Found::Nothing => s,
     }
 }

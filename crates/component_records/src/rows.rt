@@ -1,14 +1,10 @@
 // A pin row and a selector row, word by word. A word that is not there is an empty one.
 ghost use mathlib.Core.Path.{_≡_};
-ghost use Rattle.decimal.specs.Decimal.{cellOf};
 ghost use Rattle.line_cells.specs.Threes.{bytesOf, Within};
-ghost use Rattle.rules.specs.Reading.{keptModel, pinIn, choiceIn};
-ghost use Rattle.line_rules.specs.Fields.{cellIs};
-ghost use Rattle.layout.specs.Laid.{pinLaid, choiceLaid};
+ghost use Rattle.rules.specs.Component.{keptModel, pinIn};
+ghost use Rattle.rules.specs.Reading.{choiceIn};
 ghost use Rattle.records.specs.Stored.{nameLaid};
 use crate::held::model_kept;
-use decimal::Cell;
-use decimal::CellRead;
 use records::Choice;
 use records::Name;
 use records::Pin;
@@ -34,40 +30,29 @@ fn model_at(w: &[u8], r: Word) -> Name
     model_kept(&w[start..end])
 }
 
-fn cell_at(w: &[u8], r: Word) -> Cell
-    requires { ⌜ Within (now w) r ⌝ }
-    ensures { λ n. ⌜ n ≡ cellIs (cellOf (bytesOf (now (w .entry)) r)) ⌝ }
-{
-    let start = r.start;
-    let end = r.end;
-    match decimal::cell_of(&w[start..end]) {
-        CellRead::Read(cell) => cell,
-        CellRead::Bad(_) => Cell::Missing,
-    }
-}
-
 pub fn pin_of(w: &[u8]) -> Pin
-    ensures { λ r. ⌜ r ≡ pinLaid (pinIn (now (w .entry))) ⌝ }
+    ensures { λ r. ⌜ r ≡ pinIn (now (w .entry)) ⌝ }
 {
     let name = words::word_at(w, 0);
     let signal = words::word_at(w, name.end);
     let model = words::word_at(w, signal.end);
-    let resistance = words::word_at(w, model.end);
-    let inductance = words::word_at(w, resistance.end);
-    let capacitance = words::word_at(w, inductance.end);
+    let cells = line_cells::triple_is(line_cells::pin_cells(w, model.end));
+    let resistance = cells.typ;
+    let inductance = cells.min;
+    let capacitance = cells.max;
     Pin {
         name: name_at(w, name),
         signal: name_at(w, signal),
         model: model_at(w, model),
-        resistance: cell_at(w, resistance),
-        inductance: cell_at(w, inductance),
-        capacitance: cell_at(w, capacitance),
+        resistance: resistance,
+        inductance: inductance,
+        capacitance: capacitance,
     }
 }
 
 // The description begins behind the model's name and the blanks after it.
 pub fn choice_of(w: &[u8]) -> Choice
-    ensures { λ r. ⌜ r ≡ choiceLaid (choiceIn (now (w .entry))) ⌝ }
+    ensures { λ r. ⌜ r ≡ choiceIn (now (w .entry)) ⌝ }
 {
     let model = words::word_at(w, 0);
     let start = words::skip_blanks(w, 0);

@@ -2,13 +2,14 @@
 ghost use mathlib.Core.Path.{_≡_};
 ghost use mathlib.Core.List.{List};
 ghost use Prim.Native.Nat.{ℕ, _≤_};
+ghost use lib.ListN.{length};
 ghost use Rattle.laws.specs.Lists.{front};
+ghost use Rattle.keywords.specs.declared.Keyword.the-variants.{InComponent};
 ghost use Rattle.keywords.specs.declared.ComponentPart.the-variants.{Package, Pin};
-ghost use Rattle.cut_lines.specs.Texts.{rest};
-ghost use Rattle.cut_lines.specs.Cursors.{Placed};
-ghost use Rattle.rules.specs.Reading.{isWithin, componentIn};
-ghost use Rattle.layout.specs.Laid.{selectorLaid, componentLaid};
-ghost use Rattle.component_records.specs.Views.{selectorIn, noParts, PartIs, PartsAre};
+ghost use Rattle.cut_lines.specs.Cursors.{rest, Placed};
+ghost use Rattle.rules.specs.Reading.{isWithin, pinsIn, componentIn, choicesIn};
+ghost use Rattle.records.specs.Stored.{nameLaid};
+ghost use Rattle.component_records.specs.Views.{noParts, partsIn, PartIs};
 use crate::lists::Boxes;
 use crate::lists::boxes_under;
 use crate::lists::sites_under;
@@ -26,7 +27,7 @@ use records::no_name;
 
 pub fn selector_of(src: &[u8], c: Cursor, name: &[u8], section: usize, start: usize) -> Selector
     requires { ⌜ Placed (now src) c ⌝ }
-    ensures { λ r. ⌜ r ≡ selectorLaid section start (selectorIn (now (name .entry)) (front isWithin (rest (now (src .entry)) c))) ⌝ }
+    ensures { λ r. ⌜ r ≡ record { section = section; name = nameLaid (now (name .entry)); choices = record { start = start; count = length (choicesIn (front isWithin (rest (now (src .entry)) c))) } } ⌝ }
 {
     let rows = lines_under::count_lines(src, c);
     Selector {
@@ -68,7 +69,7 @@ fn no_parts() -> Parts
 fn with_package(src: &[u8], q: Parts, c: Cursor) -> PartRead
     requires { ⌜ Placed (now src) c ⌝ }
     requires { ⌜ q .pins ≤ c .at ⌝ }
-    ensures { λ r. ⌜ ((w : List ℕ) → PartIs (now (src .entry)) q Package w c r) ⌝ }
+    ensures { λ r. ⌜ ((w : List ℕ) → PartIs (now (src .entry)) q (InComponent Package) w c r) ⌝ }
 {
     let manufacturer = q.manufacturer;
     let boxes = q.boxes;
@@ -88,7 +89,7 @@ fn with_package(src: &[u8], q: Parts, c: Cursor) -> PartRead
 fn with_pins(src: &[u8], q: Parts, c: Cursor) -> PartRead
     requires { ⌜ Placed (now src) c ⌝ }
     requires { ⌜ q .pins ≤ c .at ⌝ }
-    ensures { λ r. ⌜ ((w : List ℕ) → PartIs (now (src .entry)) q Pin w c r) ⌝ }
+    ensures { λ r. ⌜ ((w : List ℕ) → PartIs (now (src .entry)) q (InComponent Pin) w c r) ⌝ }
 {
     let manufacturer = q.manufacturer;
     let boxes = q.boxes;
@@ -109,7 +110,7 @@ fn with_pins(src: &[u8], q: Parts, c: Cursor) -> PartRead
 fn with_part(src: &[u8], q: Parts, p: ComponentPart, argument: &[u8], c: Cursor) -> PartRead
     requires { ⌜ Placed (now src) c ⌝ }
     requires { ⌜ q .pins ≤ c .at ⌝ }
-    ensures { λ r. ⌜ PartIs (now (src .entry)) q p (now (argument .entry)) c r ⌝ }
+    ensures { λ r. ⌜ PartIs (now (src .entry)) q (InComponent p) (now (argument .entry)) c r ⌝ }
 {
     match p {
         ComponentPart::Manufacturer => {
@@ -128,10 +129,26 @@ fn with_part(src: &[u8], q: Parts, p: ComponentPart, argument: &[u8], c: Cursor)
     }
 }
 
+// A keyword of another section changes nothing.
+fn with_key(src: &[u8], q: Parts, k: Keyword, argument: &[u8], c: Cursor) -> PartRead
+    requires { ⌜ Placed (now src) c ⌝ }
+    requires { ⌜ q .pins ≤ c .at ⌝ }
+    ensures { λ r. ⌜ PartIs (now (src .entry)) q k (now (argument .entry)) c r ⌝ }
+{
+    match k {
+        Keyword::InComponent(p) => with_part(src, q, p, argument, c),
+        Keyword::IbisVer => PartRead { parts: q, next: c },
+        Keyword::InHeader(_) => PartRead { parts: q, next: c },
+        Keyword::Opens(_) => PartRead { parts: q, next: c },
+        Keyword::InModel(_) => PartRead { parts: q, next: c },
+        Keyword::End => PartRead { parts: q, next: c },
+    }
+}
+
 // The keywords from a place on, up to the end of the section.
 fn parts_from(src: &[u8], c: Cursor) -> Parts
     requires { ⌜ Placed (now src) c ⌝ }
-    ensures { λ r. ⌜ PartsAre (now (src .entry)) c r ⌝ }
+    ensures { λ r. ⌜ r ≡ partsIn noParts (front isWithin (rest (now (src .entry)) c)) ⌝ }
 {
     let mut parts = no_parts();
     let mut d = c;
@@ -142,18 +159,14 @@ fn parts_from(src: &[u8], c: Cursor) -> Parts
                 start,
                 end,
                 next,
-            } => match keyword {
-                Keyword::InComponent(p) => {
-                    let read = with_part(src, parts, p, &src[start..end], next);
-                    parts = read.parts;
-                    d = read.next;
+            } => {
+                if lines_under::ends(keyword) {
+                    return parts;
                 }
-                Keyword::Opens(_) => return parts,
-                Keyword::End => return parts,
-                Keyword::IbisVer => d = next,
-                Keyword::InHeader(_) => d = next,
-                Keyword::InModel(_) => d = next,
-            },
+                let read = with_key(src, parts, keyword, &src[start..end], next);
+                parts = read.parts;
+                d = read.next;
+            }
             KeyNext::NoKey => return parts,
         }
     }
@@ -161,7 +174,7 @@ fn parts_from(src: &[u8], c: Cursor) -> Parts
 
 pub fn component_of(src: &[u8], c: Cursor, name: &[u8], section: usize, start: usize) -> Component
     requires { ⌜ Placed (now src) c ⌝ }
-    ensures { λ r. ⌜ r ≡ componentLaid section start (componentIn (now (name .entry)) (front isWithin (rest (now (src .entry)) c))) ⌝ }
+    ensures { λ r. ⌜ r ≡ componentIn section (record { start = start; count = length (pinsIn (front isWithin (rest (now (src .entry)) c))) }) (now (name .entry)) (front isWithin (rest (now (src .entry)) c)) ⌝ }
 {
     let read = sites_under(src, c);
     let sites = read.sites;

@@ -1,15 +1,15 @@
 // The steps of [Component] and [Model Selector].
 ghost use mathlib.Core.Path.{_≡_};
-ghost use mathlib.Core.Bool.{_&&_};
-ghost use lib.ListN.{drop};
-ghost use Rattle.decimal.specs.Decimal.{cellOf};
+ghost use mathlib.Core.Bool.{true, false, _&&_};
+ghost use Rattle.laws.specs.Said.{orElse};
 ghost use Rattle.words.specs.Words.{words};
-ghost use Rattle.line_rules.specs.Fields.{cellFault, lineAt, isPinName, isSized, isPinModel, heading};
-ghost use Rattle.line_rules.specs.Tables.{componentLines, packageLines};
-ghost use Rattle.rules.specs.Component.{newComponent, withList, locationLine, packageLine, cellsFault, pinRow, componentLine, componentPlace, isLong, componentOpens, componentPart, componentShut, componentDone};
-ghost use Rattle.rules.specs.Selector.{newSelector, selectorLine, selectorShut};
+ghost use Rattle.given.specs.Given.{noneGiven};
+ghost use Rattle.line_rules.specs.Fields.{isPinName, isSized, isPinModel, heading};
+ghost use Rattle.rules.specs.Component.{withList, pinFault, componentLine, componentPlace, componentOpens, componentPart, componentShut, componentDone};
+ghost use Rattle.rules.specs.Selector.{selectorLine, selectorShut};
+ghost use Rattle.rules.specs.declared.ComponentList.the-variants.{ComponentFirst, PackageLines, PinRows};
 ghost use Rattle.line_cells.specs.Threes.{bytesOf, Within};
-ghost use Rattle.component_steps.specs.Steps.{cellsFrom, rowsLine, allThree, shutIf};
+ghost use Rattle.component_steps.specs.Steps.{allThree, shutIf};
 use given::Given;
 use keywords::ComponentPart;
 use line_cells::HeadingRead;
@@ -24,7 +24,7 @@ use words::Word;
 
 // [Component] at line k.
 pub fn new_component(k: u64) -> ComponentState
-    ensures { λ r. ⌜ r ≡ newComponent k ⌝ }
+    ensures { λ r. ⌜ r ≡ record { line = k; first = noneGiven; parts = noneGiven; list = ComponentFirst } ⌝ }
 {
     ComponentState {
         line: k,
@@ -34,51 +34,7 @@ pub fn new_component(k: u64) -> ComponentState
     }
 }
 
-// ---- a pin row: each word is searched once
-
-fn fault_at(w: &[u8], r: Word) -> u8
-    requires { ⌜ Within (now w) r ⌝ }
-    ensures { λ n. ⌜ n ≡ cellFault (cellOf (bytesOf (now (w .entry)) r)) ⌝ }
-{
-    let start = r.start;
-    let end = r.end;
-    line_cells::cell_fault(decimal::cell_of(&w[start..end]))
-}
-
-// Three cells: the leftmost fault counts.
-fn cells_fault(w: &[u8], r: Word, l: Word, c: Word) -> u8
-    requires { ⌜ Within (now w) r ⌝ }
-    requires { ⌜ Within (now w) l ⌝ }
-    requires { ⌜ Within (now w) c ⌝ }
-    ensures { λ n. ⌜ n ≡ cellsFault (bytesOf (now (w .entry)) r) (bytesOf (now (w .entry)) l) (bytesOf (now (w .entry)) c) ⌝ }
-{
-    let first = fault_at(w, r);
-    if first != 0 {
-        return first;
-    }
-    let second = fault_at(w, l);
-    if second != 0 {
-        return second;
-    }
-    fault_at(w, c)
-}
-
-// The cells of a row, of which the first is r: two more and nothing behind them.
-fn cells_from(w: &[u8], r: Word) -> u8
-    requires { ⌜ Within (now w) r ⌝ }
-    ensures { λ n. ⌜ n ≡ cellsFrom (bytesOf (now (w .entry)) r) (words (drop (r .end) (now (w .entry)))) ⌝ }
-{
-    let l = words::word_at(w, r.end);
-    let c = words::word_at(w, l.end);
-    if w.len() <= c.start {
-        return 10;
-    }
-    let fourth = words::word_at(w, c.end);
-    if fourth.start < w.len() {
-        return 10;
-    }
-    cells_fault(w, r, l, c)
-}
+// ---- a pin row
 
 // The forms of a row's three names.
 fn names_pass(w: &[u8], pin: Word, signal: Word, model: Word) -> bool
@@ -102,9 +58,9 @@ fn names_pass(w: &[u8], pin: Word, signal: Word, model: Word) -> bool
     named_lines::pin_model(&w[model_start..model_end])
 }
 
-// A wrong number of words is 10 as a wrong name is, so the names are asked before the words behind them are searched.
-pub fn pin_row(w: &[u8], long: bool) -> u8
-    ensures { λ r. ⌜ r ≡ pinRow long (words (now (w .entry))) ⌝ }
+// Three names; cells behind them stand under the long heading alone.
+fn pin_fault(w: &[u8], long: bool) -> u8
+    ensures { λ r. ⌜ r ≡ pinFault long (words (now (w .entry))) ⌝ }
 {
     let pin = words::word_at(w, 0);
     let signal = words::word_at(w, pin.end);
@@ -115,20 +71,17 @@ pub fn pin_row(w: &[u8], long: bool) -> u8
     if !names_pass(w, pin, signal, model) {
         return 10;
     }
+    if long {
+        return line_cells::triple_fault(line_cells::pin_cells(w, model.end));
+    }
     let cell = words::word_at(w, model.end);
-    if w.len() <= cell.start {
-        return 0;
-    }
-    if !long {
-        return 10;
-    }
-    cells_from(w, cell)
+    if cell.start < w.len() { 10 } else { 0 }
 }
 
 // ---- a line that is no keyword line, by the list that is open
 
 fn location_line(c: ComponentState, k: u64, w: &[u8]) -> Went
-    ensures { λ r. ⌜ r ≡ locationLine c k (now (w .entry)) (lineAt componentLines (now (w .entry))) ⌝ }
+    ensures { λ r. ⌜ r ≡ componentLine c k (now (w .entry)) ComponentFirst ⌝ }
 {
     let found = named_lines::component_line(w);
     let Found::At(n) = found else {
@@ -169,7 +122,7 @@ fn with_list(c: ComponentState, list: ComponentList) -> ComponentState
 
 // A line of [Package], which stands at line o.
 fn package_line(c: ComponentState, o: u64, g: Given, k: u64, w: &[u8]) -> Went
-    ensures { λ r. ⌜ r ≡ packageLine c o g k (now (w .entry)) (lineAt packageLines (now (w .entry))) ⌝ }
+    ensures { λ r. ⌜ r ≡ componentLine c k (now (w .entry)) (PackageLines o g) ⌝ }
 {
     let found = named_lines::package_line(w);
     let Found::At(n) = found else {
@@ -178,7 +131,7 @@ fn package_line(c: ComponentState, o: u64, g: Given, k: u64, w: &[u8]) -> Went
     if given::is_given(g, n) {
         return rules::stopped(8, k);
     }
-    let fault = line_cells::triple_fault(line_faults::named_cells(w));
+    let fault = line_cells::triple_fault(line_faults::cells_line(w));
     if fault != 0 {
         return rules::stopped(fault, k);
     }
@@ -191,9 +144,9 @@ fn package_line(c: ComponentState, o: u64, g: Given, k: u64, w: &[u8]) -> Went
 
 // A row of [Pin], which stands at line o.
 fn rows_line(c: ComponentState, o: u64, long: bool, k: u64, w: &[u8]) -> Went
-    ensures { λ r. ⌜ r ≡ rowsLine c o long k (now (w .entry)) ⌝ }
+    ensures { λ r. ⌜ r ≡ componentLine c k (now (w .entry)) (PinRows o long true) ⌝ }
 {
-    let fault = pin_row(w, long);
+    let fault = pin_fault(w, long);
     if fault != 0 {
         return rules::stopped(fault, k);
     }
@@ -250,7 +203,7 @@ fn part_opens(k: u64, argument: &[u8], p: ComponentPart) -> ComponentList
 
 // The heading of the pins is the long one.
 fn is_long(argument: &[u8]) -> bool
-    ensures { λ r. ⌜ r ≡ isLong (heading (words (now (argument .entry)))) ⌝ }
+    ensures { λ r. ⌜ r ≡ orElse false (heading (words (now (argument .entry)))) ⌝ }
 {
     match line_cells::heading_of(argument) {
         HeadingRead::Short => false,
@@ -335,7 +288,7 @@ pub fn component_done(c: ComponentState) -> u8
 
 // [Model Selector] at line k.
 pub fn new_selector(k: u64) -> SelectorState
-    ensures { λ r. ⌜ r ≡ newSelector k ⌝ }
+    ensures { λ r. ⌜ r ≡ record { line = k; any = false } ⌝ }
 {
     SelectorState {
         line: k,

@@ -10,30 +10,30 @@ use lib.Seq.{drop-drop}
 use lib.Dec.{eqb}
 use borrow.Author.Tests.{eq-eqb, ne-eqb}
 use Rattle.laws.specs.Bytes.{bytes, isBlank}
-use Rattle.laws.specs.Lists.{front, after, among, eqs, other, part}
+use Rattle.laws.specs.Lists.{begins, front, after, among, eqs, other, part}
+use Rattle.laws.specs.Said.{Said, says, fault}
+use Rattle.cut_lines.specs.Cursors.{changeRead, changeSays}
+use Rattle.cut_lines.specs.declared.ChangeRead.{ChangeRead}
 use Rattle.laws.proofs.Tests.{cond-yes, cond-no, and-both, and-left, and-right}
 use Rattle.laws.proofs.Lists.{from-cons}
 use Rattle.laws.proofs.Fronts.{after-at, after-stops, other-is}
 use Rattle.laws.proofs.Same.{eqs-apart}
 use Rattle.keywords.specs.Form.{closing, isClosed, spelled, argument}
 use Rattle.keywords.proofs.Laws.{inside-at, closing-at}
-use Rattle.cut_lines.specs.Change.{begins, isChange, marks, noneOr, isRemark, changeTo, changeOf}
-use Rattle.cut_lines.specs.declared.ChangeRead.the-variants.{To, Wrong}
+use Rattle.cut_lines.specs.Change.{isChange, marks, noneOr, isRemark, changeTo, changeOf}
 
 -- ---- what begins a list
 
 begins-at : (c : ℕ) (w : List ℕ) (i : ℕ) → i < length w → begins c (drop i w) ≡ eqb (getD w i 0) c
-unfolding begins
 begins-at c w i h = rw (from-cons w i 0 h)
 
 begins-end : (c : ℕ) (w : List ℕ) (i : ℕ) → length w ≤ i → begins c (drop i w) ≡ false
-unfolding begins
 begins-end c w i h = rw (drop-of-length-le w h)
 
 -- ---- `isChange`
 
 pub change-empty : (w : List ℕ) → length w ≡ 0 → isChange w ≡ false
-unfolding isChange begins
+unfolding isChange
 change-empty [] h = refl
 change-empty (b ∷ w) h = absurd (omega arith)
 
@@ -61,7 +61,7 @@ module _ (w : List ℕ) (stop : ℕ) (found : stop ≡ 1 + length (front (other 
 
   -- ---- `changeOf`
 
-  pub change-unclosed : isClosed (drop stop w) ≡ false → changeOf w ≡ Wrong 5
+  pub change-unclosed : isClosed (drop stop w) ≡ false → changeOf w ≡ fault 5
   unfolding changeOf
   change-unclosed h = cond-no _ _ (ap isClosed (sym (closing-at w stop found)) ∙ h)
 
@@ -74,7 +74,7 @@ module _ (w : List ℕ) (stop : ℕ) (found : stop ≡ 1 + length (front (other 
       ∙ ap (λ (x : List ℕ). changeTo (after isBlank x)) (drop-drop 1 stop w)
       ∙ ap changeTo (after-at isBlank w (stop + 1) at e)
 
-pub change-none : (w : List ℕ) → length w ≡ 0 → changeOf w ≡ Wrong 5
+pub change-none : (w : List ℕ) → length w ≡ 0 → changeOf w ≡ fault 5
 unfolding changeOf closing after isClosed
 change-none [] h = refl
 change-none (b ∷ w) h = absurd (omega arith)
@@ -107,7 +107,7 @@ module _ (x : ℕ) (w : List ℕ) (at : ℕ) where
 
 -- ---- `changeTo`
 
-pub to-short : (w : List ℕ) → length w < 6 → changeTo w ≡ Wrong 10
+pub to-short : (w : List ℕ) → length w < 6 → changeTo w ≡ fault 10
 unfolding changeTo
 to-short [] h = refl
 to-short (x ∷ bs) h =
@@ -116,20 +116,29 @@ to-short (x ∷ bs) h =
 
 module _ (w : List ℕ) (h : 6 ≤ length w) where
   to-long : changeTo w
-      ≡ cond (among (getD w 0 0) marks && (eqs (take 5 (drop 1 w)) (bytes "_char") && isRemark (getD w 0 0) (drop 6 w))) (To (getD w 0 0)) (Wrong 10)
+      ≡ cond (among (getD w 0 0) marks && (eqs (take 5 (drop 1 w)) (bytes "_char") && isRemark (getD w 0 0) (drop 6 w))) (says (getD w 0 0)) (fault 10)
   unfolding changeTo
-  to-long = ap changeTo (from-cons w 0 0 (omega arith)) ∙ ap (λ (l : List ℕ). cond (among (getD w 0 0) marks && (eqs (take 5 (drop 1 w)) (bytes "_char") && isRemark (getD w 0 0) l)) (To (getD w 0 0)) (Wrong 10)) (drop-drop 5 1 w)
+  to-long = ap changeTo (from-cons w 0 0 (omega arith)) ∙ ap (λ (l : List ℕ). cond (among (getD w 0 0) marks && (eqs (take 5 (drop 1 w)) (bytes "_char") && isRemark (getD w 0 0) l)) (says (getD w 0 0)) (fault 10)) (drop-drop 5 1 w)
 
-  pub to-unmarked : among (getD w 0 0) marks ≡ false → changeTo w ≡ Wrong 10
+  pub to-unmarked : among (getD w 0 0) marks ≡ false → changeTo w ≡ fault 10
   to-unmarked e = to-long ∙ cond-no _ _ (and-left (among (getD w 0 0) marks) _ e)
 
-  pub to-misspelled : eqs (part 1 6 w) (bytes "_char") ≡ false → changeTo w ≡ Wrong 10
+  pub to-misspelled : eqs (part 1 6 w) (bytes "_char") ≡ false → changeTo w ≡ fault 10
   to-misspelled e = to-long ∙ cond-no _ _ (and-right (among (getD w 0 0) marks) _ (and-left (eqs (take 5 (drop 1 w)) (bytes "_char")) _ e))
 
-  pub to-followed : isRemark (getD w 0 0) (drop 6 w) ≡ false → changeTo w ≡ Wrong 10
+  pub to-followed : isRemark (getD w 0 0) (drop 6 w) ≡ false → changeTo w ≡ fault 10
   to-followed e =
       to-long ∙ cond-no _ _ (and-right (among (getD w 0 0) marks) _ (and-right (eqs (take 5 (drop 1 w)) (bytes "_char")) _ e))
 
   pub to-good : among (getD w 0 0) marks ≡ true → eqs (part 1 6 w) (bytes "_char") ≡ true → isRemark (getD w 0 0) (drop 6 w) ≡ true
-      → changeTo w ≡ To (getD w 0 0)
+      → changeTo w ≡ says (getD w 0 0)
   to-good a e r = to-long ∙ cond-yes _ _ (and-both (among (getD w 0 0) marks) _ a (and-both (eqs (take 5 (drop 1 w)) (bytes "_char")) _ e r))
+
+-- ---- an answer says what it was made of
+
+change-back : (x : Said ℕ) → changeSays (changeRead x) ≡ x
+change-back (says c) = refl
+change-back (fault n) = refl
+
+pub change-said : (r : ChangeRead) (x : Said ℕ) → r ≡ changeRead x → changeSays r ≡ x
+change-said r x e = ap changeSays e ∙ change-back x

@@ -10,8 +10,8 @@ use Rattle.laws.proofs.Tests.{cond-yes, cond-no}
 use Rattle.laws.proofs.Lists.{part-length}
 use Rattle.lines.specs.Lines.{Physical, linesOf, cut}
 use Rattle.lines.proofs.Places.{cut-take}
-use Rattle.cut_lines.specs.Texts.{Text, plain, change, onto, textsFrom, rest, past}
-use Rattle.cut_lines.specs.Cursors.{Placed, Steps, CutIs, ChangedIs, Goes}
+use Rattle.cut_lines.specs.Texts.{Text, plain, change, onto, textsFrom}
+use Rattle.cut_lines.specs.Cursors.{rest, past, Placed, Steps, CutIs, ChangedIs, Goes}
 use Rattle.cut_lines.specs.declared.Cursor.{Cursor}
 
 -- ---- what cutting leaves of the line from a place to end

@@ -7,7 +7,8 @@ use lib.ListN.{length}
 use Rattle.laws.proofs.Tests.{by-test}
 use Rattle.lines.specs.Lines.{Physical, cut}
 use Rattle.cut_lines.specs.Change.{isChange, changeOf}
-use Rattle.cut_lines.specs.Texts.{Text, plain, change, onto, charAfter, textsFrom}
+use Rattle.cut_lines.specs.Texts.{Text, plain, change, onto, textsFrom}
+use Rattle.laws.specs.Said.{orElse}
 
 -- f is the new number of each line
 abbrev pub textAt : (ℕ → ℕ) → Text → Text
@@ -29,7 +30,7 @@ texts-map f c k j (l ∷ ls) h =
     let more : (d : ℕ) → map (textAt f) (textsFrom d (k + 1) ls) ≡ textsFrom d (j + 1) ls =
     λ d. texts-map f d (k + 1) (j + 1) ls (λ i q. from (k + suc i) (j + suc i) (h (suc i) (omega arith)) (omega arith) (omega arith)) in
     by-test (isChange (l .bytes))
-    (λ t. rw t (rw (here, more (charAfter c (changeOf (l .bytes))))))
+    (λ t. rw t (rw (here, more (orElse c (changeOf (l .bytes))))))
     (λ t. rw t (onto-map f k (cut c (l .bytes)) (textsFrom c (k + 1) ls) ∙ rw (here, more c)))
   where
     from : (a b : ℕ) → f a ≡ b → {x y : ℕ} → a ≡ x → b ≡ y → f x ≡ y

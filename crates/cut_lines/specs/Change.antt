@@ -6,15 +6,9 @@ use mathlib.Core.Bool.{Bool, true, false, cond, _&&_}
 use lib.ListN.{take, drop}
 use lib.Dec.{eqb}
 use Rattle.laws.specs.Bytes.{bytes, isBlank}
-use Rattle.laws.specs.Lists.{after, eqs, among}
+use Rattle.laws.specs.Lists.{after, begins, eqs, among}
+use Rattle.laws.specs.Said.{Said, says, fault}
 use Rattle.keywords.specs.Form.{inside, closing, isClosed, spelled, argument}
-use Rattle.cut_lines.specs.declared.ChangeRead.{ChangeRead}
-use Rattle.cut_lines.specs.declared.ChangeRead.the-variants.{To, Wrong}
-
--- the list begins with this byte
-unfoldable pub begins : ℕ → List ℕ → Bool
-begins c [] = false
-begins c (b ∷ bs) = eqb b c
 
 -- it is known by its text up to `]`
 unfoldable pub isChange : List ℕ → Bool
@@ -35,10 +29,10 @@ isRemark x [] = true
 isRemark x (b ∷ bs) = isBlank b && noneOr x (after isBlank (b ∷ bs))
 
 -- one of the characters and `_char`, then no more than a remark; else 10
-unfoldable pub changeTo : List ℕ → ChangeRead
-changeTo [] = Wrong 10
-changeTo (x ∷ bs) = cond (among x marks && (eqs (take 5 bs) (bytes "_char") && isRemark x (drop 5 bs))) (To x) (Wrong 10)
+unfoldable pub changeTo : List ℕ → Said ℕ
+changeTo [] = fault 10
+changeTo (x ∷ bs) = cond (among x marks && (eqs (take 5 bs) (bytes "_char") && isRemark x (drop 5 bs))) (says x) (fault 10)
 
 -- 5 where neither a blank nor nothing follows the `]`
-unfoldable pub changeOf : List ℕ → ChangeRead
-changeOf w = cond (isClosed (closing w)) (changeTo (argument w)) (Wrong 5)
+unfoldable pub changeOf : List ℕ → Said ℕ
+changeOf w = cond (isClosed (closing w)) (changeTo (argument w)) (fault 5)

@@ -1,18 +1,43 @@
 -- What the cursors and places that the code answers say of the texts.
 use Prim.Native.Nat.{ℕ, _+_, _≤_, _<_}
+use Prim.Native.Char.{code}
 use mathlib.Core.Path.{_≡_}
 use mathlib.Core.List.{List, [], _∷_}
 use mathlib.Core.Bool.{true, false}
 use lib.ListN.{length, drop}
 use Rattle.laws.specs.Lists.{part}
+use Rattle.laws.specs.Said.{Said, says, fault, faultIn, orElse}
 use Rattle.lines.specs.Lines.{Physical, linesOf, cut}
 use Rattle.cut_lines.specs.Change.{isChange, changeOf}
-use Rattle.cut_lines.specs.Texts.{plain, change, faultOf, charAfter, rest, past}
+use Rattle.cut_lines.specs.Texts.{Text, plain, change, textsFrom}
+use Rattle.cut_lines.specs.declared.ChangeRead.{ChangeRead}
+use Rattle.cut_lines.specs.declared.ChangeRead.the-variants.{To, Wrong}
 use Rattle.cut_lines.specs.declared.Cursor.{Cursor}
 use Rattle.cut_lines.specs.declared.OneLine.{OneLine}
 use Rattle.cut_lines.specs.declared.OneLine.the-variants.{Cut, Changed}
 use Rattle.cut_lines.specs.declared.Next.{Next}
-use Rattle.cut_lines.specs.declared.Next.the-variants.{Text, Change, Out}
+use Rattle.cut_lines.specs.declared.Next.the-variants as next
+
+-- the comment character is `|` until changed
+abbrev pub firstCursor : Cursor
+firstCursor = record { at = 0; line = 1; comment = code "|" }
+
+-- the texts from a cursor on, and the number of the line after the last
+unfoldable pub rest : List ℕ → Cursor → List Text
+rest s c = textsFrom (c .comment) (c .line) (linesOf (drop (c .at) s))
+
+unfoldable pub past : List ℕ → Cursor → ℕ
+past s c = c .line + length (linesOf (drop (c .at) s))
+
+-- ---- what the code's answers are
+
+abbrev pub changeRead : Said ℕ → ChangeRead
+changeRead (says x) = To x
+changeRead (fault n) = Wrong n
+
+abbrev pub changeSays : ChangeRead → Said ℕ
+changeSays (To x) = says x
+changeSays (Wrong n) = fault n
 
 -- a cursor that stands in a file: every line before it has at least one byte
 pub record Placed (s : List ℕ) (c : Cursor) : Type 0 where
@@ -39,8 +64,8 @@ pub record ChangedIs (s : List ℕ) (c : Cursor) (f : ℕ) (n : Cursor) : Type 0
   pub physical : Physical
   pub steps : Steps s c physical n
   pub kind : isChange (physical .bytes) ≡ true
-  pub fault : f ≡ faultOf (changeOf (physical .bytes))
-  pub char : n .comment ≡ charAfter (c .comment) (changeOf (physical .bytes))
+  pub fault : f ≡ faultIn (changeOf (physical .bytes))
+  pub char : n .comment ≡ orElse (c .comment) (changeOf (physical .bytes))
 
 abbrev pub OneIs : List ℕ → Cursor → OneLine → Type 0
 OneIs s c (Cut e n) = CutIs s c e n
@@ -73,6 +98,6 @@ pub record OutIs (s : List ℕ) (c : Cursor) (k : ℕ) : Type 0 where
 
 -- either the list of texts is empty, or it is the text handed out and then the texts from the next cursor on
 abbrev pub NextIs : List ℕ → Cursor → Next → Type 0
-NextIs s c (Text k a e n) = TextIs s c k a e n
-NextIs s c (Change k f n) = ChangeIs s c k f n
-NextIs s c (Out k) = OutIs s c k
+NextIs s c (next.Text k a e n) = TextIs s c k a e n
+NextIs s c (next.Change k f n) = ChangeIs s c k f n
+NextIs s c (next.Out k) = OutIs s c k

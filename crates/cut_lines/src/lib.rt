@@ -3,9 +3,9 @@ ghost use mathlib.Core.Path.{_≡_};
 ghost use Prim.Native.Nat.{_+_, _^_, _<_};
 ghost use lib.ListN.{length, drop};
 ghost use Rattle.laws.specs.Lists.{among};
+ghost use Rattle.laws.specs.Said.{faultIn, orElse};
 ghost use Rattle.cut_lines.specs.Change.{isChange, changeOf, changeTo, marks, isRemark};
-ghost use Rattle.cut_lines.specs.Texts.{firstCursor, faultOf, charAfter};
-ghost use Rattle.cut_lines.specs.Cursors.{Placed, OneIs, NextIs};
+ghost use Rattle.cut_lines.specs.Cursors.{firstCursor, changeRead, changeSays, Placed, OneIs, NextIs};
 ghost use Rattle.cut_lines.specs.declared.OneLine.the-variants.{Changed};
 
 // Where a reading stands: the next line's place and number, and the comment character in force there.
@@ -101,7 +101,7 @@ fn is_remark(x: u8, w: &[u8], at: usize) -> bool
 
 // What the argument of a [Comment Char] line says.
 fn change_to(w: &[u8]) -> ChangeRead
-    ensures { λ r. ⌜ r ≡ changeTo (now (w .entry)) ⌝ }
+    ensures { λ r. ⌜ r ≡ changeRead (changeTo (now (w .entry))) ⌝ }
 {
     if w.len() < 6 {
         return ChangeRead::Wrong(10);
@@ -121,7 +121,7 @@ fn change_to(w: &[u8]) -> ChangeRead
 
 // What a [Comment Char] line says.
 fn change_of(w: &[u8]) -> ChangeRead
-    ensures { λ r. ⌜ r ≡ changeOf (now (w .entry)) ⌝ }
+    ensures { λ r. ⌜ r ≡ changeRead (changeOf (now (w .entry))) ⌝ }
 {
     if w.len() == 0 {
         return ChangeRead::Wrong(5);
@@ -137,7 +137,7 @@ fn change_of(w: &[u8]) -> ChangeRead
 // The cursor behind a [Comment Char] line: a good one's character holds from there on.
 fn changed(c: Cursor, at: usize, said: ChangeRead) -> OneLine
     requires { ⌜ c .line < 2 ^ 63 ⌝ }
-    ensures { λ r. ⌜ r ≡ Changed (faultOf said) (record { at = at; line = c .line + 1; comment = charAfter (c .comment) said }) ⌝ }
+    ensures { λ r. ⌜ r ≡ Changed (faultIn (changeSays said)) (record { at = at; line = c .line + 1; comment = orElse (c .comment) (changeSays said) }) ⌝ }
 {
     match said {
         ChangeRead::To(x) => OneLine::Changed {

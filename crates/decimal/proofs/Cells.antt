@@ -16,7 +16,9 @@ use Rattle.laws.proofs.Tests.{cond-no, and-both, and-left, and-right}
 use Rattle.decimal.specs.declared.Decimal.{Decimal}
 use Rattle.decimal.specs.declared.Cell.{Cell}
 use Rattle.decimal.specs.declared.Cell.the-variants.{Number, Missing}
-use Rattle.decimal.specs.Decimal.{isMissing, wordOf, cellIn, missingWord, signBit}
+use Rattle.decimal.specs.Decimal.{isMissing, wordOf, missingWord}
+use Rattle.decimal.specs.Parts.{signBit}
+use Rattle.decimal.specs.Answers.{cellIn}
 use Rattle.decimal.specs.Fine.{FineCell}
 use Rattle.laws.proofs.Bytes.{capital-yes, capital-only}
 

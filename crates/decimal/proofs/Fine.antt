@@ -11,13 +11,13 @@ use lib.ListN.{length}
 use borrow.Author.Tests.{leb-true, leb-false, ltb-false, eqb-false}
 use Rattle.laws.specs.Bytes.{isDigit, isLetter}
 use Rattle.laws.specs.Lists.{front, after, all, trim, keep}
+use Rattle.laws.specs.Said.{Said, says, fault, readOn}
 use Rattle.laws.proofs.Tests.{cond-all, and-first, and-second, or-left, or-right}
 use Rattle.laws.proofs.Fronts.{front-all, all-append}
-use Rattle.decimal.specs.declared.NumberRead.{NumberRead}
-use Rattle.decimal.specs.declared.NumberRead.the-variants.{Value, Wrong}
-use Rattle.decimal.specs.declared.CellRead.the-variants.{Read}
-use Rattle.decimal.specs.declared.Cell.the-variants.{Missing}
-use Rattle.decimal.specs.Decimal.{ranged, resultOf, unsigned, numberOf, isMissing, asCell, cellOf, isMinus, afterSign, pointPlaces, places, figures, afterFigures, letters, isZero, significant, numeral, numeralFrom}
+use Rattle.decimal.specs.declared.Cell.the-variants.{Number, Missing}
+use Rattle.decimal.specs.declared.Decimal.{Decimal}
+use Rattle.decimal.specs.Decimal.{ranged, resultOf, unsigned, numberOf, isMissing, givenCell, cellOf, isMinus, afterSign, pointPlaces, figures, afterFigures, letters, significant, numeral, numeralFrom}
+use Rattle.decimal.specs.Parts.{places, isZero}
 use Rattle.decimal.specs.Fine.{FineNumber, FineRead, ReducedNumber, ReducedRead}
 
 -- ---- the bounds
@@ -27,7 +27,7 @@ unfolding ranged
 ranged-fine minus n up down =
     cond-all FineNumber (eqb n 0) _ _
     (λ h. record { digits = omega arith; power = omega arith })
-    (λ h. cond-all FineNumber (leb (10 ^ 15) n || ltb (up + 40) down || ltb (down + 24) up) (Wrong 12) _
+    (λ h. cond-all FineNumber (leb (10 ^ 15) n || ltb (up + 40) down || ltb (down + 24) up) (fault 12) _
     (λ k. tt)
     (λ k.
     let long = or-left (leb (10 ^ 15) n) (ltb (up + 40) down) (or-left _ (ltb (down + 24) up) k) in
@@ -37,20 +37,20 @@ ranged-fine minus n up down =
 unsigned-fine : (minus : Bool) (s : List ℕ) → FineNumber (unsigned minus s)
 unfolding unsigned resultOf
 unsigned-fine minus s =
-    cond-all FineNumber (eqb (length (figures s)) 0) (Wrong 11) _ (λ h. tt)
-    (λ h. cond-all FineNumber (all isLetter (letters (afterFigures s))) _ (Wrong 11) (λ k. ranged-fine minus _ _ _) (λ k. tt))
+    cond-all FineNumber (eqb (length (figures s)) 0) (fault 11) _ (λ h. tt)
+    (λ h. cond-all FineNumber (all isLetter (letters (afterFigures s))) _ (fault 11) (λ k. ranged-fine minus _ _ _) (λ k. tt))
 
 pub number-fine : (w : List ℕ) → FineNumber (numberOf w)
 unfolding numberOf
 number-fine w = unsigned-fine (isMinus w) (afterSign w)
 
-as-cell-fine : (r : NumberRead) → FineNumber r → FineRead (asCell r)
-as-cell-fine (Value d) h = h
-as-cell-fine (Wrong fault) h = tt
+given-fine : (r : Said Decimal) → FineNumber r → FineRead (readOn r (λ d. says (Number d)))
+given-fine (says d) h = h
+given-fine (fault n) h = tt
 
 pub cell-fine : (w : List ℕ) → FineRead (cellOf w)
-unfolding cellOf
-cell-fine w = cond-all FineRead (isMissing w) (Read Missing) _ (λ h. tt) (λ h. as-cell-fine (numberOf w) (number-fine w))
+unfolding cellOf givenCell
+cell-fine w = cond-all FineRead (isMissing w) (says Missing) _ (λ h. tt) (λ h. given-fine (numberOf w) (number-fine w))
 
 -- ---- no trailing zero
 
@@ -59,7 +59,7 @@ abbrev Ends : List ℕ → Type 0
 Ends m = (m ≡ []) ⊎ ((n : ℕ) → numeralFrom n m % 10 ≡ 0 → ⊥)
 
 last-digit : (n b : ℕ) → isDigit b ≡ true → isZero b ≡ false → (n * 10 + (b - 48)) % 10 ≡ 0 → ⊥
-unfolding isDigit isZero
+unfolding isDigit
 last-digit n b h z e =
     let low = leb-true 48 b (and-first (leb 48 b) (leb b 57) h) in
     let high = leb-true b 57 (and-second (leb 48 b) (leb b 57) h) in
@@ -91,7 +91,7 @@ places-all (b ∷ bs) =
     cond-all (λ l. all isDigit l ≡ true) (eqb b (code ".")) (front isDigit bs) [] (λ h. front-all isDigit bs) (λ h. refl)
 
 figures-all : (s : List ℕ) → all isDigit (figures s) ≡ true
-unfolding figures places
+unfolding figures
 figures-all s = all-append isDigit (front isDigit s) (pointPlaces (after isDigit s)) (front-all isDigit s) (places-all (after isDigit s))
 
 ranged-reduced : (minus : Bool) (n up down : ℕ) → (n ≡ 0) ⊎ (n % 10 ≡ 0 → ⊥) → ReducedNumber (ranged minus n up down)
@@ -99,15 +99,15 @@ unfolding ranged
 ranged-reduced minus n up down e =
     cond-all ReducedNumber (eqb n 0) _ _
     (λ h. inl refl)
-    (λ h. cond-all ReducedNumber (leb (10 ^ 15) n || ltb (up + 40) down || ltb (down + 24) up) (Wrong 12) _
+    (λ h. cond-all ReducedNumber (leb (10 ^ 15) n || ltb (up + 40) down || ltb (down + 24) up) (fault 12) _
     (λ k. tt)
     (λ k. ⊎-elim (λ z. absurd (eqb-false n 0 h z)) (λ f. inr f) e))
 
 unsigned-reduced : (minus : Bool) (s : List ℕ) → ReducedNumber (unsigned minus s)
 unfolding unsigned resultOf
 unsigned-reduced minus s =
-    cond-all ReducedNumber (eqb (length (figures s)) 0) (Wrong 11) _ (λ h. tt)
-    (λ h. cond-all ReducedNumber (all isLetter (letters (afterFigures s))) _ (Wrong 11)
+    cond-all ReducedNumber (eqb (length (figures s)) 0) (fault 11) _ (λ h. tt)
+    (λ h. cond-all ReducedNumber (all isLetter (letters (afterFigures s))) _ (fault 11)
     (λ k. ranged-reduced minus _ _ _ (significant-ends (figures s) (figures-all s)))
     (λ k. tt))
 
@@ -115,10 +115,10 @@ pub number-reduced : (w : List ℕ) → ReducedNumber (numberOf w)
 unfolding numberOf
 number-reduced w = unsigned-reduced (isMinus w) (afterSign w)
 
-as-cell-reduced : (r : NumberRead) → ReducedNumber r → ReducedRead (asCell r)
-as-cell-reduced (Value d) h = h
-as-cell-reduced (Wrong fault) h = tt
+given-reduced : (r : Said Decimal) → ReducedNumber r → ReducedRead (readOn r (λ d. says (Number d)))
+given-reduced (says d) h = h
+given-reduced (fault n) h = tt
 
 pub cell-reduced : (w : List ℕ) → ReducedRead (cellOf w)
-unfolding cellOf
-cell-reduced w = cond-all ReducedRead (isMissing w) (Read Missing) _ (λ h. tt) (λ h. as-cell-reduced (numberOf w) (number-reduced w))
+unfolding cellOf givenCell
+cell-reduced w = cond-all ReducedRead (isMissing w) (says Missing) _ (λ h. tt) (λ h. given-reduced (numberOf w) (number-reduced w))

@@ -7,3 +7,4 @@ pub mod Results
 pub mod Order
 pub mod Cells
 pub mod Fine
+pub mod Answers

@@ -11,8 +11,8 @@ use borrow.Author.Tests.{eq-eqb, ne-eqb, eqb-true}
 use Rattle.laws.specs.Lists.{trim, keep}
 use Rattle.laws.proofs.Tests.{by-test}
 use Rattle.laws.proofs.Trims.{trim-cut, trim-kept, trim-le}
-use Rattle.decimal.specs.Decimal.{numeral, numeralFrom, isZero, significant, zerosCut}
-use Rattle.decimal.specs.Parts.{cap, Stands}
+use Rattle.decimal.specs.Decimal.{numeral, numeralFrom, significant, zerosCut}
+use Rattle.decimal.specs.Parts.{cap, Stands, isZero}
 use Rattle.decimal.proofs.Capped.{grown, pushed}
 
 pub numeral-append : (n : ℕ) (xs ys : List ℕ) → numeralFrom n (xs ++ ys) ≡ numeralFrom (numeralFrom n xs) ys
@@ -23,15 +23,12 @@ numeral-append n (d ∷ xs) ys = numeral-append (n * 10 + (d - code "0")) xs ys
 -- ---- "no trailing zero"
 
 zero-is : (b : ℕ) → isZero b ≡ true → b ≡ code "0"
-unfolding isZero
 zero-is b h = eqb-true b 48 h
 
 pub zero-yes : (b : ℕ) → b ≡ code "0" → isZero b ≡ true
-unfolding isZero
 zero-yes b h = eq-eqb b 48 h
 
 pub zero-no : (b : ℕ) → (b ≡ code "0" → ⊥) → isZero b ≡ false
-unfolding isZero
 zero-no b h = ne-eqb b 48 h
 
 ten-more : (n k z : ℕ) → n * 10 + k ≡ n * 10 → (n * 10 + k) * 10 ^ z ≡ n * 10 ^ suc z

@@ -15,8 +15,8 @@ use Rattle.laws.proofs.Lists.{from-cons, part-none, part-more, none-of}
 use Rattle.laws.proofs.Fronts.{front-more, front-at, after-at}
 use Rattle.decimal.specs.declared.word.Sign.{Sign}
 use Rattle.decimal.specs.declared.word.Figures.{Figures}
-use Rattle.decimal.specs.Decimal.{isMinus, afterSign, pointPlaces, afterPoint, places, figures, afterFigures, afterE, exponentDigits, letters, numeral, numeralFrom}
-use Rattle.decimal.specs.Parts.{cap, Stands, SignRead, DigitsRead, MantissaRead, ExponentRead}
+use Rattle.decimal.specs.Decimal.{isMinus, afterSign, pointPlaces, afterPoint, figures, afterFigures, afterE, exponentDigits, letters, numeral, numeralFrom}
+use Rattle.decimal.specs.Parts.{cap, Stands, SignRead, DigitsRead, MantissaRead, ExponentRead, places}
 use Rattle.laws.proofs.Bytes.{digit-yes}
 use Rattle.decimal.proofs.Numerals.{stands-none, stands-zero, stands-digit, stands-whole}
 
@@ -134,7 +134,7 @@ module _ (w : List ℕ) (at : ℕ) (f : Figures) (d : DigitsRead w at 0 0 f) whe
   -- the digits as they are, with no point
   pub mantissa-plain : (pointPlaces (drop (f .at) w) ≡ []) × (afterPoint (drop (f .at) w) ≡ drop (f .at) w)
       → MantissaRead w (drop at w) (record { number = f .number; zeros = f .zeros; count = f .at - at; places = 0; at = f .at })
-  unfolding figures places afterFigures
+  unfolding figures afterFigures
   mantissa-plain e =
       let p : pointPlaces (after isDigit (drop at w)) ≡ [] = ap pointPlaces behind ∙ e .0 in
       let all : front isDigit (drop at w) ++ pointPlaces (after isDigit (drop at w)) ≡ front isDigit (drop at w) =
@@ -152,7 +152,7 @@ module _ (w : List ℕ) (at : ℕ) (f : Figures) (d : DigitsRead w at 0 0 f) whe
   -- the digits before and after the point
   pub mantissa-point : (g : Figures) → f .at < length w → getD w (f .at) 0 ≡ code "." → DigitsRead w (f .at + 1) (f .number) (f .zeros) g
       → MantissaRead w (drop at w) (record { number = g .number; zeros = g .zeros; count = f .at - at + (g .at - f .at - 1); places = g .at - f .at - 1; at = g .at })
-  unfolding figures places afterFigures
+  unfolding figures afterFigures
   mantissa-point g h k m =
       let e = places-point w (f .at) h k in
       let p : pointPlaces (after isDigit (drop at w)) ≡ front isDigit (drop (f .at + 1) w) = ap pointPlaces behind ∙ e .0 in

@@ -10,37 +10,37 @@ use lib.ListN.{length, drop}
 use borrow.Author.Tests.{eq-eqb, ne-eqb, lt-ltb, le-ltb, le-leb, lt-leb}
 use Rattle.laws.specs.Bytes.{isLetter}
 use Rattle.laws.specs.Lists.{all}
+use Rattle.laws.specs.Said.{Said, says, fault}
 use Rattle.laws.proofs.Tests.{by-order, cond-yes, cond-no, cond-all}
 use Rattle.decimal.specs.declared.word.Sign.{Sign}
 use Rattle.decimal.specs.declared.word.Mantissa.{Mantissa}
 use Rattle.decimal.specs.declared.word.Exponent.{Exponent}
-use Rattle.decimal.specs.declared.NumberRead.{NumberRead}
-use Rattle.decimal.specs.declared.NumberRead.the-variants.{Value, Wrong}
-use Rattle.decimal.specs.Decimal.{ranged, resultOf, unsigned, numberOf, isMinus, afterSign, figures, places, afterFigures, afterE, letters, scaleUp, scaleDown, plusExponent, minusExponent, exponentDigits, numeral, significant, zerosCut}
-use Rattle.decimal.specs.Parts.{cap, SignRead, MantissaRead, ExponentRead}
+use Rattle.decimal.specs.declared.Decimal.{Decimal}
+use Rattle.decimal.specs.Decimal.{ranged, resultOf, unsigned, numberOf, isMinus, afterSign, figures, afterFigures, afterE, letters, scaleUp, scaleDown, plusExponent, minusExponent, exponentDigits, numeral, significant, zerosCut}
+use Rattle.decimal.specs.Parts.{cap, SignRead, MantissaRead, ExponentRead, places}
 
 -- ---- `ranged`, by cases
 
 module _ (minus : Bool) (n up down : ℕ) where
-  pub ranged-zero : n ≡ 0 → ranged minus n up down ≡ Value (record { negative = false; digits = 0; power = 40 })
+  pub ranged-zero : n ≡ 0 → ranged minus n up down ≡ says (record { negative = false; digits = 0; power = 40 })
   unfolding ranged
   ranged-zero h = cond-yes _ _ (eq-eqb n 0 h)
 
   module _ (h : n ≡ 0 → ⊥) where
-    pub ranged-long : 10 ^ 15 ≤ n → ranged minus n up down ≡ Wrong 12
+    pub ranged-long : 10 ^ 15 ≤ n → ranged minus n up down ≡ fault 12
     unfolding ranged
     ranged-long k = rw (ne-eqb n 0 h, le-leb (10 ^ 15) n k)
 
-    pub ranged-low : up + 40 < down → ranged minus n up down ≡ Wrong 12
+    pub ranged-low : up + 40 < down → ranged minus n up down ≡ fault 12
     unfolding ranged
     ranged-low k = rw (ne-eqb n 0 h, lt-ltb (up + 40) down k, or-true)
 
-    pub ranged-high : down + 24 < up → ranged minus n up down ≡ Wrong 12
+    pub ranged-high : down + 24 < up → ranged minus n up down ≡ fault 12
     unfolding ranged
     ranged-high k = rw (ne-eqb n 0 h, lt-ltb (down + 24) up k, or-true)
 
     pub ranged-value : n < 10 ^ 15 → down ≤ up + 40 → up ≤ down + 24
-        → ranged minus n up down ≡ Value (record { negative = minus; digits = n; power = up + 40 - down })
+        → ranged minus n up down ≡ says (record { negative = minus; digits = n; power = up + 40 - down })
     unfolding ranged
     ranged-value k l m = rw (ne-eqb n 0 h, lt-leb (10 ^ 15) n k, le-ltb (up + 40) down l, le-ltb (down + 24) up m)
 
@@ -71,7 +71,7 @@ number-capped minus n up down =
 
 -- two that are both out of range, or both zero
 same-wrong : (minus : Bool) (n up down high low : ℕ)
-    → ((n ≡ 0 → ⊥) → ranged minus n up down ≡ Wrong 12) → ((n ≡ 0 → ⊥) → ranged minus n high low ≡ Wrong 12)
+    → ((n ≡ 0 → ⊥) → ranged minus n up down ≡ fault 12) → ((n ≡ 0 → ⊥) → ranged minus n high low ≡ fault 12)
     → ranged minus n up down ≡ ranged minus n high low
 same-wrong minus n up down high low f g =
     by-order n 0
@@ -109,7 +109,7 @@ both-capped minus n up down size false h k =
 -- ---- an exponent by its sign: out of range by itself, or taken off one side
 
 module _ (minus : Bool) (n up down size : ℕ) (t : Bool) where
-  abbrev raised : NumberRead
+  abbrev raised : Said Decimal
   raised = ranged minus n (up + cond t 0 size) (down + cond t size 0)
 
   signed-minus : t ≡ true → ranged minus n (up + 0) (down + size) ≡ raised
@@ -118,10 +118,10 @@ module _ (minus : Bool) (n up down size : ℕ) (t : Bool) where
   signed-plus : t ≡ false → ranged minus n (up + size) (down + 0) ≡ raised
   signed-plus h = ap (λ (b : Bool). ranged minus n (up + cond b 0 size) (down + cond b size 0)) (sym h)
 
-  pub minus-out : t ≡ true → (n ≡ 0 → ⊥) → up + 40 < size → Wrong 12 ≡ raised
+  pub minus-out : t ≡ true → (n ≡ 0 → ⊥) → up + 40 < size → fault 12 ≡ raised
   minus-out h z k = sym (ranged-low minus n (up + 0) (down + size) z (omega arith)) ∙ signed-minus h
 
-  pub plus-out : t ≡ false → (n ≡ 0 → ⊥) → down + 24 < size → Wrong 12 ≡ raised
+  pub plus-out : t ≡ false → (n ≡ 0 → ⊥) → down + 24 < size → fault 12 ≡ raised
   plus-out h z k = sym (ranged-high minus n (up + size) (down + 0) z (omega arith)) ∙ signed-plus h
 
   pub minus-fits : t ≡ true → size ≤ up + 40 → ranged minus n (up + 40 - size) (down + 40) ≡ raised
@@ -166,7 +166,7 @@ module _ (w : List ℕ) (s : Sign) (hs : SignRead w 0 s) (m : Mantissa) (hm : Ma
   digits : MantissaRead w body m
   digits = subst (λ (l : List ℕ). MantissaRead w l m) (hs .rest) hm
 
-  pub number-none : m .count ≡ 0 → numberOf w ≡ Wrong 11
+  pub number-none : m .count ≡ 0 → numberOf w ≡ fault 11
   unfolding numberOf unsigned
   number-none h = cond-yes _ _ (eq-eqb (length (figures body)) 0 (sym (digits .count) ∙ h))
 
@@ -177,23 +177,21 @@ module _ (w : List ℕ) (s : Sign) (hs : SignRead w 0 s) (m : Mantissa) (hm : Ma
     power : ExponentRead w end e
     power = subst (λ (l : List ℕ). ExponentRead w l e) (digits .rest) he
 
-    opened : numberOf w ≡ cond (all isLetter (letters end)) (resultOf (isMinus w) (figures body) (length (places body)) end) (Wrong 11)
+    opened : numberOf w ≡ cond (all isLetter (letters end)) (resultOf (isMinus w) (figures body) (length (places body)) end) (fault 11)
     unfolding numberOf unsigned
     opened = cond-no _ _ (ne-eqb (length (figures body)) 0 (λ z. some (digits .count ∙ z)))
 
-    pub number-bad : all isLetter (drop (e .at) w) ≡ false → numberOf w ≡ Wrong 11
+    pub number-bad : all isLetter (drop (e .at) w) ≡ false → numberOf w ≡ fault 11
     number-bad h = opened ∙ cond-no _ _ (ap (all isLetter) (sym (power .rest)) ∙ h)
 
     pub number-good : all isLetter (drop (e .at) w) ≡ true → (u d : ℕ) → u ≡ scaleUp (drop (e .at) w) → d ≡ scaleDown (drop (e .at) w)
-        → m .zeros + u + 40 < cap → m .places + d + 24 < cap → (r : NumberRead)
-        → r ≡ ranged (s .minus) (m .number) (m .zeros + u + cond (e .minus) 0 (e .size)) (m .places + d + cond (e .minus) (e .size) 0)
-        → r ≡ numberOf w
+        → m .zeros + u + 40 < cap → m .places + d + 24 < cap
+        → ranged (s .minus) (m .number) (m .zeros + u + cond (e .minus) 0 (e .size)) (m .places + d + cond (e .minus) (e .size) 0) ≡ numberOf w
     unfolding resultOf plusExponent minusExponent
-    number-good h u d hu hd k l r q =
+    number-good h u d hu hd k l =
         let a : u ≡ scaleUp (letters end) = hu ∙ ap scaleUp (power .rest) in
         let b : d ≡ scaleDown (letters end) = hd ∙ ap scaleDown (power .rest) in
-        q
-        ∙ rw (hs .minus, digits .stands .number, power .minus, power .size, a, b, digits .stands .cut, digits .places)
+        rw (hs .minus, digits .stands .number, power .minus, power .size, a, b, digits .stands .cut, digits .places)
         (both-capped (isMinus w) (numeral (significant (figures body)))
         (zerosCut (figures body) + scaleUp (letters end))
         (length (places body) + scaleDown (letters end))

@@ -1,48 +1,38 @@
 -- What a word says as a number and as a cell, how numbers are ordered, and a cell as one word: document 01, "Numbers".
 -- A word is the list of its bytes. All numbers here are unbounded.
-use Prim.Native.Nat.{ℕ, _+_, _-_, _*_, _/_, _%_, _^_}
+use Prim.Native.Nat.{ℕ, _+_, _-_, _*_, _%_, _^_}
 use Prim.Native.Char.{code}
 use mathlib.Core.List.{List, [], _∷_, _++_, map}
-use mathlib.Core.Bool.{Bool, true, false, cond, _||_}
+use mathlib.Core.Bool.{Bool, false, cond, _||_}
 use lib.Dec.{ltb, leb, eqb}
-use lib.ListN.{length}
+use lib.ListN.{length, drop}
 use Rattle.laws.specs.Bytes.{bytes, isDigit, isLetter, capital}
-use Rattle.laws.specs.Lists.{front, after, all, trim, eqs}
+use Rattle.laws.specs.Lists.{front, after, trim, begins, all, eqs}
+use Rattle.laws.specs.Said.{Said, says, fault, readOn}
 use Rattle.decimal.specs.declared.Decimal.{Decimal}
 use Rattle.decimal.specs.declared.Cell.{Cell}
 use Rattle.decimal.specs.declared.Cell.the-variants.{Number, Missing}
-use Rattle.decimal.specs.declared.NumberRead.{NumberRead}
-use Rattle.decimal.specs.declared.NumberRead.the-variants.{Value, Wrong}
-use Rattle.decimal.specs.declared.CellRead.{CellRead}
-use Rattle.decimal.specs.declared.CellRead.the-variants.{Read, Bad}
 
 -- ---- "Optional sign"
 
 unfoldable pub isMinus : List ℕ → Bool
-isMinus [] = false
-isMinus (b ∷ bs) = eqb b (code "-")
+isMinus w = begins (code "-") w
 
 unfoldable pub afterSign : List ℕ → List ℕ
-afterSign [] = []
-afterSign (b ∷ bs) = cond (eqb b (code "+") || eqb b (code "-")) bs (b ∷ bs)
+afterSign w = cond (begins (code "+") w || begins (code "-") w) (drop 1 w) w
 
 -- ---- "digits with at most one point"
 
 -- where a point stands first: the places, which are the digits after it, and what follows them
 unfoldable pub pointPlaces : List ℕ → List ℕ
-pointPlaces [] = []
-pointPlaces (b ∷ bs) = cond (eqb b (code ".")) (front isDigit bs) []
+pointPlaces s = cond (begins (code ".") s) (front isDigit (drop 1 s)) []
 
 unfoldable pub afterPoint : List ℕ → List ℕ
-afterPoint [] = []
-afterPoint (b ∷ bs) = cond (eqb b (code ".")) (after isDigit bs) (b ∷ bs)
+afterPoint s = cond (begins (code ".") s) (after isDigit (drop 1 s)) s
 
--- of a word without its sign: the places, all digits, and what follows them
-unfoldable pub places : List ℕ → List ℕ
-places s = pointPlaces (after isDigit s)
-
+-- of a word without its sign: all digits, and what follows them
 unfoldable pub figures : List ℕ → List ℕ
-figures s = front isDigit s ++ places s
+figures s = front isDigit s ++ pointPlaces (after isDigit s)
 
 unfoldable pub afterFigures : List ℕ → List ℕ
 afterFigures s = afterPoint (after isDigit s)
@@ -58,11 +48,8 @@ unfoldable pub numeral : List ℕ → ℕ
 numeral ds = numeralFrom 0 ds
 
 -- "with no trailing zero": the digits without the zeros at their end, and how many zeros were cut
-unfoldable pub isZero : ℕ → Bool
-isZero b = eqb b (code "0")
-
 unfoldable pub significant : List ℕ → List ℕ
-significant ds = trim isZero ds
+significant ds = trim (λ b. eqb b (code "0")) ds
 
 unfoldable pub zerosCut : List ℕ → ℕ
 zerosCut ds = length ds - length (significant ds)
@@ -71,8 +58,7 @@ zerosCut ds = length ds - length (significant ds)
 
 -- what follows the e, and the exponent's digits
 unfoldable pub afterE : List ℕ → List ℕ
-afterE [] = []
-afterE (b ∷ bs) = cond (eqb b (code "e") || eqb b (code "E")) bs []
+afterE s = cond (begins (code "e") s || begins (code "E") s) (drop 1 s) []
 
 unfoldable pub exponentDigits : List ℕ → List ℕ
 exponentDigits s = front isDigit (afterSign (afterE s))
@@ -93,47 +79,39 @@ letters s = cond (eqb (length (exponentDigits s)) 0) s (after isDigit (afterSign
 unfoldable pub scaleUp : List ℕ → ℕ
 scaleUp [] = 0
 scaleUp (b ∷ bs) =
-    cond (eqb b (code "T")) 12
-    (cond (eqb b (code "G")) 9
-    (cond (eqb b (code "M")) 6
-    (cond (eqb b (code "k")) 3
-    0)))
+    cond (eqb b (code "T")) 12 (cond (eqb b (code "G")) 9 (cond (eqb b (code "M")) 6 (cond (eqb b (code "k")) 3 0)))
 
 unfoldable pub scaleDown : List ℕ → ℕ
 scaleDown [] = 0
 scaleDown (b ∷ bs) =
-    cond (eqb b (code "m")) 3
-    (cond (eqb b (code "u")) 6
-    (cond (eqb b (code "n")) 9
-    (cond (eqb b (code "p")) 12
-    (cond (eqb b (code "f")) 15
-    0))))
+    cond (eqb b (code "m")) 3 (cond (eqb b (code "u")) 6 (cond (eqb b (code "n")) 9 (cond (eqb b (code "p")) 12 (cond (eqb b (code "f")) 15 0))))
 
--- ---- "The result is a whole number times a power of ten": n, and the power as up less down, kept with 40 added
+-- ---- "The result is a whole number times a power of ten": n, and the power as up less down, kept with the offset added
+
+abbrev pub offset : ℕ
+offset = 40
 
 -- "zero is 0 and power 0". "More than 15 digits, or a power outside −40 to 24, is fault 12"
-unfoldable pub ranged : Bool → ℕ → ℕ → ℕ → NumberRead
+unfoldable pub ranged : Bool → ℕ → ℕ → ℕ → Said Decimal
 ranged minus n up down =
-    cond (eqb n 0) (Value (record { negative = false; digits = 0; power = 40 }))
-    (cond (leb (10 ^ 15) n || ltb (up + 40) down || ltb (down + 24) up) (Wrong 12)
-    (Value (record { negative = minus; digits = n; power = up + 40 - down })))
+    cond (eqb n 0) (says (record { negative = false; digits = 0; power = offset }))
+    (cond (leb (10 ^ 15) n || ltb (up + offset) down || ltb (down + 24) up) (fault 12)
+    (says (record { negative = minus; digits = n; power = up + offset - down })))
 
 -- from the digits, the count of places, and what follows them
-unfoldable pub resultOf : Bool → List ℕ → ℕ → List ℕ → NumberRead
+unfoldable pub resultOf : Bool → List ℕ → ℕ → List ℕ → Said Decimal
 resultOf minus ds count s =
     ranged minus (numeral (significant ds))
     (zerosCut ds + scaleUp (letters s) + plusExponent s)
     (count + scaleDown (letters s) + minusExponent s)
 
 -- "at least one digit", "then letters only": else fault 11, not a number
-unfoldable pub unsigned : Bool → List ℕ → NumberRead
+unfoldable pub unsigned : Bool → List ℕ → Said Decimal
 unsigned minus s =
-    cond (eqb (length (figures s)) 0) (Wrong 11)
-    (cond (all isLetter (letters (afterFigures s)))
-    (resultOf minus (figures s) (length (places s)) (afterFigures s))
-    (Wrong 11))
+    cond (eqb (length (figures s)) 0) (fault 11)
+    (cond (all isLetter (letters (afterFigures s))) (resultOf minus (figures s) (length (pointPlaces (after isDigit s))) (afterFigures s)) (fault 11))
 
-unfoldable pub numberOf : List ℕ → NumberRead
+unfoldable pub numberOf : List ℕ → Said Decimal
 numberOf w = unsigned (isMinus w) (afterSign w)
 
 -- ---- "A cell is a number or is missing (NA)", NA in any letter case
@@ -141,12 +119,12 @@ numberOf w = unsigned (isMinus w) (afterSign w)
 unfoldable pub isMissing : List ℕ → Bool
 isMissing w = eqs (map capital w) (bytes "NA")
 
-abbrev pub asCell : NumberRead → CellRead
-asCell (Value d) = Read (Number d)
-asCell (Wrong fault) = Bad fault
+-- a number where none may be missing
+unfoldable pub givenCell : List ℕ → Said Cell
+givenCell w = readOn (numberOf w) (λ d. says (Number d))
 
-unfoldable pub cellOf : List ℕ → CellRead
-cellOf w = cond (isMissing w) (Read Missing) (asCell (numberOf w))
+unfoldable pub cellOf : List ℕ → Said Cell
+cellOf w = cond (isMissing w) (says Missing) (givenCell w)
 
 -- ---- "Order between numbers is exact": sizes count in units of ten to the −40
 
@@ -169,15 +147,6 @@ aboveZero d = cond (d .negative) false (ltb 0 (d .digits))
 abbrev pub missingWord : ℕ
 missingWord = 2 ^ 64 - 1
 
-abbrev pub signBit : Bool → ℕ
-signBit true = 1
-signBit false = 0
-
 abbrev pub wordOf : Cell → ℕ
-wordOf (Number d) = d .digits % 10 ^ 15 * 512 + d .power * 2 + signBit (d .negative)
+wordOf (Number d) = d .digits % 10 ^ 15 * 512 + d .power * 2 + cond (d .negative) 1 0
 wordOf Missing = missingWord
-
-unfoldable pub cellIn : ℕ → Cell
-cellIn w =
-    cond (eqb w missingWord) Missing
-    (Number (record { negative = eqb (w % 2) 1; digits = w / 512; power = w / 2 % 256 }))

@@ -2,3 +2,4 @@
 pub mod Decimal
 pub mod Fine
 pub mod Parts
+pub mod Answers

@@ -1,11 +1,14 @@
 -- What the private functions answer about the parts of a word. The code keeps a long number as itself or `cap`, whichever is less.
 use Prim.Native.Nat.{ℕ, _+_, _^_, _≤_, min}
+use Prim.Native.Char.{code}
 use mathlib.Core.Path.{_≡_}
 use mathlib.Core.List.{List, _++_}
+use mathlib.Core.Bool.{Bool, cond}
+use lib.Dec.{eqb}
 use lib.ListN.{length, drop}
 use Rattle.laws.specs.Bytes.{isDigit}
-use Rattle.laws.specs.Lists.{front}
-use Rattle.decimal.specs.Decimal.{afterSign, isMinus, places, figures, afterFigures, numeral, significant, zerosCut, exponentDigits, letters, afterE}
+use Rattle.laws.specs.Lists.{front, after}
+use Rattle.decimal.specs.Decimal.{afterSign, isMinus, pointPlaces, figures, afterFigures, numeral, significant, zerosCut, exponentDigits, letters, afterE}
 use Rattle.decimal.specs.declared.word.Sign.{Sign}
 use Rattle.decimal.specs.declared.word.Figures.{Figures}
 use Rattle.decimal.specs.declared.word.Mantissa.{Mantissa}
@@ -14,6 +17,16 @@ use Rattle.decimal.specs.declared.word.Exponent.{Exponent}
 -- above every length, so that a capped exponent is as far out of range as the whole one
 abbrev pub cap : ℕ
 cap = 10 ^ 19
+
+abbrev pub isZero : ℕ → Bool
+isZero b = eqb b (code "0")
+
+-- of a word without its sign
+abbrev pub places : List ℕ → List ℕ
+places s = pointPlaces (after isDigit s)
+
+abbrev pub signBit : Bool → ℕ
+signBit t = cond t 1 0
 
 -- n and zeros stand for the digits ds
 pub record Stands (n zeros : ℕ) (ds : List ℕ) : Type 0 where

@@ -3,7 +3,9 @@ ghost use mathlib.Core.Bool.{cond};
 ghost use mathlib.Core.Path.{_≡_};
 ghost use Prim.Native.Nat.{_+_, _/_, _^_, _<_};
 ghost use lib.Dec.{ltb};
-ghost use Rattle.decimal.specs.Decimal.{numberOf, cellOf, isMissing, lessThan, sizeOf, aboveZero, wordOf, cellIn, signBit, ranged};
+ghost use Rattle.decimal.specs.Decimal.{numberOf, givenCell, cellOf, isMissing, lessThan, sizeOf, aboveZero, wordOf, ranged, offset};
+ghost use Rattle.decimal.specs.Parts.{signBit};
+ghost use Rattle.decimal.specs.Answers.{numberRead, cellRead, cellIn};
 
 mod word; // word.rt: the parts of a word
 
@@ -57,7 +59,7 @@ const MISSING: u64 = 18_446_744_073_709_551_615;
 // number with the power high less low, which has LOWEST added.
 fn fit(minus: bool, number: u64, high: u64, low: u64) -> NumberRead
     requires { ⌜ (0 < number) × (number < 10 ^ 15) × (low < 2 ^ 63 + 100) ⌝ }
-    ensures { λ r. ⌜ r ≡ ranged minus number high (low + 40) ⌝ }
+    ensures { λ r. ⌜ r ≡ numberRead (ranged minus number high (low + offset)) ⌝ }
 {
     if high < low {
         return NumberRead::Wrong(12);
@@ -75,7 +77,7 @@ fn fit(minus: bool, number: u64, high: u64, low: u64) -> NumberRead
 // number with the power up less down, and the exponent. Its size is only taken off: added, it could wrap.
 fn finish(minus: bool, number: u64, up: u64, down: u64, exponent: Exponent) -> NumberRead
     requires { ⌜ (up < 2 ^ 63 + 20) × (down < 2 ^ 63 + 20) ⌝ }
-    ensures { λ r. ⌜ r ≡ ranged minus number (up + cond (exponent .minus) 0 (exponent .size)) (down + cond (exponent .minus) (exponent .size) 0) ⌝ }
+    ensures { λ r. ⌜ r ≡ numberRead (ranged minus number (up + cond (exponent .minus) 0 (exponent .size)) (down + cond (exponent .minus) (exponent .size) 0)) ⌝ }
 {
     if number == 0 {
         return NumberRead::Value(Decimal {
@@ -101,7 +103,7 @@ fn finish(minus: bool, number: u64, up: u64, down: u64, exponent: Exponent) -> N
 
 // What a word says as a number.
 pub fn number_of(w: &[u8]) -> NumberRead
-    ensures { λ r. ⌜ r ≡ numberOf (now (w .entry)) ⌝ }
+    ensures { λ r. ⌜ r ≡ numberRead (numberOf (now (w .entry))) ⌝ }
 {
     let sign = sign_at(w, 0);
     let mantissa = mantissa_at(w, sign.at);
@@ -136,17 +138,24 @@ fn missing(w: &[u8]) -> bool
     }
 }
 
-// What a word says as a cell.
-pub fn cell_of(w: &[u8]) -> CellRead
-    ensures { λ r. ⌜ r ≡ cellOf (now (w .entry)) ⌝ }
+// What a word says as a cell that may not be missing.
+pub fn given_cell(w: &[u8]) -> CellRead
+    ensures { λ r. ⌜ r ≡ cellRead (givenCell (now (w .entry))) ⌝ }
 {
-    if missing(w) {
-        return CellRead::Read(Cell::Missing);
-    }
     match number_of(w) {
         NumberRead::Value(d) => CellRead::Read(Cell::Number(d)),
         NumberRead::Wrong(fault) => CellRead::Bad(fault),
     }
+}
+
+// What a word says as a cell.
+pub fn cell_of(w: &[u8]) -> CellRead
+    ensures { λ r. ⌜ r ≡ cellRead (cellOf (now (w .entry))) ⌝ }
+{
+    if missing(w) {
+        return CellRead::Read(Cell::Missing);
+    }
+    given_cell(w)
 }
 
 // number without its last digits, as many as count says.

@@ -1,62 +1,159 @@
 -- A line that opens a section or is [End]: it closes what is open, and what it then does hangs on that line alone.
 use Prim.Native.Nat.{ℕ}
-use mathlib.Core.Path.{_≡_, refl, _∙_}
+use mathlib.Core.Path.{_≡_, refl, sym, ap, _∙_}
 use mathlib.Core.List.{List}
-use mathlib.Core.Bool.{true, false}
-use mathlib.Core.Option.{Option, none, some}
-use Rattle.laws.proofs.Tests.{by-test, cond-yes}
-use Rattle.words.specs.Words.{words}
-use Rattle.keywords.specs.Form.{argument}
-use Rattle.keywords.specs.Carried.{keyOf}
+use mathlib.Core.Bool.{Bool, true, false, not, _&&_}
+use lib.ListN.{length}
+use lib.Dec.{eqb}
+use borrow.Author.Tests.{not-false}
+use Rattle.laws.specs.Bytes.{bytes, isBlank}
+use Rattle.laws.specs.Lists.{eqs}
+use Rattle.laws.specs.Said.{Said, says, fault, orFault}
+use Rattle.laws.proofs.Tests.{by-test, cond-yes, cond-map, and-second}
+use Rattle.laws.proofs.Same.{eqs-eq}
+use Rattle.words.specs.Words.{words, grown, onto}
+use Rattle.name_table.specs.Names.{meaning}
+use Rattle.keywords.specs.Form.{inside, isFormed, spelled, argument}
+use Rattle.keywords.specs.Carried.{carried, keyOf}
 use Rattle.keywords.specs.declared.Keyword.{Keyword}
 use Rattle.keywords.specs.declared.Keyword.the-variants as key
-use Rattle.keywords.specs.declared.KeyRead.{KeyRead}
-use Rattle.keywords.specs.declared.KeyRead.the-variants.{Known, Unknown, Malformed}
-use Rattle.keywords.specs.declared.Section.the-variants.{Component, Selector, Model}
-use Rattle.cut_lines.specs.Texts.{plain}
-use Rattle.line_rules.specs.Fields.{isBracketed, isModelName, oneWord}
-use Rattle.rules.specs.Going.{stop, refuse, andThen}
-use Rattle.rules.specs.Model.{newModel}
-use Rattle.rules.specs.Steps.{shut, done, opened, keyed, firstKeyed, onBegun, onPlain}
-use Rattle.rules.specs.Reading.{keyIn, keyAt, opens, isEnd}
+use Rattle.keywords.specs.declared.Section.the-variants.{Model}
+use Rattle.keywords.proofs.Spelling.{spelling-known}
+use Rattle.cut_lines.specs.Texts.{Text, plain}
+use Rattle.line_rules.specs.Fields.{isBracketed, isModelName, oneOf, oneWord}
+use Rattle.rules.specs.Going.{stop, unless, refuse, andThen}
+use Rattle.rules.specs.Component.{componentShut}
+use Rattle.rules.specs.Selector.{selectorShut}
+use Rattle.rules.specs.Model.{newModel, modelShut}
+use Rattle.rules.specs.Steps.{shut, done, opened, keyed, onPlain}
+use Rattle.rules.specs.Reading.{keyName, isKey, isWithin}
+use Rattle.rules.specs.Keys.{keyIn, keyAt, isEnd}
+use Rattle.rules.proofs.Keys.{within-key}
+use Rattle.rules.specs.declared.ComponentList.{ComponentList}
+use Rattle.rules.specs.declared.ComponentList.the-variants.{ComponentFirst, ComponentShut, PackageLines, PinRows}
+use Rattle.rules.specs.declared.ComponentState.{ComponentState}
+use Rattle.rules.specs.declared.SelectorState.{SelectorState}
+use Rattle.rules.specs.declared.ModelList.{ModelList}
+use Rattle.rules.specs.declared.ModelList.the-variants.{ModelFirst, ModelShut, CurrentRows, RampLines, WaveformRows}
+use Rattle.rules.specs.declared.ModelState.{ModelState}
 use Rattle.rules.specs.declared.Stage.{Stage}
 use Rattle.rules.specs.declared.Stage.the-variants.{BeforeVersion, InHeader, InComponent, InSelector, InModel, AfterEnd}
 use Rattle.rules.specs.declared.Event.{Event}
-use Rattle.rules.specs.declared.Event.the-variants.{Opened}
+use Rattle.rules.specs.declared.Event.the-variants.{Opened, Ended}
 use Rattle.rules.specs.declared.Went.{Went}
 use Rattle.rules.specs.declared.Went.the-variants.{On, Stop}
-use Rattle.demand_three.specs.Lines.{isModel}
 use Rattle.demand_three.proofs.Renumbered.{stageAt, wentAt, then-at}
-use Rattle.demand_three.proofs.Steps.{shut-at, done-at}
-
--- the open table or list is closed, and then the section
-abbrev pub close : Stage → Went
-close s = andThen (shut s) done
-
-pub close-at : (f : ℕ → ℕ) (s : Stage) → wentAt f (close s) ≡ close (stageAt f s)
-close-at f s = then-at f (shut s) done done (done-at f) ∙ rw (shut-at f s)
-
--- what the line does by itself: what it does where nothing is open
-abbrev pub alone : ℕ → List ℕ → Went
-alone k w = keyed BeforeVersion k w (keyOf w)
+use Rattle.demand_three.proofs.Steps.{shut-at, done-at, opened-at}
 
 -- ---- the keyword of such a line
 
-bracketed : (w : List ℕ) (k : ℕ) → isEnd (keyAt (plain k w)) ≡ true → isBracketed w ≡ true
-bracketed w k h = by-test (isBracketed w) (λ t. t) (λ t. let z : false ≡ true = rw t at h in cc)
+key-at-ends : (k : ℕ) (w : List ℕ) → isWithin (plain k w) ≡ false → isEnd (keyAt (plain k w)) ≡ true
+key-at-ends k w h = not-false _ (sym (within-key (plain k w)) ∙ h)
 
-key-ends : (w : List ℕ) (k : ℕ) → isEnd (keyAt (plain k w)) ≡ true → isEnd (keyIn (keyOf w)) ≡ true
-key-ends w k h = rw (bracketed w k h) at h
+bracketed : (k : ℕ) (w : List ℕ) → isEnd (keyAt (plain k w)) ≡ true → isBracketed w ≡ true
+bracketed k w h = by-test (isBracketed w) (λ t. t) (λ t. let z : false ≡ true = rw t at h in cc)
 
-keyed-closes : (s : Stage) (k : ℕ) (w : List ℕ) (x : KeyRead) → isEnd (keyIn x) ≡ true → keyed s k w x ≡ andThen (done s) (λ (t : Stage). keyed BeforeVersion k w x)
-keyed-closes s k w Malformed h = cc
-keyed-closes s k w Unknown h = cc
-keyed-closes s k w (Known key.IbisVer at) h = cc
-keyed-closes s k w (Known (key.InHeader p) at) h = cc
-keyed-closes s k w (Known (key.Opens o) at) h = refl
-keyed-closes s k w (Known (key.InComponent p) at) h = cc
-keyed-closes s k w (Known (key.InModel p) at) h = cc
-keyed-closes s k w (Known key.End at) h = refl
+key-ends : (k : ℕ) (w : List ℕ) → isEnd (keyAt (plain k w)) ≡ true → isEnd (keyIn (keyOf w)) ≡ true
+key-ends k w h = rw (bracketed k w h) at h
+
+-- [Model] is such a keyword
+is-one : not (oneOf (bytes "model") (words (bytes "component model_selector model end"))) ≡ false
+unfolding oneOf eqs words grown onto isBlank
+is-one = refl
+
+pub model-ends : (t : Text) → isKey "model" t ≡ true → isWithin t ≡ false
+model-ends t h =
+    ap (λ (x : List ℕ). not (oneOf x (words (bytes "component model_selector model end")))) (eqs-eq (keyName t) (bytes "model") h) ∙ is-one
+
+pub model-key : (k : ℕ) (w : List ℕ) → isKey "model" (plain k w) ≡ true → keyOf w ≡ says (key.Opens Model)
+unfolding keyOf eqs
+model-key k w h =
+    by-test (isBracketed w && isFormed w)
+    (λ t.
+    cond-yes _ _ (and-second (isBracketed w) (isFormed w) t)
+    ∙ ap (λ (x : List ℕ). orFault 6 (meaning x carried)) (eqs-eq (spelled (inside w)) (bytes "model") (rw t at h))
+    ∙ ap (orFault 6) (spelling-known (key.Opens Model)))
+    (λ t. let z : false ≡ true = rw t at h in cc)
+
+-- ---- what it closes: the open table or list, and then the section
+
+abbrev pub close : ℕ → Stage → Went
+close k s = andThen (shut k s) (done k)
+
+pub close-at : (f : ℕ → ℕ) (k : ℕ) (s : Stage) → wentAt f (close k s) ≡ close (f k) (stageAt f s)
+close-at f k s = then-at f (shut k s) (done k) (done (f k)) (done-at f k) ∙ rw (shut-at f k s)
+
+then-refuse : (t : Bool) (n k : ℕ) (w : Went) (g : Stage → Went) → andThen (refuse t n k w) g ≡ refuse t n k (andThen w g)
+unfolding refuse
+then-refuse t n k w g = cond-map (λ (x : Went). andThen x g) t (stop n k) w
+
+then-unless : (n k : ℕ) (w : Went) (g : Stage → Went) → andThen (unless n k w) g ≡ unless n k (andThen w g)
+unfolding unless
+then-unless n k w g = cond-map (λ (x : Went). andThen x g) (eqb n 0) w (stop n k)
+
+-- where something is open, that does not hang on the line's number
+component-same : (j k : ℕ) (c : ComponentState) (l : ComponentList) → andThen (componentShut c l) (done j) ≡ andThen (componentShut c l) (done k)
+component-same j k c ComponentFirst = refl
+component-same j k c ComponentShut = refl
+component-same j k c (PackageLines o g) = simp then-refuse
+component-same j k c (PinRows o long any) = simp then-refuse
+
+selector-same : (j k : ℕ) (s : SelectorState) → andThen (selectorShut s) (done j) ≡ andThen (selectorShut s) (done k)
+unfolding selectorShut
+selector-same j k s = simp then-refuse
+
+model-same : (j k : ℕ) (m : ModelState) (l : ModelList) → andThen (modelShut m l) (done j) ≡ andThen (modelShut m l) (done k)
+model-same j k m ModelFirst = refl
+model-same j k m ModelShut = refl
+model-same j k m (CurrentRows o r) = simp then-unless
+model-same j k m (RampLines o g) = simp then-refuse
+model-same j k m (WaveformRows o g r) = simp (then-refuse, then-unless)
+
+-- ---- what it does by itself
+
+abbrev byItself : ℕ → List ℕ → Said Keyword → Went
+byItself k w (fault n) = stop n k
+byItself k w (says key.IbisVer) = stop 7 k
+byItself k w (says (key.InHeader p)) = stop 7 k
+byItself k w (says (key.Opens o)) = opened k (argument w) o
+byItself k w (says (key.InComponent p)) = stop 7 k
+byItself k w (says (key.InModel p)) = stop 7 k
+byItself k w (says key.End) = On AfterEnd (Ended (eqb (length (argument w)) 0))
+
+abbrev pub alone : ℕ → List ℕ → Went
+alone k w = byItself k w (keyOf w)
+
+itself-at : (f : ℕ → ℕ) (k : ℕ) (w : List ℕ) (x : Said Keyword) → wentAt f (byItself k w x) ≡ byItself (f k) w x
+itself-at f k w (fault n) = refl
+itself-at f k w (says key.IbisVer) = refl
+itself-at f k w (says (key.InHeader p)) = refl
+itself-at f k w (says (key.Opens o)) = opened-at f k (argument w) o
+itself-at f k w (says (key.InComponent p)) = refl
+itself-at f k w (says (key.InModel p)) = refl
+itself-at f k w (says key.End) = refl
+
+pub alone-at : (f : ℕ → ℕ) (k : ℕ) (w : List ℕ) → wentAt f (alone k w) ≡ alone (f k) w
+alone-at f k w = itself-at f k w (keyOf w)
+
+-- a [Model] line that goes on does so at any line
+pub alone-anywhere : (k j : ℕ) (w : List ℕ) (s : Stage) (e : Event) → keyOf w ≡ says (key.Opens Model)
+    → alone k w ≡ On s e → alone j w ≡ On (InModel (newModel j)) (Opened Model)
+unfolding refuse
+alone-anywhere k j w s e h q =
+    by-test (oneWord isModelName (words (argument w)))
+    (λ t. rw (h, t))
+    (λ t. let z : stop 10 k ≡ On s e = rw (h, t) at q in cc)
+
+-- ---- both
+
+keyed-closes : (s : Stage) (k : ℕ) (w : List ℕ) (x : Said Keyword) → isEnd (keyIn x) ≡ true → keyed s k w x ≡ andThen (done k s) (λ (t : Stage). byItself k w x)
+keyed-closes s k w (fault n) h = cc
+keyed-closes s k w (says key.IbisVer) h = cc
+keyed-closes s k w (says (key.InHeader p)) h = cc
+keyed-closes s k w (says (key.Opens o)) h = refl
+keyed-closes s k w (says (key.InComponent p)) h = cc
+keyed-closes s k w (says (key.InModel p)) h = cc
+keyed-closes s k w (says key.End) h = refl
 
 then-same : (w : Went) (a b : Stage → Went) → ((s : Stage) → a s ≡ b s) → andThen w a ≡ andThen w b
 then-same (On s e) a b h = h s
@@ -66,70 +163,29 @@ then-then : (w : Went) (a b : Stage → Went) → andThen w (λ (s : Stage). and
 then-then (On s e) a b = refl
 then-then (Stop x) a b = refl
 
-begun-closes : (s : Stage) (k : ℕ) (w : List ℕ) → isEnd (keyAt (plain k w)) ≡ true → onBegun s k w ≡ andThen (close s) (λ (t : Stage). alone k w)
-unfolding onBegun
-begun-closes s k w h =
-    cond-yes _ _ (bracketed w k h)
-    ∙ then-same (shut s) _ _ (λ t. keyed-closes t k w (keyOf w) (key-ends w k h))
-    ∙ then-then (shut s) done (λ (t : Stage). alone k w)
+plain-closes : (s : Stage) (k : ℕ) (w : List ℕ) → isWithin (plain k w) ≡ false → onPlain s k w ≡ andThen (close k s) (λ (t : Stage). alone k w)
+unfolding onPlain
+plain-closes s k w h =
+    let e = key-at-ends k w h in
+    cond-yes _ _ (bracketed k w e)
+    ∙ then-same (shut k s) _ _ (λ t. keyed-closes t k w (keyOf w) (key-ends k w e))
+    ∙ then-then (shut k s) (done k) (λ (t : Stage). alone k w)
 
--- ---- by where the reading stands
-
-first-seven : (k : ℕ) (w : List ℕ) (x : KeyRead) → isEnd (keyIn x) ≡ true → firstKeyed k w x ≡ stop 7 k
-first-seven k w Malformed h = cc
-first-seven k w Unknown h = cc
-first-seven k w (Known key.IbisVer at) h = cc
-first-seven k w (Known (key.InHeader p) at) h = refl
-first-seven k w (Known (key.Opens o) at) h = refl
-first-seven k w (Known (key.InComponent p) at) h = refl
-first-seven k w (Known (key.InModel p) at) h = refl
-first-seven k w (Known key.End at) h = refl
-
--- out of place, or it closes and goes on alone
+-- out of place, or it closes, which does not hang on its line, and goes on alone
 pub data Closer (s : Stage) (k : ℕ) (w : List ℕ) : Type 0 where
   misplaced : onPlain s k w ≡ stop 7 k → Closer s k w
-  closes : onPlain s k w ≡ andThen (close s) (λ (t : Stage). alone k w) → Closer s k w
+  closes : ((j : ℕ) → onPlain s k w ≡ andThen (close j s) (λ (t : Stage). alone k w)) → Closer s k w
 
-pub closer : (s : Stage) (k : ℕ) (w : List ℕ) → isEnd (keyAt (plain k w)) ≡ true → Closer s k w
-closer BeforeVersion k w h = misplaced (cond-yes _ _ (bracketed w k h) ∙ first-seven k w (keyOf w) (key-ends w k h))
-closer (InHeader x) k w h = closes (begun-closes (InHeader x) k w h)
-closer (InComponent c) k w h = closes (begun-closes (InComponent c) k w h)
-closer (InSelector s) k w h = closes (begun-closes (InSelector s) k w h)
-closer (InModel m) k w h = closes (begun-closes (InModel m) k w h)
-closer AfterEnd k w h = misplaced refl
+pub closer : (s : Stage) (k : ℕ) (w : List ℕ) → isWithin (plain k w) ≡ false → Closer s k w
+closer s k w h = by s (plain-closes s k w h)
+  where
+    from : (s : Stage) → ((j : ℕ) → close k s ≡ close j s) → onPlain s k w ≡ andThen (close k s) (λ (t : Stage). alone k w) → Closer s k w
+    from s same e = closes (λ j. e ∙ ap (λ (x : Went). andThen x (λ (t : Stage). alone k w)) (same j))
 
--- ---- a [Model] line: whether its argument is a name does not hang on its number
-
-opened-anywhere : (k j : ℕ) (w : List ℕ) (s : Stage) (e : Event) → opened k w Model ≡ On s e → opened j w Model ≡ On (InModel (newModel j)) (Opened Model)
-unfolding refuse
-opened-anywhere k j w s e h =
-    by-test (oneWord isModelName (words w))
-    (λ t. rw t)
-    (λ t. let z : stop 10 k ≡ On s e = rw t at h in cc)
-
-keyed-anywhere : (k j : ℕ) (w : List ℕ) (x : KeyRead) (s : Stage) (e : Event) → isModel (opens (keyIn x)) ≡ true
-    → keyed BeforeVersion k w x ≡ On s e → keyed BeforeVersion j w x ≡ On (InModel (newModel j)) (Opened Model)
-keyed-anywhere k j w Malformed s e h q = cc
-keyed-anywhere k j w Unknown s e h q = cc
-keyed-anywhere k j w (Known key.IbisVer at) s e h q = cc
-keyed-anywhere k j w (Known (key.InHeader p) at) s e h q = cc
-keyed-anywhere k j w (Known (key.Opens Component) at) s e h q = cc
-keyed-anywhere k j w (Known (key.Opens Selector) at) s e h q = cc
-keyed-anywhere k j w (Known (key.Opens Model) at) s e h q = opened-anywhere k j (argument w) s e q
-keyed-anywhere k j w (Known (key.InComponent p) at) s e h q = cc
-keyed-anywhere k j w (Known (key.InModel p) at) s e h q = cc
-keyed-anywhere k j w (Known key.End at) s e h q = cc
-
-pub model-ends : (x : Option Keyword) → isModel (opens x) ≡ true → isEnd x ≡ true
-model-ends none h = cc
-model-ends (some key.IbisVer) h = cc
-model-ends (some (key.InHeader p)) h = cc
-model-ends (some (key.Opens o)) h = refl
-model-ends (some (key.InComponent p)) h = cc
-model-ends (some (key.InModel p)) h = cc
-model-ends (some key.End) h = cc
-
-pub alone-anywhere : (k j : ℕ) (w : List ℕ) (s : Stage) (e : Event) → isModel (opens (keyAt (plain 0 w))) ≡ true
-    → alone k w ≡ On s e → alone j w ≡ On (InModel (newModel j)) (Opened Model)
-alone-anywhere k j w s e h q =
-    keyed-anywhere k j w (keyOf w) s e (rw (bracketed w 0 (model-ends (keyAt (plain 0 w)) h)) at h) q
+    by : (s : Stage) → onPlain s k w ≡ andThen (close k s) (λ (t : Stage). alone k w) → Closer s k w
+    by BeforeVersion e = misplaced e
+    by (InHeader x) e = from (InHeader x) (λ j. refl) e
+    by (InComponent c) e = from (InComponent c) (λ j. component-same k j c (c .list)) e
+    by (InSelector l) e = from (InSelector l) (λ j. selector-same k j l) e
+    by (InModel m) e = from (InModel m) (λ j. model-same k j m (m .list)) e
+    by AfterEnd e = misplaced e

@@ -1,83 +1,186 @@
--- Demand 3 can be put to use: two files, both accepted, that have one model section in common, at different places among their sections and
--- lines. Each premise is computed.
-use Prim.Native.Nat.{ℕ}
+-- Demand 3 put to use: an accepted file, and files that have its model section at other places among other sections and lines. Each premise is
+-- computed; what is told of each changed file then follows by `demand3`.
+use Prim.Native.Nat.{ℕ, _+_, _≤_, _<_}
 use Prim.Native.Char.{code}
 use Prim.Native.String.{String, _++_ as _++ˢ_}
 use mathlib.Core.Path.{_≡_, refl}
-use mathlib.Core.List.{List}
+use mathlib.Core.List.{List, _++_}
 use mathlib.Core.Bool.{true}
-use Rattle.laws.specs.Bytes.{bytes, isBlank, isDigit, isCapital, isSmall, isLetter, capital, small}
-use Rattle.laws.specs.Lists.{front, after, keep, trim, all, among, other, eqs}
-use Rattle.decimal.specs.Decimal.{isMinus, afterSign, pointPlaces, afterPoint, places, figures, afterFigures, numeralFrom, numeral, isZero, significant, zerosCut, afterE, exponentDigits, plusExponent, minusExponent, letters, scaleUp, scaleDown, ranged, resultOf, unsigned, numberOf, isMissing, cellOf, lessThan}
-use Rattle.words.specs.Words.{grown, words}
-use Rattle.lines.specs.Lines.{Physical, isReturn, linesOf, isAllowed, lineFault, faultFrom, bytesFault, cut}
-use Rattle.name_table.specs.Names.{meaning, placeFrom}
-use Rattle.keywords.specs.Form.{inside, closing, isJoint, inParts, isClosed, isFormed, plain, spelled, argument}
-use Rattle.keywords.specs.Carried.{carried, keyOf}
-use Rattle.cut_lines.specs.Change.{begins, isChange, noneOr, isRemark, changeTo, changeOf}
-use Rattle.cut_lines.specs.Texts.{textsFrom}
-use Rattle.line_rules.specs.Fields.{isSized, isBracketed, oneOf, needsNoModel, isNoModel, isModelName, isPinModel, isPinName, oneWord, isFileByte, isFileName, firstWord, otherWords, nameOf, lineAt, isNameAlone, wordFrom, namedWord, threeCells, namedCells, wordFault, heading}
-use Rattle.line_rules.specs.Tables.{modelTypes}
-use Rattle.given.specs.Given.{has, with}
-use Rattle.rules.specs.Going.{unless, refuse}
-use Rattle.rules.specs.Header.{version, headerPart, headerDone}
-use Rattle.rules.specs.Component.{pinNames, pinRow, componentPart, componentDone}
-use Rattle.rules.specs.Selector.{selectorLine, selectorShut}
-use Rattle.rules.specs.Model.{firstFault, isInput, isDriven, withFirst, singlePart, modelDone}
-use Rattle.rules.specs.Steps.{onBegun}
-use Rattle.rules.specs.Outline.{named, lists, count, firstFailing}
-use Rattle.rules.specs.Whole.{admitEntry, thirdWord, runs, lastChecks, textsOf, outcome}
+use lib.ListN.{length}
+use lib.Dec.{lit<, lit≤}
+use native.Mathlib.Omega.{arith}
+use Rattle.laws.specs.Bytes.{bytes}
+use Rattle.lines.specs.Lines.{Physical, linesOf}
+use Rattle.rules.specs.Whole.{refused, outcome}
 use Rattle.records.specs.declared.Lengths.{Lengths}
-use Rattle.demand_three.specs.Lines.{keywordOn, charAfterLine, charAfterLines, beginsAnother, opensNone, isModelSection}
-use Rattle.demand_three.specs.Demand.{Stands, Accepted, SameIn}
+use Rattle.examples.specs.Computing.{computing}
+use Rattle.demand_three.specs.Lines.{textOn, charAfterLine, charAfterLines, beginsAnother, isModelSection}
+use Rattle.demand_three.specs.Demand.{Stands, Accepted, SameIn, Excepted, outOfPlace, usedTwice, notListed, fullTable, fewRows, Spares}
 use Rattle.demand_three.proofs.Demand.{demand3}
 
-abbrev lent : Lengths
-lent = record { components = 8; pins = 512; selectors = 32; choices = 256; models = 64; waveforms = 1024; rows = 0 }
+-- ---- the accepted file: what stands before the section, the section, what stands behind it
 
-abbrev head : String
-head = "[IBIS Ver] 5.0\n[File Name] lk.ibs\n[File Rev] 1\n[Component] LK1\n[Manufacturer] House\n[Package]\nR_pkg 1 NA NA\nL_pkg 1 NA NA\nC_pkg 1 NA NA\n[Pin] signal_name model_name\n1 DOOR in1\n"
+-- so many models and rows are lent
+abbrev lending : ℕ → ℕ → Lengths
+lending models rows = record { components = 8; pins = 512; selectors = 32; choices = 256; models = models; waveforms = 1024; rows = rows }
 
--- the section, and what stands before it and behind it in the two files: in the second, another model and more
-abbrev shared : String
-shared = "[Model] in1 # the door\nModel_type Input\n[Comment Char] !_char\nC_comp 5pF NA NA ! pad\n[Voltage Range] 3.3 NA NA\n"
+-- up to the component's first pin, with its model's name
+abbrev head : String → String
+head model =
+    "[IBIS Ver] 5.0\n[File Name] lk.ibs\n[File Rev] 1\n[Component] LK1\n[Manufacturer] House\n[Package]\nR_pkg 1 NA NA\nL_pkg 1 NA NA\nC_pkg 1 NA NA\n[Pin] signal_name model_name\n1 DOOR "
+    ++ˢ model ++ˢ "\n"
 
 abbrev before : String
-before = head ++ˢ "[Comment Char] #_char\n"
+before = head "in1" ++ˢ "[Comment Char] #_char\n"
 
-abbrev beforeToo : String
-beforeToo = head ++ˢ "2 LAMP off\n[Model] off\nModel_type Terminator\n[Comment Char] #_char # from here on\nC_comp 3pF NA NA\n[Voltage Range] 5 NA NA\n\n"
+abbrev shared : String
+shared = "[Model] in1 # the door\nModel_type Input\n[Comment Char] !_char\nC_comp 5pF NA NA ! pad\n[Voltage Range] 3.3 NA NA\n[GND Clamp]\n-1 -50mA NA NA\n0 0 NA NA\n"
 
 abbrev behind : String
 behind = "[End]\n"
 
-abbrev behindToo : String
-behindToo = "[Model Selector] lamps\noff none\n[Component] LK2\n[Manufacturer] House\n[Pin] signal_name model_name\nA lamp lamps\n[Package]\nR_pkg 1 NA NA\nL_pkg 1 NA NA\nC_pkg 1 NA NA\n[End]\n"
+abbrev section : List Physical
+section = linesOf (bytes shared)
 
 abbrev file : String → String → List ℕ
 file front back = bytes (front ++ˢ shared ++ˢ back)
 
-abbrev section : List Physical
-section = linesOf (bytes shared)
-
--- what demand 3 takes, and that the second file is accepted too
-pub record Taken (c : ℕ) (section : List Physical) (l : Lengths) (s t : List ℕ) : Type 0 where
+pub record Taken (c : ℕ) (section : List Physical) (l : Lengths) (s : List ℕ) : Type 0 where
   pub isSection : isModelSection c section ≡ true
-  pub first : Stands c section s
-  pub second : Stands c section t
+  pub stands : Stands c section s
   pub accepted : Accepted l s
-  pub acceptedToo : Accepted l t
 
-pub taken : Taken (code "#") section lent (file before behind) (file beforeToo behindToo)
-unfolding outcome linesOf isModelSection charAfterLines beginsAnother isReturn Rattle.lines.specs.Lines.onto keywordOn isChange begins closing after other eqs spelled inside front plain small isCapital isBracketed cut trim keep isBlank keyOf isFormed inParts isJoint isClosed meaning carried opensNone charAfterLine changeOf changeTo argument among isRemark noneOr bytesFault faultFrom lineFault all isAllowed runs textsOf textsFrom Rattle.cut_lines.specs.Texts.onto version refuse onBegun headerPart has unless oneWord words grown Rattle.words.specs.Words.onto isFileName isSized isFileByte isSmall isDigit with headerDone admitEntry named count componentPart lineAt placeFrom nameOf firstWord namedCells isNameAlone threeCells otherWords numberOf unsigned figures afterSign places pointPlaces letters exponentDigits afterE afterFigures afterPoint resultOf ranged numeral numeralFrom significant isZero zerosCut scaleUp plusExponent isMinus scaleDown minusExponent cellOf isMissing capital heading pinRow pinNames isPinName isPinModel isNoModel oneOf componentDone isModelName needsNoModel firstFault wordFault namedWord wordFrom modelTypes withFirst isLetter singlePart modelDone isDriven isInput lessThan lastChecks firstFailing thirdWord lists selectorLine selectorShut
+pub taken : Taken (code "#") section (lending 64 2) (file before behind)
+unfolding computing isModelSection charAfterLines beginsAnother textOn charAfterLine
 taken =
     record {
       isSection = refl;
-      first = record { before = linesOf (bytes before); after = linesOf (bytes behind); lines = refl; char = refl; ends = refl };
-      second = record { before = linesOf (bytes beforeToo); after = linesOf (bytes behindToo); lines = refl; char = refl; ends = refl };
+      stands = record { before = linesOf (bytes before); after = linesOf (bytes behind); lines = refl; char = refl; ends = refl };
       accepted = record { held = _; passes = refl };
-      acceptedToo = record { held = _; passes = refl };
     }
 
-pub same : SameIn (file before behind) (file beforeToo behindToo) (taken .first) (taken .second)
-same = demand3 _ _ (taken .isSection) lent _ (taken .first) (taken .accepted) lent _ (taken .second) .accepted (taken .acceptedToo)
+-- ---- a changed file that is accepted: another model stands before the section, and more behind it
+
+abbrev beforeToo : String
+beforeToo = head "in1" ++ˢ "2 LAMP off\n[Model] off\nModel_type Terminator\n[Comment Char] #_char # from here on\nC_comp 3pF NA NA\n[Voltage Range] 5 NA NA\n\n"
+
+abbrev behindToo : String
+behindToo = "[Model Selector] lamps\noff none\n[Component] LK2\n[Manufacturer] House\n[Pin] signal_name model_name\nA lamp lamps\n[Package]\nR_pkg 1 NA NA\nL_pkg 1 NA NA\nC_pkg 1 NA NA\n[End]\n"
+
+pub takenToo : Taken (code "#") section (lending 64 2) (file beforeToo behindToo)
+unfolding computing isModelSection charAfterLines beginsAnother textOn charAfterLine
+takenToo =
+    record {
+      isSection = refl;
+      stands = record { before = linesOf (bytes beforeToo); after = linesOf (bytes behindToo); lines = refl; char = refl; ends = refl };
+      accepted = record { held = _; passes = refl };
+    }
+
+pub same : SameIn (file before behind) (file beforeToo behindToo) (taken .stands) (takenToo .stands)
+same =
+    demand3 _ _ (taken .isSection) _ _ (taken .stands) (taken .accepted) _ _ (takenToo .stands) .accepted (takenToo .accepted)
+
+-- ---- changed files that are refused: tables of lengths m are lent, and fault n is told at line k
+
+pub record Refusal (m : Lengths) (t : List ℕ) (n k : ℕ) : Type 0 where
+  pub stands : Stands (code "#") section t
+  pub told : outcome m t ≡ refused n k
+
+-- where the section stands, and what is told: each is computed of a file
+abbrev refusal : {m : Lengths} {n k : ℕ} (front back : String)
+    → linesOf (file front back) ≡ linesOf (bytes front) ++ section ++ linesOf (bytes back)
+    → charAfterLines (code "|") (linesOf (bytes front)) ≡ code "#"
+    → beginsAnother (charAfterLines (code "#") section) (linesOf (bytes back)) ≡ true
+    → outcome m (file front back) ≡ refused n k
+    → Refusal m (file front back) n k
+refusal front back lines char ends told =
+    record { stands = record { before = linesOf (bytes front); after = linesOf (bytes back); lines = lines; char = char; ends = ends }; told = told }
+
+module _ (m : Lengths) (t : List ℕ) (n k : ℕ) (r : Refusal m t n k) where
+  spares : Spares (r .stands) n k
+  spares = demand3 _ _ (taken .isSection) _ _ (taken .stands) (taken .accepted) m t (r .stands) .refusal n k (r .told)
+
+-- ---- two faults that stand elsewhere: a pin names no model, and the type of another model is none
+
+abbrev unknown : String
+unknown = head "in1" ++ˢ "2 LAMP lamp\n[Comment Char] #_char\n"
+
+pub at-pin : Refusal (lending 64 2) (file unknown behind) 15 12
+unfolding computing charAfterLines beginsAnother textOn charAfterLine
+at-pin = refusal unknown behind refl refl refl refl
+
+abbrev wrongType : String
+wrongType = "[Model] off\nModel_type Terminal\nC_comp 3pF NA NA\n[Voltage Range] 5 NA NA\n[End]\n"
+
+pub at-type : Refusal (lending 64 2) (file before wrongType) 10 22
+unfolding computing charAfterLines beginsAnother textOn charAfterLine
+at-type = refusal before wrongType refl refl refl refl
+
+-- a fault that is none of the five
+abbrev Other : ℕ → Type 0
+Other n = (n ≡ 7 → ⊥) × (n ≡ 14 → ⊥) × (n ≡ 16 → ⊥) × (n ≡ 17 → ⊥) × (n ≡ 18 → ⊥)
+
+not-excepted : (keyword n k : ℕ) → Other n → Excepted keyword n k → ⊥
+not-excepted keyword n k other (outOfPlace e at) = other .0 e
+not-excepted keyword n k other (usedTwice e) = other .1 e
+not-excepted keyword n k other (notListed e) = other .2 e
+not-excepted keyword n k other (fullTable e) = other .3 e
+not-excepted keyword n k other (fewRows e) = other .4 e
+
+-- the line told is none of the section's
+abbrev Elsewhere : (m : Lengths) (t : List ℕ) (n k : ℕ) → Refusal m t n k → Type 0
+Elsewhere m t n k r = length (r .stands .before) < k → k ≤ length (r .stands .before) + length section → ⊥
+
+elsewhere : (m : Lengths) (t : List ℕ) (n k : ℕ) → Other n → (r : Refusal m t n k) → Elsewhere m t n k r
+elsewhere m t n k other r from to = not-excepted _ n k other (spares m t n k r from to)
+
+pub pin-elsewhere : Elsewhere _ _ _ _ at-pin
+pin-elsewhere = elsewhere _ _ _ _ (omega arith) at-pin
+
+pub type-elsewhere : Elsewhere _ _ _ _ at-type
+type-elsewhere = elsewhere _ _ _ _ (omega arith) at-type
+
+-- ---- the five exceptions happen: each fault is told at a line of the section
+
+pub record Within (m : Lengths) (t : List ℕ) (n k : ℕ) : Type 0 where
+  pub refused : Refusal m t n k
+  pub from : length (refused .stands .before) < k
+  pub to : k ≤ length (refused .stands .before) + length section
+
+-- the section stands after [End]
+pub misplaced : Within (lending 64 2) (file (before ++ˢ behind) behind) 7 14
+unfolding computing charAfterLines beginsAnother textOn charAfterLine
+misplaced = record { refused = refusal (before ++ˢ behind) behind refl refl refl refl; from = lit< tt; to = lit≤ tt }
+
+-- another model of that name stands before it
+abbrev namesake : String
+namesake = before ++ˢ "[Model] in1\nModel_type Input\nC_comp 3pF NA NA\n[Voltage Range] 5 NA NA\n"
+
+pub named-twice : Within (lending 64 2) (file namesake behind) 14 17
+unfolding computing charAfterLines beginsAnother textOn charAfterLine
+named-twice = record { refused = refusal namesake behind refl refl refl refl; from = lit< tt; to = lit≤ tt }
+
+-- the pin needs no model
+abbrev grounded : String
+grounded = head "GND" ++ˢ "[Comment Char] #_char\n"
+
+pub unlisted : Within (lending 64 2) (file grounded behind) 16 13
+unfolding computing charAfterLines beginsAnother textOn charAfterLine
+unlisted = record { refused = refusal grounded behind refl refl refl refl; from = lit< tt; to = lit≤ tt }
+
+-- no model is lent, or one row too few
+pub full : Within (lending 0 2) (file before behind) 17 13
+unfolding computing charAfterLines beginsAnother textOn charAfterLine
+full = record { refused = refusal before behind refl refl refl refl; from = lit< tt; to = lit≤ tt }
+
+pub scant : Within (lending 64 1) (file before behind) 18 20
+unfolding computing charAfterLines beginsAnother textOn charAfterLine
+scant = record { refused = refusal before behind refl refl refl refl; from = lit< tt; to = lit≤ tt }
+
+excepted : (m : Lengths) (t : List ℕ) (n k : ℕ) (w : Within m t n k) → Excepted (length (w .refused .stands .before) + 1) n k
+excepted m t n k w = spares m t n k (w .refused) (w .from) (w .to)
+
+-- demand 3 says of each that it is one of the five; the first number is the line of the section's keyword
+pub all-excepted : Excepted 14 7 14 × Excepted 17 14 17 × Excepted 13 16 13 × Excepted 13 17 13 × Excepted 13 18 20
+unfolding computing misplaced named-twice unlisted full scant
+all-excepted = (excepted _ _ _ _ misplaced, excepted _ _ _ _ named-twice, excepted _ _ _ _ unlisted, excepted _ _ _ _ full, excepted _ _ _ _ scant)

@@ -1,64 +1,53 @@
 -- A model's steps under a new numbering of lines.
 use Prim.Native.Nat.{ℕ}
-use mathlib.Core.Path.{_≡_, refl, _∙_}
+use mathlib.Core.Path.{_≡_, refl, ap, _∙_}
 use mathlib.Core.List.{List}
+use lib.Dec.{eqb}
+use Rattle.laws.specs.Said.{Said, says, fault}
 use Rattle.laws.proofs.Tests.{cond-map}
-use Rattle.words.specs.Words.{words}
-use Rattle.name_table.specs.declared.Found.{Found}
-use Rattle.name_table.specs.declared.Found.the-variants.{At, Nothing}
+use Rattle.words.specs.Words.{word, words}
 use Rattle.keywords.specs.declared.ModelPart.{ModelPart}
 use Rattle.keywords.specs.declared.ModelPart.the-variants.{VoltageRange, TemperatureRange, Current, Ramp, Waveform}
-use Rattle.line_rules.specs.Fields.{lineAt, firstWord, rowOf}
-use Rattle.line_rules.specs.Tables.{modelLines, rampLines}
-use Rattle.rules.specs.Model.{withFirst, firstLine, rowLine, rampLine, fixtureLine, beginsLetter, waveformLine, modelLine, singlePart, waveformPart, modelPart, modelOpens, modelShut, modelDone}
+use Rattle.records.specs.declared.Row.{Row}
+use Rattle.records.specs.declared.Edge.the-variants.{Rising}
+use Rattle.line_rules.specs.Fields.{lineAt, rowOf}
+use Rattle.line_rules.specs.Tables.{modelLines, rampLines, fixtures}
 use Rattle.given.specs.declared.Given.{Given}
-use Rattle.line_rules.specs.declared.RowRead.{RowRead}
-use Rattle.line_rules.specs.declared.RowRead.the-variants.{Line, Amiss}
+use Rattle.rules.specs.Model.{withFirst, rowLine, beginsLetter, waveformLine, modelLine, modelPlace, singlePart, waveformPart, modelPart, modelOpens, modelShut, modelDone}
 use Rattle.rules.specs.declared.RowsSeen.{RowsSeen}
 use Rattle.rules.specs.declared.ModelList.{ModelList}
 use Rattle.rules.specs.declared.ModelList.the-variants.{ModelFirst, ModelShut, CurrentRows, RampLines, WaveformRows}
 use Rattle.rules.specs.declared.ModelState.{ModelState}
-use Rattle.demand_three.proofs.Renumbered.{modelListAt, modelAt, wentAt, unless-at, refuse-at}
+use Rattle.rules.specs.declared.Stage.the-variants.{InModel}
+use Rattle.demand_three.proofs.Renumbered.{modelListAt, modelAt, wentAt, unless-at, refuse-at, named-at}
 
 module _ (f : ℕ → ℕ) where
-  first-line-at : (m : ModelState) (k : ℕ) (w : List ℕ) (x : Found) → wentAt f (firstLine m k w x) ≡ firstLine (modelAt f m) (f k) w x
-  unfolding withFirst
-  first-line-at m k w Nothing = refl
-  first-line-at m k w (At n) = simp (refuse-at f, unless-at f)
+  -- ---- its lines
 
-  current-row-at : (o : ℕ) (m : ModelState) (r : RowsSeen) (k : ℕ) (x : RowRead)
-      → wentAt f (rowLine (CurrentRows o) m r k x) ≡ rowLine (CurrentRows (f o)) (modelAt f m) r (f k) x
-  current-row-at o m r k (Amiss n) = refl
-  current-row-at o m r k (Line l) = simp (refuse-at f)
-
-  waveform-row-at : (o : ℕ) (g : Given) (m : ModelState) (r : RowsSeen) (k : ℕ) (x : RowRead)
-      → wentAt f (rowLine (WaveformRows o g) m r k x) ≡ rowLine (WaveformRows (f o) g) (modelAt f m) r (f k) x
-  waveform-row-at o g m r k (Amiss n) = refl
-  waveform-row-at o g m r k (Line l) = simp (refuse-at f)
-
-  ramp-line-at : (m : ModelState) (o : ℕ) (g : Given) (k : ℕ) (w : List ℕ) (x : Found)
-      → wentAt f (rampLine m o g k w x) ≡ rampLine (modelAt f m) (f o) g (f k) w x
-  ramp-line-at m o g k w Nothing = refl
-  ramp-line-at m o g k w (At n) = simp (refuse-at f, unless-at f)
-
-  fixture-line-at : (m : ModelState) (o : ℕ) (g : Given) (r : RowsSeen) (k : ℕ) (w : List ℕ) (x : Found)
-      → wentAt f (fixtureLine m o g r k w x) ≡ fixtureLine (modelAt f m) (f o) g r (f k) w x
-  fixture-line-at m o g r k w Nothing = refl
-  fixture-line-at m o g r k w (At n) = simp (refuse-at f, unless-at f)
+  row-at : (on onAt : RowsSeen → ModelList) → ((r : RowsSeen) → modelListAt f (on r) ≡ onAt r) → (m : ModelState) (r : RowsSeen) (k : ℕ) (x : Said Row)
+      → wentAt f (rowLine on m r k x) ≡ rowLine onAt (modelAt f m) r (f k) x
+  row-at on onAt q m r k (fault n) = refl
+  row-at on onAt q m r k (says l) = simp (refuse-at f, q)
 
   waveform-line-at : (m : ModelState) (o : ℕ) (g : Given) (r : RowsSeen) (k : ℕ) (w : List ℕ)
       → wentAt f (waveformLine m o g r k w) ≡ waveformLine (modelAt f m) (f o) g r (f k) w
   unfolding waveformLine
   waveform-line-at m o g r k w =
-      cond-map (wentAt f) (beginsLetter (firstWord (words w))) _ _
-      ∙ simp (refuse-at f, fixture-line-at, waveform-row-at)
+      cond-map (wentAt f) (beginsLetter (word 0 (words w))) _ _
+      ∙ rw (refuse-at f, named-at f g (lineAt fixtures w) _ k _ _ (λ h. refl), row-at (WaveformRows o g) (WaveformRows (f o) g) (λ s. refl) m r k (rowOf (words w)))
+
+  first-at : (m : ModelState) (w : List ℕ) (g : Given) → modelAt f (withFirst m w g) ≡ withFirst (modelAt f m) w g
+  unfolding withFirst
+  first-at m w g = refl
 
   pub model-line-at : (m : ModelState) (k : ℕ) (w : List ℕ) (l : ModelList) → wentAt f (modelLine m k w l) ≡ modelLine (modelAt f m) (f k) w (modelListAt f l)
-  model-line-at m k w ModelFirst = first-line-at m k w (lineAt modelLines w)
+  model-line-at m k w ModelFirst = named-at f (m .first) (lineAt modelLines w) _ k _ _ (λ g. ap InModel (first-at m w g))
   model-line-at m k w ModelShut = refl
-  model-line-at m k w (CurrentRows o r) = current-row-at o m r k (rowOf (words w))
-  model-line-at m k w (RampLines o g) = ramp-line-at m o g k w (lineAt rampLines w)
+  model-line-at m k w (CurrentRows o r) = row-at (CurrentRows o) (CurrentRows (f o)) (λ s. refl) m r k (rowOf (words w))
+  model-line-at m k w (RampLines o g) = named-at f g (lineAt rampLines w) _ k _ _ (λ h. refl)
   model-line-at m k w (WaveformRows o g r) = waveform-line-at m o g r k w
+
+  -- ---- its keywords
 
   opens-at : (k : ℕ) (p : ModelPart) → modelListAt f (modelOpens k p) ≡ modelOpens (f k) p
   opens-at k VoltageRange = refl
@@ -76,11 +65,11 @@ module _ (f : ℕ → ℕ) where
   waveform-part-at m k w p = simp (refuse-at f, unless-at f, opens-at)
 
   pub model-part-at : (m : ModelState) (k : ℕ) (w : List ℕ) (p : ModelPart) → wentAt f (modelPart m k w p) ≡ modelPart (modelAt f m) (f k) w p
-  model-part-at m k w VoltageRange = single-part-at m k w VoltageRange
-  model-part-at m k w TemperatureRange = single-part-at m k w TemperatureRange
-  model-part-at m k w (Current t) = single-part-at m k w (Current t)
-  model-part-at m k w Ramp = single-part-at m k w Ramp
-  model-part-at m k w (Waveform e) = waveform-part-at m k w (Waveform e)
+  model-part-at m k w p =
+      cond-map (wentAt f) (eqb (modelPlace p) (modelPlace (Waveform Rising))) _ _
+      ∙ rw (waveform-part-at m k w p, single-part-at m k w p)
+
+  -- ---- closing
 
   pub model-shut-at : (m : ModelState) (l : ModelList) → wentAt f (modelShut m l) ≡ modelShut (modelAt f m) (modelListAt f l)
   model-shut-at m ModelFirst = refl

@@ -4,8 +4,11 @@ use mathlib.Core.Path.{_≡_, refl}
 use mathlib.Core.Bool.{Bool}
 use lib.Dec.{eqb}
 use Rattle.laws.proofs.Tests.{cond-map}
+use Rattle.name_table.specs.declared.Found.{Found}
+use Rattle.name_table.specs.declared.Found.the-variants.{At, Nothing}
 use Rattle.records.specs.declared.Fault.{Fault}
-use Rattle.rules.specs.Going.{stop, unless, refuse, andThen}
+use Rattle.given.specs.declared.Given.{Given}
+use Rattle.rules.specs.Going.{stop, unless, refuse, namedLine, andThen}
 use Rattle.rules.specs.declared.HeaderState.{HeaderState}
 use Rattle.rules.specs.declared.ComponentList.{ComponentList}
 use Rattle.rules.specs.declared.ComponentList.the-variants.{ComponentFirst, ComponentShut, PackageLines, PinRows}
@@ -72,6 +75,11 @@ module _ (f : ℕ → ℕ) where
   pub refuse-at : (t : Bool) (n k : ℕ) (w : Went) → wentAt f (refuse t n k w) ≡ refuse t n (f k) (wentAt f w)
   unfolding refuse
   refuse-at t n k w = cond-map (wentAt f) t (stop n k) w
+
+  pub named-at : (g : Given) (x : Found) (n k : ℕ) (on onAt : Given → Stage) → ((h : Given) → stageAt f (on h) ≡ onAt h)
+      → wentAt f (namedLine g x n k on) ≡ namedLine g x n (f k) onAt
+  named-at g Nothing n k on onAt q = refl
+  named-at g (At i) n k on onAt q = simp (refuse-at, unless-at, q)
 
   pub then-at : (w : Went) (g h : Stage → Went) → ((s : Stage) → wentAt f (g s) ≡ h (stageAt f s)) → wentAt f (andThen w g) ≡ andThen (wentAt f w) h
   then-at (On s e) g h q = q s

@@ -4,7 +4,7 @@ use Prim.Native.Nat.{ℕ, _+_}
 use Prim.Native.Char.{code}
 use mathlib.Core.Path.{_≡_, refl, sym, ap, subst, _∙_}
 use mathlib.Core.List.{List, [], _∷_, _++_, map}
-use mathlib.Core.Bool.{true}
+use mathlib.Core.Bool.{true, false}
 use native.Mathlib.Omega.{arith}
 use lib.ListN.{length}
 use Rattle.laws.specs.Lists.{all}
@@ -17,7 +17,7 @@ use Rattle.cut_lines.specs.Texts.{Text, plain, textsFrom}
 use Rattle.rules.specs.Going.{stop, andThen}
 use Rattle.rules.specs.Model.{newModel}
 use Rattle.rules.specs.Steps.{onPlain}
-use Rattle.rules.specs.Reading.{keyAt, opens, isEnd, isWithin}
+use Rattle.rules.specs.Reading.{isKey, isWithin}
 use Rattle.rules.specs.Whole.{Held, nothingHeld, Outcome, passed, refused, runs, concluded, textsOf, afterBytes, outcome}
 use Rattle.records.specs.declared.Lengths.{Lengths}
 use Rattle.rules.specs.declared.ModelState.{ModelState}
@@ -28,12 +28,12 @@ use Rattle.rules.specs.declared.Event.the-variants.{Opened}
 use Rattle.rules.specs.declared.Went.{Went}
 use Rattle.rules.specs.declared.Went.the-variants.{On, Stop}
 use Rattle.keywords.specs.declared.Section.the-variants.{Model}
-use Rattle.demand_three.specs.Lines.{keywordOn, charAfterLine, isModel, isModelSection}
+use Rattle.demand_three.specs.Lines.{textOn, charAfterLine, isModelSection}
 use Rattle.demand_three.specs.Demand.{Stands, Accepted}
 use Rattle.demand_three.proofs.Renumbered.{stageAt}
 use Rattle.cut_lines.proofs.Renumbered.{textAt, texts-map}
-use Rattle.demand_three.proofs.Closing.{close, close-at, alone, Closer, misplaced, closes, closer, model-ends, alone-anywhere}
-use Rattle.demand_three.proofs.Texts.{key-text, within-texts}
+use Rattle.demand_three.proofs.Closing.{close, close-at, alone, Closer, misplaced, closes, closer, model-ends, model-key, alone-anywhere}
+use Rattle.demand_three.proofs.Texts.{key-text, anywhere, within-numberless}
 use Rattle.demand_three.proofs.Walks.{Walks, on-back, walks-back, walks-model, walked}
 use Rattle.demand_three.proofs.Bytes.{isClean, clean-file}
 use Rattle.demand_three.proofs.Split.{split}
@@ -66,14 +66,14 @@ then-on : (w o : Went) (s : Stage) (e : Event) → andThen w (λ (t : Stage). o)
 then-on (On u d) o s e q = ((u, d, refl), q)
 then-on (Stop x) o s e q = impossible (cc)
 
--- such a line that goes on closes what is open, and goes on by itself
-pub went-on : (s : Stage) (k : ℕ) (w : List ℕ) (u : Stage) (e : Event) → isEnd (keyAt (plain 0 w)) ≡ true → onPlain s k w ≡ On u e
-    → ((v : Stage) × (d : Event) × (close s ≡ On v d)) × (alone k w ≡ On u e)
-went-on s k w u e h q = by (closer s k w h)
+-- such a line that goes on closes what is open, as it would at line j, and goes on by itself
+pub went-on : (j : ℕ) (s : Stage) (k : ℕ) (w : List ℕ) (u : Stage) (e : Event) → isWithin (plain 0 w) ≡ false → onPlain s k w ≡ On u e
+    → ((v : Stage) × (d : Event) × (close j s ≡ On v d)) × (alone k w ≡ On u e)
+went-on j s k w u e h q = by (closer s k w h)
   where
-    by : Closer s k w → ((v : Stage) × (d : Event) × (close s ≡ On v d)) × (alone k w ≡ On u e)
+    by : Closer s k w → ((v : Stage) × (d : Event) × (close j s ≡ On v d)) × (alone k w ≡ On u e)
     by (misplaced x) = let z : stop 7 k ≡ On u e = sym x ∙ q in impossible (cc)
-    by (closes x) = then-on (close s) (alone k w) u e (sym x ∙ q)
+    by (closes x) = then-on (close j s) (alone k w) u e (sym (x j) ∙ q)
 
 -- ---- a section's texts in a file that passes: its keyword, with text w at line k, opens a model, the others walk, and what they leave closes
 
@@ -83,17 +83,17 @@ record Passed (w : List ℕ) (body : List Text) (k : ℕ) : Type 0 where
   walks : Walks (InModel (newModel k)) body left
   stage : Stage
   event : Event
-  shuts : close left ≡ On stage event
+  shuts : close k left ≡ On stage event
 
 passed-section : (l : Lengths) (past k j : ℕ) (w next : List ℕ) (body rest : List Text) (s : Stage) (h z : Held)
-    → isModel (opens (keyAt (plain 0 w))) ≡ true → isEnd (keyAt (plain 0 next)) ≡ true
+    → isKey "model" (plain 0 w) ≡ true → isWithin (plain 0 next) ≡ false
     → runs l past s h (plain k w ∷ (body ++ (plain j next ∷ rest))) ≡ passed z → Passed w body k
 passed-section l past k j w next body rest s h z m e q =
     let r = walked l past (plain k w ∷ body) (plain j next ∷ rest) s h z q in
     let n = walked l past (plain j next ∷ []) rest (r .0) (r .2 .0) z (r .2 .1) in
-    let key = went-on s k w (r .1 .0) (r .1 .1) (model-ends (keyAt (plain 0 w)) m) (r .1 .2) in
-    let shut = went-on (r .0) j next (n .1 .0) (n .1 .1) e (n .1 .2) in
-    let opens-at : (i : ℕ) → alone i w ≡ On (InModel (newModel i)) (Opened Model) = λ i. alone-anywhere k i w (r .1 .0) (r .1 .1) m (key .1) in
+    let key = went-on k s k w (r .1 .0) (r .1 .1) (model-ends (plain 0 w) m) (r .1 .2) in
+    let shut = went-on k (r .0) j next (n .1 .0) (n .1 .1) e (n .1 .2) in
+    let opens-at : (i : ℕ) → alone i w ≡ On (InModel (newModel i)) (Opened Model) = λ i. alone-anywhere k i w (r .1 .0) (r .1 .1) (model-key 0 w m) (key .1) in
     record {
       opened = opens-at;
       left = r .0;
@@ -114,24 +114,24 @@ pub record Sound (c : ℕ) (first : Physical) (others : List Physical) : Type 0 
   pub walks : Walks (InModel (newModel 0)) (textsFrom (charAfterLine c first) 1 others) (InModel last)
   pub stage : Stage
   pub event : Event
-  pub shuts : close (InModel last) ≡ On stage event
+  pub shuts : close 0 (InModel last) ≡ On stage event
   pub clean : all isClean (first ∷ others) ≡ true
 
 module _ (c : ℕ) (first : Physical) (others : List Physical) (h : isModelSection c (first ∷ others) ≡ true) where
-  opens-model : isModel (opens (keywordOn c first)) ≡ true
+  opens-model : isKey "model" (textOn c first) ≡ true
   unfolding isModelSection
   opens-model = and-first _ _ h
 
-  pub key-ends : isEnd (keywordOn c first) ≡ true
-  key-ends = model-ends (keywordOn c first) opens-model
+  pub key-ends : isWithin (textOn c first) ≡ false
+  key-ends = model-ends (textOn c first) opens-model
 
   -- the keyword's text
-  pub key-model : isModel (opens (keyAt (plain 0 (cut c (first .bytes))))) ≡ true
-  key-model = sym (ap (λ x. isModel (opens x)) (key-text c first key-ends)) ∙ opens-model
+  pub key-model : isKey "model" (plain 0 (cut c (first .bytes))) ≡ true
+  key-model = sym (ap (isKey "model") (key-text c first key-ends)) ∙ opens-model
 
   pub body-within : (k : ℕ) → all isWithin (textsFrom (charAfterLine c first) k others) ≡ true
   unfolding isModelSection
-  body-within k = within-texts (charAfterLine c first) k others (and-second (isModel (opens (keywordOn c first))) _ h)
+  body-within k = anywhere (all isWithin) within-numberless (charAfterLine c first) k 1 others ∙ and-second (isKey "model" (textOn c first)) _ h
 
   -- ---- numbered from 0, and at line k
 
@@ -150,7 +150,9 @@ module _ (c : ℕ) (first : Physical) (others : List Physical) (h : isModelSecti
       (subst (λ (ts : List Text). Walks (InModel (newModel k)) ts (p .left)) (sym (body-at k)) (p .walks))) in
       let final = walks-model origin (newModel 0) (back .0) (body-within 1) (back .2) in
       let left : p .left ≡ stageAt f (InModel (final .0)) = back .1 ∙ ap (stageAt f) (final .1) in
-      let shut = on-back f (close (InModel (final .0))) (p .stage) (p .event) (close-at f (InModel (final .0)) ∙ ap close (sym left) ∙ p .shuts) in
+      let zeroth : 0 + k ≡ k = omega arith in
+      let shut = on-back f (close 0 (InModel (final .0))) (p .stage) (p .event)
+      (close-at f 0 (InModel (final .0)) ∙ ap (close (0 + k)) (sym left) ∙ ap (λ (j : ℕ). close j (p .left)) zeroth ∙ p .shuts) in
       record {
         opened = p .opened;
         last = final .0;

@@ -1,6 +1,6 @@
 -- What a file tells of the lines after lo, up to hi: nothing but the excepted faults. The renumbering that leaves all other lines as they are
 -- shows it for the lines before and behind.
-use Prim.Native.Nat.{ℕ, _+_, _≤_, _<_}
+use Prim.Native.Nat.{ℕ, _+_, _≤_, _<_, min}
 use mathlib.Core.Path.{_≡_, refl, sym, ap, subst, _∙_}
 use mathlib.Core.List.{List, [], _∷_, _++_, map, reverseAux, reverse}
 use mathlib.Core.Bool.{true, cond}
@@ -8,20 +8,23 @@ use native.Mathlib.Omega.{arith}
 use lib.Dec.{eqb, leb}
 use borrow.Author.Tests.{le-leb, lt-leb}
 use Rattle.laws.specs.Lists.{all}
+use Rattle.laws.specs.Said.{Said, says, fault}
 use Rattle.laws.proofs.Tests.{by-test, cond-all, and-first, and-second, impossible}
 use Rattle.keywords.specs.Form.{argument}
 use Rattle.keywords.specs.declared.Section.{Section}
 use Rattle.keywords.specs.declared.Section.the-variants.{Component, Selector, Model}
 use Rattle.cut_lines.specs.Texts.{Text, plain, change}
-use Rattle.rules.specs.Steps.{onText}
+use Rattle.rules.specs.Steps.{isEnded, onText}
 use Rattle.rules.specs.Reading.{isWithin}
 use Rattle.rules.specs.Outline.{Entry, count, is, isUsed, isFound, firstFailing}
-use Rattle.rules.specs.Whole.{bound, waveformBound, Held, Admission, admitted, denied, admitEntry, sectionEntry, pinEntry, choiceEntry, admit, Outcome, passed, refused, textOf, lineOf, afterAdmission, afterStep, runs, found, listed, lastChecks, concluded}
-use Rattle.records.specs.declared.Kind.the-variants.{OfComponent, OfModel}
+use Rattle.rules.specs.Whole.{bound, Held, admitEntry, sectionEntry, rowEntry, admit, Outcome, passed, refused, textOf, lineOf, afterAdmission, afterStep, runs, lastChecks, concluded}
+use Rattle.rules.specs.Last.{found, listed}
+use Rattle.records.specs.Bounds.{mostWaveforms}
+use Rattle.records.specs.declared.Kind.the-variants.{OfComponent, OfPin, OfChoice, OfModel}
 use Rattle.records.specs.declared.Lengths.{Lengths}
 use Rattle.rules.specs.declared.ModelState.{ModelState}
 use Rattle.rules.specs.declared.Stage.{Stage}
-use Rattle.rules.specs.declared.Stage.the-variants.{BeforeVersion, InHeader, InComponent, InSelector, InModel, AfterEnd}
+use Rattle.rules.specs.declared.Stage.the-variants.{InModel}
 use Rattle.rules.specs.declared.Event.{Event}
 use Rattle.rules.specs.declared.Event.the-variants.{Quiet, Opened, PinRow, ChoiceRow, WaveformOpened, TableRow, Ended}
 use Rattle.rules.specs.declared.Went.{Went}
@@ -78,33 +81,34 @@ module _ (lo hi : ℕ) where
 
   -- ---- admission
 
-  abbrev pub Admits : Admission → Type 0
-  Admits (admitted h) = AllFine (h .entries)
-  Admits (denied n k) = Spare n k
+  -- at line k
+  abbrev pub Admits : ℕ → Said Held → Type 0
+  Admits k (says h) = AllFine (h .entries)
+  Admits k (fault n) = Spare n k
 
-  pub admits-safe : (go : Held → Outcome) (a : Admission) → Admits a → ((h : Held) → AllFine (h .entries) → Safe (go h)) → Safe (afterAdmission go a)
-  admits-safe go (admitted h) x q = q h x
-  admits-safe go (denied n k) x q = x
+  pub admits-safe : (k : ℕ) (go : Held → Outcome) (a : Said Held) → Admits k a → ((h : Held) → AllFine (h .entries) → Safe (go h)) → Safe (afterAdmission k go a)
+  admits-safe k go (says h) x q = q h x
+  admits-safe k go (fault n) x q = x
 
-  admits-entry : (l : Lengths) (h : Held) (e : Entry) → Fine e → AllFine (h .entries) → Admits (admitEntry l h e)
+  admits-entry : (k : ℕ) (l : Lengths) (h : Held) (e : Entry) → Fine e → AllFine (h .entries) → Admits k (admitEntry l h e)
   unfolding admitEntry
-  admits-entry l h e x y =
-      cond-all Admits (isUsed (e .kind) (e .name) (h .entries)) _ _
+  admits-entry k l h e x y =
+      cond-all (Admits k) (isUsed (e .kind) (e .name) (h .entries)) _ _
       (λ t a b. usedTwice refl)
-      (λ t. cond-all Admits (leb (bound l (e .kind)) (count (is (e .kind)) (h .entries))) _ _ (λ u a b. fullTable refl) (λ u. (x, y)))
+      (λ t. cond-all (Admits k) (leb (bound l (e .kind)) (count (is (e .kind)) (h .entries))) _ _ (λ u a b. fullTable refl) (λ u. (x, y)))
 
   -- the section's own keyword
-  pub admits-model : (l : Lengths) (h : Held) (k : ℕ) (w : List ℕ) → AllFine (h .entries) → Admits (admit l h k w (Opened Model))
-  admits-model l h k w y = admits-entry l h (sectionEntry k (argument w) Model) (λ a b. refl) y
+  pub admits-model : (l : Lengths) (h : Held) (k : ℕ) (w : List ℕ) → AllFine (h .entries) → Admits k (admit l h k w (Opened Model))
+  admits-model l h k w y = admits-entry k l h (sectionEntry k (argument w) Model) (λ a b. refl) y
 
   -- what a model's lines add
-  pub admits-within : (l : Lengths) (h : Held) (k : ℕ) (w : List ℕ) (e : Event) → isOfModel e ≡ true → AllFine (h .entries) → Admits (admit l h k w e)
+  pub admits-within : (l : Lengths) (h : Held) (k : ℕ) (w : List ℕ) (e : Event) → isOfModel e ≡ true → AllFine (h .entries) → Admits k (admit l h k w e)
   admits-within l h k w Quiet x y = y
   admits-within l h k w (Opened s) x y = impossible (cc)
   admits-within l h k w PinRow x y = impossible (cc)
   admits-within l h k w ChoiceRow x y = impossible (cc)
-  admits-within l h k w WaveformOpened x y = cond-all Admits (leb (waveformBound l) (h .waveforms)) _ _ (λ t a b. fullTable refl) (λ t. y)
-  admits-within l h k w TableRow x y = cond-all Admits (leb (l .rows) (h .rows)) _ _ (λ t a b. fewRows refl) (λ t. y)
+  admits-within l h k w WaveformOpened x y = cond-all (Admits k) (leb (min mostWaveforms (l .waveforms)) (h .waveforms)) _ _ (λ t a b. fullTable refl) (λ t. y)
+  admits-within l h k w TableRow x y = cond-all (Admits k) (leb (l .rows) (h .rows)) _ _ (λ t a b. fewRows refl) (λ t. y)
   admits-within l h k w (Ended alone) x y = impossible (cc)
 
   -- any line outside
@@ -113,17 +117,17 @@ module _ (lo hi : ℕ) where
   section-fine k w Selector e a b = absurd (outside-only k e a b)
   section-fine k w Model e a b = refl
 
-  pub admits-outside : (l : Lengths) (h : Held) (k : ℕ) (w : List ℕ) (e : Event) → outside k ≡ k → AllFine (h .entries) → Admits (admit l h k w e)
+  pub admits-outside : (l : Lengths) (h : Held) (k : ℕ) (w : List ℕ) (e : Event) → outside k ≡ k → AllFine (h .entries) → Admits k (admit l h k w e)
   admits-outside l h k w Quiet x y = y
-  admits-outside l h k w (Opened s) x y = admits-entry l h (sectionEntry k (argument w) s) (section-fine k (argument w) s x) y
-  admits-outside l h k w PinRow x y = admits-entry l h (pinEntry k w) (λ a b. absurd (outside-only k x a b)) y
-  admits-outside l h k w ChoiceRow x y = admits-entry l h (choiceEntry k w) (λ a b. absurd (outside-only k x a b)) y
-  admits-outside l h k w WaveformOpened x y = cond-all Admits (leb (waveformBound l) (h .waveforms)) _ _ (λ t. spare-outside 17 k x) (λ t. y)
-  admits-outside l h k w TableRow x y = cond-all Admits (leb (l .rows) (h .rows)) _ _ (λ t. spare-outside 18 k x) (λ t. y)
+  admits-outside l h k w (Opened s) x y = admits-entry k l h (sectionEntry k (argument w) s) (section-fine k (argument w) s x) y
+  admits-outside l h k w PinRow x y = admits-entry k l h (rowEntry OfPin k 2 w) (λ a b. absurd (outside-only k x a b)) y
+  admits-outside l h k w ChoiceRow x y = admits-entry k l h (rowEntry OfChoice k 0 w) (λ a b. absurd (outside-only k x a b)) y
+  admits-outside l h k w WaveformOpened x y = cond-all (Admits k) (leb (min mostWaveforms (l .waveforms)) (h .waveforms)) _ _ (λ t. spare-outside 17 k x) (λ t. y)
+  admits-outside l h k w TableRow x y = cond-all (Admits k) (leb (l .rows) (h .rows)) _ _ (λ t. spare-outside 18 k x) (λ t. y)
   admits-outside l h k w (Ended alone) x y =
-      cond-all Admits (eqb (count (is OfComponent) (h .entries)) 0) _ _
+      cond-all (Admits k) (eqb (count (is OfComponent) (h .entries)) 0) _ _
       (λ t. spare-outside 9 k x)
-      (λ t. cond-all Admits alone _ _ (λ u. y) (λ u. spare-outside 10 k x))
+      (λ t. cond-all (Admits k) alone _ _ (λ u. y) (λ u. spare-outside 10 k x))
 
   -- ---- one step outside, the texts outside, and the file's end
 
@@ -133,7 +137,7 @@ module _ (lo hi : ℕ) where
   pub step-outside : (l : Lengths) (h : Held) (t : Text) (go : Stage → Held → Outcome) (w : Went) → wentAt outside w ≡ w → outside (lineOf t) ≡ lineOf t
       → AllFine (h .entries) → Goes go → Safe (afterStep l h t go w)
   step-outside l h t go (On s e) q x y more =
-      admits-safe (go s) (admit l h (lineOf t) (textOf t) e) (admits-outside l h (lineOf t) (textOf t) e x y) (λ g z. more s g (cc) z)
+      admits-safe (lineOf t) (go s) (admit l h (lineOf t) (textOf t) e) (admits-outside l h (lineOf t) (textOf t) e x y) (λ g z. more s g (cc) z)
   step-outside l h t go (Stop f) q x y more = spare-outside (f .number) (f .line) (cc)
 
   line-outside : (t : Text) → textAt outside t ≡ t → outside (lineOf t) ≡ lineOf t
@@ -158,19 +162,14 @@ module _ (lo hi : ℕ) where
 
   pub out-outside : (l : Lengths) (past : ℕ) → lo < past → hi < past → Goes (λ (s : Stage) (h : Held). runs l past s h [])
   unfolding runs
-  out-outside l past a b BeforeVersion h x y = spare-outside 19 past (outside-high past a b)
-  out-outside l past a b (InHeader i) h x y = spare-outside 19 past (outside-high past a b)
-  out-outside l past a b (InComponent c) h x y = spare-outside 19 past (outside-high past a b)
-  out-outside l past a b (InSelector s) h x y = spare-outside 19 past (outside-high past a b)
-  out-outside l past a b (InModel m) h x y = spare-outside 19 past (outside-high past a b)
-  out-outside l past a b AfterEnd h x y = y
+  out-outside l past a b s h x y = cond-all Safe (isEnded s) (passed h) (refused 19 past) (λ t. y) (λ t. spare-outside 19 past (outside-high past a b))
 
   -- ---- the texts of a section that walk
 
   step-within : (l : Lengths) (h : Held) (t : Text) (go : Stage → Held → Outcome) (w : Went) (u : Stage) (e : Event) → w ≡ On u e → isOfModel e ≡ true
       → AllFine (h .entries) → ((g : Held) → AllFine (g .entries) → Safe (go u g)) → Safe (afterStep l h t go w)
   step-within l h t go w u e q x y more =
-      rw q (admits-safe (go u) (admit l h (lineOf t) (textOf t) e) (admits-within l h (lineOf t) (textOf t) e x y) more)
+      rw q (admits-safe (lineOf t) (go u) (admit l h (lineOf t) (textOf t) e) (admits-within l h (lineOf t) (textOf t) e x y) more)
 
   pub texts-within : (l : Lengths) (past : ℕ) (ts us : List Text) (m : ModelState) (v : Stage) (h : Held) → all isWithin ts ≡ true → Walks (InModel m) ts v
       → AllFine (h .entries) → ((g : Held) → AllFine (g .entries) → Safe (runs l past v g us)) → Safe (runs l past (InModel m) h (ts ++ us))

@@ -4,6 +4,7 @@ use mathlib.Core.Path.{_≡_, refl, _∙_}
 use mathlib.Core.List.{List}
 use lib.ListN.{length}
 use lib.Dec.{eqb}
+use Rattle.laws.specs.Said.{Said, says, fault}
 use Rattle.laws.proofs.Tests.{cond-map}
 use Rattle.keywords.specs.Form.{argument}
 use Rattle.keywords.specs.Carried.{keyOf}
@@ -14,12 +15,9 @@ use Rattle.keywords.specs.declared.Section.the-variants.{Component, Selector, M
 use Rattle.keywords.specs.declared.HeaderPart.{HeaderPart}
 use Rattle.keywords.specs.declared.ComponentPart.{ComponentPart}
 use Rattle.keywords.specs.declared.ModelPart.{ModelPart}
-use Rattle.keywords.specs.declared.KeyRead.{KeyRead}
-use Rattle.keywords.specs.declared.KeyRead.the-variants.{Known, Unknown, Malformed}
 use Rattle.cut_lines.specs.Texts.{Text, plain, change}
 use Rattle.line_rules.specs.Fields.{isBracketed}
-use Rattle.rules.specs.Going.{stop}
-use Rattle.rules.specs.Steps.{shut, done, opened, secondVersion, inHeader, inComponent, inModel, onKeyword, keyed, firstKeyword, firstKeyed, onLine, onBegun, onPlain, onChange, onText}
+use Rattle.rules.specs.Steps.{shut, done, opened, onVersion, onKeyword, keyed, onLine, onPlain, onChange, onText}
 use Rattle.rules.specs.declared.Stage.{Stage}
 use Rattle.rules.specs.declared.Stage.the-variants.{BeforeVersion, InHeader, InComponent, InSelector, InModel, AfterEnd}
 use Rattle.rules.specs.declared.Event.the-variants.{Ended}
@@ -34,21 +32,21 @@ use Rattle.demand_three.proofs.Model.{model-line-at, model-part-at, mod
 module _ (f : ℕ → ℕ) where
   -- ---- what a line closes
 
-  pub shut-at : (s : Stage) → wentAt f (shut s) ≡ shut (stageAt f s)
-  shut-at BeforeVersion = refl
-  shut-at (InHeader h) = refl
-  shut-at (InComponent c) = component-shut-at f c (c .list)
-  shut-at (InSelector s) = selector-shut-at f s
-  shut-at (InModel m) = model-shut-at f m (m .list)
-  shut-at AfterEnd = refl
+  pub shut-at : (k : ℕ) (s : Stage) → wentAt f (shut k s) ≡ shut (f k) (stageAt f s)
+  shut-at k BeforeVersion = refl
+  shut-at k (InHeader h) = refl
+  shut-at k (InComponent c) = component-shut-at f c (c .list)
+  shut-at k (InSelector s) = selector-shut-at f s
+  shut-at k (InModel m) = model-shut-at f m (m .list)
+  shut-at k AfterEnd = refl
 
-  pub done-at : (s : Stage) → wentAt f (done s) ≡ done (stageAt f s)
-  done-at BeforeVersion = refl
-  done-at (InHeader h) = simp (unless-at f, header-done-at f)
-  done-at (InComponent c) = simp (unless-at f, component-done-at f)
-  done-at (InSelector s) = refl
-  done-at (InModel m) = simp (unless-at f, model-done-at f)
-  done-at AfterEnd = refl
+  pub done-at : (k : ℕ) (s : Stage) → wentAt f (done k s) ≡ done (f k) (stageAt f s)
+  done-at k BeforeVersion = refl
+  done-at k (InHeader h) = simp (unless-at f, header-done-at f)
+  done-at k (InComponent c) = simp (unless-at f, component-done-at f)
+  done-at k (InSelector s) = refl
+  done-at k (InModel m) = simp (unless-at f, model-done-at f)
+  done-at k AfterEnd = refl
 
   -- ---- the keywords
 
@@ -57,15 +55,16 @@ module _ (f : ℕ → ℕ) where
   opened-at k w Selector = simp (refuse-at f)
   opened-at k w Model = simp (refuse-at f)
 
-  second-version-at : (s : Stage) (k : ℕ) → wentAt f (secondVersion s k) ≡ secondVersion (stageAt f s) (f k)
-  second-version-at BeforeVersion k = refl
-  second-version-at (InHeader h) k = refl
-  second-version-at (InComponent c) k = refl
-  second-version-at (InSelector s) k = refl
-  second-version-at (InModel m) k = refl
-  second-version-at AfterEnd k = refl
+  on-version-at : (s : Stage) (k : ℕ) (w : List ℕ) → wentAt f (onVersion s k w) ≡ onVersion (stageAt f s) (f k) w
+  unfolding onVersion
+  on-version-at BeforeVersion k w = version-at f k w
+  on-version-at (InHeader h) k w = refl
+  on-version-at (InComponent c) k w = refl
+  on-version-at (InSelector s) k w = refl
+  on-version-at (InModel m) k w = refl
+  on-version-at AfterEnd k w = refl
 
-  in-header-at : (s : Stage) (k : ℕ) (w : List ℕ) (p : HeaderPart) → wentAt f (inHeader s k w p) ≡ inHeader (stageAt f s) (f k) w p
+  in-header-at : (s : Stage) (k : ℕ) (w : List ℕ) (p : HeaderPart) → wentAt f (onKeyword s k w (key.InHeader p)) ≡ onKeyword (stageAt f s) (f k) w (key.InHeader p)
   in-header-at BeforeVersion k w p = refl
   in-header-at (InHeader h) k w p = header-part-at f h k w p
   in-header-at (InComponent c) k w p = refl
@@ -73,7 +72,8 @@ module _ (f : ℕ → ℕ) where
   in-header-at (InModel m) k w p = refl
   in-header-at AfterEnd k w p = refl
 
-  in-component-at : (s : Stage) (k : ℕ) (w : List ℕ) (p : ComponentPart) → wentAt f (inComponent s k w p) ≡ inComponent (stageAt f s) (f k) w p
+  in-component-at : (s : Stage) (k : ℕ) (w : List ℕ) (p : ComponentPart)
+      → wentAt f (onKeyword s k w (key.InComponent p)) ≡ onKeyword (stageAt f s) (f k) w (key.InComponent p)
   in-component-at BeforeVersion k w p = refl
   in-component-at (InHeader h) k w p = refl
   in-component-at (InComponent c) k w p = component-part-at f c k w p
@@ -81,7 +81,7 @@ module _ (f : ℕ → ℕ) where
   in-component-at (InModel m) k w p = refl
   in-component-at AfterEnd k w p = refl
 
-  in-model-at : (s : Stage) (k : ℕ) (w : List ℕ) (p : ModelPart) → wentAt f (inModel s k w p) ≡ inModel (stageAt f s) (f k) w p
+  in-model-at : (s : Stage) (k : ℕ) (w : List ℕ) (p : ModelPart) → wentAt f (onKeyword s k w (key.InModel p)) ≡ onKeyword (stageAt f s) (f k) w (key.InModel p)
   in-model-at BeforeVersion k w p = refl
   in-model-at (InHeader h) k w p = refl
   in-model-at (InComponent c) k w p = refl
@@ -90,32 +90,18 @@ module _ (f : ℕ → ℕ) where
   in-model-at AfterEnd k w p = refl
 
   on-keyword-at : (s : Stage) (k : ℕ) (w : List ℕ) (x : Keyword) → wentAt f (onKeyword s k w x) ≡ onKeyword (stageAt f s) (f k) w x
-  on-keyword-at s k w key.IbisVer = second-version-at s k
+  on-keyword-at s k w key.IbisVer = on-version-at s k w
   on-keyword-at s k w (key.InHeader p) = in-header-at s k w p
-  on-keyword-at s k w (key.Opens o) = then-at f (done s) (λ t. opened k w o) (λ t. opened (f k) w o) (λ t. opened-at k w o) ∙ rw (done-at s)
+  on-keyword-at s k w (key.Opens o) = then-at f (done k s) (λ t. opened k w o) (λ t. opened (f k) w o) (λ t. opened-at k w o) ∙ rw (done-at k s)
   on-keyword-at s k w (key.InComponent p) = in-component-at s k w p
   on-keyword-at s k w (key.InModel p) = in-model-at s k w p
   on-keyword-at s k w key.End =
       let ended : Stage → Went = λ t. On AfterEnd (Ended (eqb (length w) 0)) in
-      then-at f (done s) ended ended (λ t. refl) ∙ rw (done-at s)
+      then-at f (done k s) ended ended (λ t. refl) ∙ rw (done-at k s)
 
-  pub keyed-at : (s : Stage) (k : ℕ) (w : List ℕ) (x : KeyRead) → wentAt f (keyed s k w x) ≡ keyed (stageAt f s) (f k) w x
-  keyed-at s k w Malformed = refl
-  keyed-at s k w Unknown = refl
-  keyed-at s k w (Known x at) = on-keyword-at s k (argument w) x
-
-  first-keyword-at : (k : ℕ) (w : List ℕ) (x : Keyword) → wentAt f (firstKeyword k w x) ≡ firstKeyword (f k) w x
-  first-keyword-at k w key.IbisVer = version-at f k w
-  first-keyword-at k w (key.InHeader p) = refl
-  first-keyword-at k w (key.Opens o) = refl
-  first-keyword-at k w (key.InComponent p) = refl
-  first-keyword-at k w (key.InModel p) = refl
-  first-keyword-at k w key.End = refl
-
-  first-keyed-at : (k : ℕ) (w : List ℕ) (x : KeyRead) → wentAt f (firstKeyed k w x) ≡ firstKeyed (f k) w x
-  first-keyed-at k w Malformed = refl
-  first-keyed-at k w Unknown = refl
-  first-keyed-at k w (Known x at) = first-keyword-at k (argument w) x
+  keyed-at : (s : Stage) (k : ℕ) (w : List ℕ) (x : Said Keyword) → wentAt f (keyed s k w x) ≡ keyed (stageAt f s) (f k) w x
+  keyed-at s k w (fault n) = refl
+  keyed-at s k w (says x) = on-keyword-at s k (argument w) x
 
   -- ---- a line
 
@@ -127,28 +113,20 @@ module _ (f : ℕ → ℕ) where
   on-line-at (InModel m) k w = model-line-at f m k w (m .list)
   on-line-at AfterEnd k w = refl
 
-  on-begun-at : (s : Stage) (k : ℕ) (w : List ℕ) → wentAt f (onBegun s k w) ≡ onBegun (stageAt f s) (f k) w
-  unfolding onBegun
-  on-begun-at s k w =
-      cond-map (wentAt f) (isBracketed w) _ _
-      ∙ rw (then-at f (shut s) _ (λ t. keyed t (f k) w (keyOf w)) (λ t. keyed-at t k w (keyOf w)), shut-at s, on-line-at s k w)
-
   on-plain-at : (s : Stage) (k : ℕ) (w : List ℕ) → wentAt f (onPlain s k w) ≡ onPlain (stageAt f s) (f k) w
-  on-plain-at BeforeVersion k w =
-      cond-map (wentAt f) (isBracketed w) (firstKeyed k w (keyOf w)) (stop 7 k) ∙ rw (first-keyed-at k w (keyOf w))
-  on-plain-at (InHeader h) k w = on-begun-at (InHeader h) k w
-  on-plain-at (InComponent c) k w = on-begun-at (InComponent c) k w
-  on-plain-at (InSelector s) k w = on-begun-at (InSelector s) k w
-  on-plain-at (InModel m) k w = on-begun-at (InModel m) k w
-  on-plain-at AfterEnd k w = refl
+  unfolding onPlain
+  on-plain-at s k w =
+      cond-map (wentAt f) (isBracketed w) _ _
+      ∙ rw (then-at f (shut k s) _ (λ t. keyed t (f k) w (keyOf w)) (λ t. keyed-at t k w (keyOf w)), shut-at k s, on-line-at s k w)
 
   on-change-at : (s : Stage) (k n : ℕ) → wentAt f (onChange s k n) ≡ onChange (stageAt f s) (f k) n
-  on-change-at BeforeVersion k n = refl
-  on-change-at (InHeader h) k n = simp (unless-at f)
-  on-change-at (InComponent c) k n = simp (unless-at f)
-  on-change-at (InSelector s) k n = simp (unless-at f)
-  on-change-at (InModel m) k n = simp (unless-at f)
-  on-change-at AfterEnd k n = refl
+  unfolding onChange
+  on-change-at BeforeVersion k n = simp (refuse-at f, unless-at f)
+  on-change-at (InHeader h) k n = simp (refuse-at f, unless-at f)
+  on-change-at (InComponent c) k n = simp (refuse-at f, unless-at f)
+  on-change-at (InSelector s) k n = simp (refuse-at f, unless-at f)
+  on-change-at (InModel m) k n = simp (refuse-at f, unless-at f)
+  on-change-at AfterEnd k n = simp (refuse-at f, unless-at f)
 
   pub on-text-at : (s : Stage) (t : Text) → wentAt f (onText s t) ≡ onText (stageAt f s) (textAt f t)
   on-text-at s (plain k w) = on-plain-at s k w

@@ -4,11 +4,12 @@ use mathlib.Core.Path.{_≡_, refl, sym, ap, subst, _∙_}
 use mathlib.Core.List.{List, [], _∷_, _++_, map}
 use mathlib.Core.Bool.{true, _&&_}
 use Rattle.laws.specs.Lists.{all}
+use Rattle.laws.specs.Said.{Said, says, fault}
 use Rattle.laws.proofs.Tests.{and-first, and-second, impossible}
 use Rattle.cut_lines.specs.Texts.{Text}
 use Rattle.rules.specs.Steps.{onText}
 use Rattle.rules.specs.Reading.{isWithin}
-use Rattle.rules.specs.Whole.{Held, Admission, admitted, denied, Outcome, passed, admit, textOf, lineOf, afterAdmission, afterStep, runs}
+use Rattle.rules.specs.Whole.{Held, Outcome, passed, admit, textOf, lineOf, afterAdmission, afterStep, runs}
 use Rattle.records.specs.declared.Lengths.{Lengths}
 use Rattle.rules.specs.declared.ModelState.{ModelState}
 use Rattle.rules.specs.declared.Stage.{Stage}
@@ -72,13 +73,13 @@ walks-model (t ∷ ts) m v a h =
 abbrev pub Onward : (Stage → Held → Outcome) → Held → Stage → Type 0
 Onward go z u = (g : Held) × (go u g ≡ passed z)
 
-admission-passed : (go : Held → Outcome) (a : Admission) (z : Held) → afterAdmission go a ≡ passed z → (g : Held) × (go g ≡ passed z)
-admission-passed go (admitted h) z q = (h, q)
-admission-passed go (denied n k) z q = impossible (cc)
+admission-passed : (k : ℕ) (go : Held → Outcome) (a : Said Held) (z : Held) → afterAdmission k go a ≡ passed z → (g : Held) × (go g ≡ passed z)
+admission-passed k go (says h) z q = (h, q)
+admission-passed k go (fault n) z q = impossible (cc)
 
 pub step-passed : (l : Lengths) (h : Held) (t : Text) (go : Stage → Held → Outcome) (w : Went) (z : Held) → afterStep l h t go w ≡ passed z
     → (u : Stage) × (e : Event) × (w ≡ On u e) × Onward go z u
-step-passed l h t go (On u e) z q = (u, e, refl, admission-passed (go u) (admit l h (lineOf t) (textOf t) e) z q)
+step-passed l h t go (On u e) z q = (u, e, refl, admission-passed (lineOf t) (go u) (admit l h (lineOf t) (textOf t) e) z q)
 step-passed l h t go (Stop x) z q = impossible (cc)
 
 pub walked : (l : Lengths) (past : ℕ) (ts us : List Text) (s : Stage) (h z : Held) → runs l past s h (ts ++ us) ≡ passed z

@@ -1,30 +1,33 @@
 -- Within a model a line that opens no section and is not [End] leaves the reading in that model, and adds at most a waveform or a row.
 use Prim.Native.Nat.{ℕ}
-use mathlib.Core.Path.{_≡_, refl}
+use mathlib.Core.Path.{_≡_, refl, sym, _∙_}
 use mathlib.Core.List.{List}
 use mathlib.Core.Bool.{Bool, true, false, not, _&&_}
 use lib.Dec.{eqb}
-use Rattle.laws.proofs.Tests.{cond-all}
-use Rattle.words.specs.Words.{words}
+use Rattle.laws.specs.Said.{Said, says, fault}
+use Rattle.laws.proofs.Tests.{cond-all, and-both}
+use Rattle.words.specs.Words.{word, words}
 use Rattle.name_table.specs.declared.Found.{Found}
 use Rattle.name_table.specs.declared.Found.the-variants.{At, Nothing}
 use Rattle.keywords.specs.Form.{argument}
 use Rattle.keywords.specs.Carried.{keyOf}
+use Rattle.keywords.specs.declared.Keyword.{Keyword}
 use Rattle.keywords.specs.declared.Keyword.the-variants as key
 use Rattle.keywords.specs.declared.ModelPart.{ModelPart}
-use Rattle.keywords.specs.declared.ModelPart.the-variants.{VoltageRange, TemperatureRange, Current, Ramp, Waveform}
-use Rattle.keywords.specs.declared.KeyRead.{KeyRead}
-use Rattle.keywords.specs.declared.KeyRead.the-variants.{Known, Unknown, Malformed}
+use Rattle.keywords.specs.declared.ModelPart.the-variants.{Waveform}
+use Rattle.records.specs.declared.Row.{Row}
+use Rattle.records.specs.declared.Edge.the-variants.{Rising}
 use Rattle.cut_lines.specs.Texts.{Text, plain, change}
-use Rattle.line_rules.specs.Fields.{isBracketed, lineAt, firstWord, rowOf}
+use Rattle.line_rules.specs.Fields.{isBracketed, lineAt, rowOf}
 use Rattle.line_rules.specs.Tables.{modelLines, rampLines, fixtures}
-use Rattle.rules.specs.Going.{stop, unless, refuse, andThen}
-use Rattle.rules.specs.Model.{firstLine, rowLine, rampLine, fixtureLine, beginsLetter, waveformLine, modelLine, singlePart, waveformPart, modelPart, modelShut}
-use Rattle.rules.specs.Steps.{keyed, onText, onBegun}
-use Rattle.rules.specs.Reading.{keyIn, isEnd, isWithin}
+use Rattle.given.specs.Given.{with}
 use Rattle.given.specs.declared.Given.{Given}
-use Rattle.line_rules.specs.declared.RowRead.{RowRead}
-use Rattle.line_rules.specs.declared.RowRead.the-variants.{Line, Amiss}
+use Rattle.rules.specs.Going.{stop, unless, refuse, namedLine, andThen}
+use Rattle.rules.specs.Model.{rowLine, beginsLetter, waveformLine, modelLine, modelPlace, singlePart, waveformPart, modelPart, modelShut}
+use Rattle.rules.specs.Steps.{onVersion, keyed, onPlain, onChange, onText}
+use Rattle.rules.specs.Reading.{isWithin}
+use Rattle.rules.specs.Keys.{keyIn, keyAt, isEnd}
+use Rattle.rules.proofs.Keys.{within-key}
 use Rattle.rules.specs.declared.RowsSeen.{RowsSeen}
 use Rattle.rules.specs.declared.ModelList.{ModelList}
 use Rattle.rules.specs.declared.ModelList.the-variants.{ModelFirst, ModelShut, CurrentRows, RampLines, WaveformRows}
@@ -76,51 +79,39 @@ stays-then (On (InModel m) e) g h q = q m
 stays-then (On AfterEnd e) g h q = cc
 stays-then (Stop x) g h q = refl
 
+-- whatever was given then, it is in the model
+stays-named : (g : Given) (x : Found) (n k : ℕ) (on : Given → Stage) → ((h : Given) → isInModel (on h) ≡ true) → stays (namedLine g x n k on) ≡ true
+stays-named g Nothing n k on q = refl
+stays-named g (At i) n k on q = stays-refuse _ _ _ _ (stays-unless _ _ _ (and-both _ _ (q (with g i)) refl))
+
 -- ---- a model's lines
 
-first-stays : (m : ModelState) (k : ℕ) (w : List ℕ) (x : Found) → stays (firstLine m k w x) ≡ true
-first-stays m k w Nothing = refl
-first-stays m k w (At n) = stays-refuse _ _ _ _ (stays-unless _ _ _ refl)
-
-row-stays : (on : RowsSeen → ModelList) (m : ModelState) (r : RowsSeen) (k : ℕ) (x : RowRead) → stays (rowLine on m r k x) ≡ true
-row-stays on m r k (Amiss n) = refl
-row-stays on m r k (Line l) = stays-refuse _ _ _ _ refl
-
-ramp-stays : (m : ModelState) (o : ℕ) (g : Given) (k : ℕ) (w : List ℕ) (x : Found) → stays (rampLine m o g k w x) ≡ true
-ramp-stays m o g k w Nothing = refl
-ramp-stays m o g k w (At n) = stays-refuse _ _ _ _ (stays-unless _ _ _ refl)
-
-fixture-stays : (m : ModelState) (o : ℕ) (g : Given) (r : RowsSeen) (k : ℕ) (w : List ℕ) (x : Found) → stays (fixtureLine m o g r k w x) ≡ true
-fixture-stays m o g r k w Nothing = refl
-fixture-stays m o g r k w (At n) = stays-refuse _ _ _ _ (stays-unless _ _ _ refl)
+row-stays : (on : RowsSeen → ModelList) (m : ModelState) (r : RowsSeen) (k : ℕ) (x : Said Row) → stays (rowLine on m r k x) ≡ true
+row-stays on m r k (fault n) = refl
+row-stays on m r k (says l) = stays-refuse _ _ _ _ refl
 
 waveform-stays : (m : ModelState) (o : ℕ) (g : Given) (r : RowsSeen) (k : ℕ) (w : List ℕ) → stays (waveformLine m o g r k w) ≡ true
 unfolding waveformLine
 waveform-stays m o g r k w =
-    cond-all (λ (z : Went). stays z ≡ true) (beginsLetter (firstWord (words w))) _ _
-    (λ t. stays-refuse _ _ _ _ (fixture-stays m o g r k w (lineAt fixtures w)))
+    cond-all (λ (z : Went). stays z ≡ true) (beginsLetter (word 0 (words w))) _ _
+    (λ t. stays-refuse _ _ _ _ (stays-named g (lineAt fixtures w) _ k _ (λ h. refl)))
     (λ t. row-stays (WaveformRows o g) m r k (rowOf (words w)))
 
 line-stays : (m : ModelState) (k : ℕ) (w : List ℕ) (l : ModelList) → stays (modelLine m k w l) ≡ true
-line-stays m k w ModelFirst = first-stays m k w (lineAt modelLines w)
+line-stays m k w ModelFirst = stays-named (m .first) (lineAt modelLines w) _ k _ (λ g. refl)
 line-stays m k w ModelShut = refl
 line-stays m k w (CurrentRows o r) = row-stays (CurrentRows o) m r k (rowOf (words w))
-line-stays m k w (RampLines o g) = ramp-stays m o g k w (lineAt rampLines w)
+line-stays m k w (RampLines o g) = stays-named g (lineAt rampLines w) _ k _ (λ h. refl)
 line-stays m k w (WaveformRows o g r) = waveform-stays m o g r k w
 
 -- ---- its keywords
 
-single-stays : (m : ModelState) (k : ℕ) (w : List ℕ) (p : ModelPart) → stays (singlePart m k w p) ≡ true
-unfolding singlePart
-single-stays m k w p = stays-refuse _ _ _ _ (stays-unless _ _ _ refl)
-
 part-stays : (m : ModelState) (k : ℕ) (w : List ℕ) (p : ModelPart) → stays (modelPart m k w p) ≡ true
-unfolding waveformPart
-part-stays m k w VoltageRange = single-stays m k w VoltageRange
-part-stays m k w TemperatureRange = single-stays m k w TemperatureRange
-part-stays m k w (Current t) = single-stays m k w (Current t)
-part-stays m k w Ramp = single-stays m k w Ramp
-part-stays m k w (Waveform e) = stays-unless _ _ _ (stays-refuse _ _ _ _ refl)
+unfolding waveformPart singlePart
+part-stays m k w p =
+    cond-all (λ (z : Went). stays z ≡ true) (eqb (modelPlace p) (modelPlace (Waveform Rising))) _ _
+    (λ t. stays-unless _ _ _ (stays-refuse _ _ _ _ refl))
+    (λ t. stays-refuse _ _ _ _ (stays-unless _ _ _ refl))
 
 shut-stays : (m : ModelState) (l : ModelList) → stays (modelShut m l) ≡ true
 shut-stays m ModelFirst = refl
@@ -129,22 +120,26 @@ shut-stays m (CurrentRows o r) = stays-unless _ _ _ refl
 shut-stays m (RampLines o g) = stays-refuse _ _ _ _ refl
 shut-stays m (WaveformRows o g r) = stays-refuse _ _ _ _ (stays-unless _ _ _ refl)
 
-keyed-stays : (m : ModelState) (k : ℕ) (w : List ℕ) (x : KeyRead) → not (isEnd (keyIn x)) ≡ true → stays (keyed (InModel m) k w x) ≡ true
-keyed-stays m k w Malformed h = refl
-keyed-stays m k w Unknown h = refl
-keyed-stays m k w (Known key.IbisVer at) h = refl
-keyed-stays m k w (Known (key.InHeader p) at) h = refl
-keyed-stays m k w (Known (key.Opens o) at) h = cc
-keyed-stays m k w (Known (key.InComponent p) at) h = refl
-keyed-stays m k w (Known (key.InModel p) at) h = part-stays m k (argument w) p
-keyed-stays m k w (Known key.End at) h = cc
+keyed-stays : (m : ModelState) (k : ℕ) (w : List ℕ) (x : Said Keyword) → not (isEnd (keyIn x)) ≡ true → stays (keyed (InModel m) k w x) ≡ true
+unfolding onVersion
+keyed-stays m k w (fault n) h = refl
+keyed-stays m k w (says key.IbisVer) h = refl
+keyed-stays m k w (says (key.InHeader p)) h = refl
+keyed-stays m k w (says (key.Opens o)) h = cc
+keyed-stays m k w (says (key.InComponent p)) h = refl
+keyed-stays m k w (says (key.InModel p)) h = part-stays m k (argument w) p
+keyed-stays m k w (says key.End) h = cc
 
 -- ---- any line
 
-pub text-stays : (m : ModelState) (t : Text) → isWithin t ≡ true → stays (onText (InModel m) t) ≡ true
-unfolding onBegun
-text-stays m (plain k w) h =
+plain-stays : (m : ModelState) (k : ℕ) (w : List ℕ) → not (isEnd (keyAt (plain k w))) ≡ true → stays (onPlain (InModel m) k w) ≡ true
+unfolding onPlain
+plain-stays m k w h =
     cond-all (λ (z : Went). stays z ≡ true) (isBracketed w) _ _
     (λ t. stays-then (modelShut m (m .list)) (λ (s : Stage). keyed s k w (keyOf w)) (shut-stays m (m .list)) (λ n. keyed-stays n k w (keyOf w) (rw t at h)))
     (λ t. line-stays m k w (m .list))
-text-stays m (change k n) h = stays-unless _ _ _ refl
+
+pub text-stays : (m : ModelState) (t : Text) → isWithin t ≡ true → stays (onText (InModel m) t) ≡ true
+unfolding onChange
+text-stays m (plain k w) h = plain-stays m k w (sym (within-key (plain k w)) ∙ h)
+text-stays m (change k n) h = stays-refuse _ _ _ _ (stays-refuse _ _ _ _ (stays-refuse _ _ _ _ (stays-unless _ _ _ refl)))

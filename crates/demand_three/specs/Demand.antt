@@ -3,14 +3,15 @@
 use Prim.Native.Nat.{ℕ, _+_, _≤_, _<_}
 use Prim.Native.Char.{code}
 use mathlib.Core.Path.{_≡_}
-use mathlib.Core.List.{List, _∷_, _++_}
+use mathlib.Core.List.{List, [], _∷_, _++_}
 use mathlib.Core.Bool.{true}
 use lib.ListN.{length, drop}
 use Rattle.lines.specs.Lines.{Physical, linesOf}
+use Rattle.cut_lines.specs.Texts.{Text, textsFrom}
 use Rattle.rules.specs.Whole.{Held, passed, refused, textsOf, outcome}
-use Rattle.rules.specs.Reading.{ModelIs, SectionIs, model, fileIn}
+use Rattle.rules.specs.Reading.{SectionIs, model, sectionsIn, fileIn}
 use Rattle.rules.specs.Same.{SameModel}
-use Rattle.layout.specs.Laid.{Laid, waveformsLaid, modelLaid, allRows, laid}
+use Rattle.layout.specs.Laid.{Laid, withSection, laid}
 use Rattle.records.specs.declared.Lengths.{Lengths}
 use Rattle.demand_three.specs.Lines.{charAfterLines, sectionsOn, beginsAnother, isModelSection}
 
@@ -32,31 +33,34 @@ pub record Accepted (l : Lengths) (s : List ℕ) : Type 0 where
 
 -- ---- the conclusion, if the changed file is accepted
 
--- in the tables the model of section n lies behind what came before it, with its waveforms and rows
-pub record LiesIn (t : Laid) (n : ℕ) (m : ModelIs) : Type 0 where
+-- in the tables lies, behind what came sooner, the model of section n, called w, with its texts ts: its record, its waveforms and its rows
+pub record LiesIn (t : Laid) (n : ℕ) (w : List ℕ) (ts : List Text) : Type 0 where
   pub sooner : Laid
   pub later : Laid
-  pub models : t .models ≡ sooner .models ++ (modelLaid n (length (sooner .rows)) (length (sooner .waveforms)) m ∷ later .models)
-  pub waveforms : t .waveforms ≡ sooner .waveforms ++ (waveformsLaid (length (sooner .rows)) (m .tables) ++ later .waveforms)
-  pub rows : t .rows ≡ sooner .rows ++ (allRows (m .tables) ++ later .rows)
+  pub models : t .models ≡ withSection sooner n (model w ts) .models ++ later .models
+  pub waveforms : t .waveforms ≡ withSection sooner n (model w ts) .waveforms ++ later .waveforms
+  pub rows : t .rows ≡ withSection sooner n (model w ts) .rows ++ later .rows
 
--- the section's place: as many sections come before it as the lines before it open
+-- the section's place: as many sections come before it as are read from the lines before it
 abbrev pub placeOf : {c : ℕ} {section : List Physical} {s : List ℕ} → Stands c section s → ℕ
 placeOf stands = sectionsOn (code "|") (stands .before)
 
--- what demand 2 reads from file s has model m at the section's place, and so have its tables
-pub record Says {c : ℕ} {section : List Physical} (s : List ℕ) (stands : Stands c section s) (m : ModelIs) : Type 0 where
+-- what demand 2 reads from file s at the section's place says the same as the model called w with the texts ts, and that model lies in its tables
+pub record Says {c : ℕ} {section : List Physical} (s : List ℕ) (stands : Stands c section s) (w : List ℕ) (ts : List Text) : Type 0 where
+  pub texts : List Text
   pub others : List SectionIs
-  pub at : drop (placeOf stands) (fileIn (textsOf s) .sections) ≡ model m ∷ others
-  pub lies : LiesIn (laid (fileIn (textsOf s))) (placeOf stands) m
+  pub at : drop (placeOf stands) (fileIn (textsOf s) .sections) ≡ model w texts ∷ others
+  pub same : SameModel w texts w ts
+  pub lies : LiesIn (laid (fileIn (textsOf s))) (placeOf stands) w ts
 
--- "that model's record, thresholds and rows say what demand 2 reads from that section, as before"
+-- "that model's record, thresholds and rows say what demand 2 reads from that section, as before": one model, read from the section's lines alone,
+-- is said by both files
 pub record SameIn {c : ℕ} {section : List Physical} (s t : List ℕ) (first : Stands c section s) (second : Stands c section t) : Type 0 where
-  pub one : ModelIs
-  pub other : ModelIs
-  pub says : Says s first one
-  pub saysToo : Says t second other
-  pub same : SameModel one other
+  pub name : List ℕ
+  pub texts : List Text
+  pub alone : sectionsIn (textsFrom c 1 section) ≡ model name texts ∷ []
+  pub says : Says s first name texts
+  pub saysToo : Says t second name texts
 
 -- ---- the conclusion, if it is refused
 

@@ -4,7 +4,7 @@ use mathlib.Core.Option.{some}
 use Rattle.records.specs.Types.{typeNumber}
 use Rattle.records.specs.declared.ModelType.{ModelType}
 use Rattle.records.specs.declared.ModelType.the-variants.{Input, Output, InputOutput, ThreeState, OpenDrain, InputOutputOpenDrain, OpenSink, InputOutputOpenSink, OpenSource, InputOutputOpenSource, InputEcl, OutputEcl, InputOutputEcl, ThreeStateEcl, Terminator}
-use Rattle.name_table.specs.Names.{meaningAt}
+use Rattle.name_table.specs.Places.{meaningAt}
 use Rattle.line_rules.specs.Tables.{modelTypes}
 
 pub number-is-place : (k : ModelType) → meaningAt modelTypes (typeNumber k) ≡ some k

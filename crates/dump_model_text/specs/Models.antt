@@ -4,7 +4,7 @@ use mathlib.Core.List.{List, [], _++_}
 use mathlib.Core.Bool.{cond}
 use lib.ListN.{getD}
 use Rattle.laws.specs.Bytes.{bytes}
-use Rattle.decimal.specs.Decimal.{cellIn}
+use Rattle.decimal.specs.Answers.{cellIn}
 use Rattle.records.specs.Types.{typeNumber}
 use Rattle.records.specs.declared.Edge.{Edge}
 use Rattle.records.specs.declared.Edge.the-variants.{Rising, Falling}
@@ -20,7 +20,7 @@ use Rattle.records.specs.declared.RampTable.{RampTable}
 use Rattle.records.specs.declared.RampTriple.{RampTriple}
 use Rattle.records.specs.declared.Table.{Table}
 use Rattle.records.specs.declared.Waveform.{Waveform}
-use Rattle.name_table.specs.Names.{namesOf}
+use Rattle.name_table.specs.Places.{namesOf}
 use Rattle.line_rules.specs.Tables.{modelTypes}
 use Rattle.text_buffer.specs.Lines.{countText, nextCell}
 use Rattle.text_buffer.specs.Numerals.{decimalText}

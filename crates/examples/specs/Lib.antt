@@ -1,2 +1,3 @@
--- Document 01's bench examples.
+-- Document 01's bench examples, and how they are computed.
+pub mod Computing
 pub mod Starred

@@ -7,35 +7,18 @@ use mathlib.Core.List.{List, [], _∷_, _++_, map}
 use mathlib.Core.Path.{_≡_, refl}
 use mathlib.Core.Bool.{true, false}
 use lib.ListN.{replicate}
-use Rattle.laws.specs.Bytes.{bytes, isBlank, isDigit, isCapital, isSmall, isLetter, capital, small}
-use Rattle.laws.specs.Lists.{front, after, keep, trim, all, among, other, eqs}
-use Rattle.decimal.specs.Decimal.{isMinus, afterSign, pointPlaces, afterPoint, places, figures, afterFigures, numeralFrom, numeral, isZero, significant, zerosCut, afterE, exponentDigits, plusExponent, minusExponent, letters, scaleUp, scaleDown, ranged, resultOf, unsigned, numberOf, isMissing, cellOf, lessThan, aboveZero, cellIn}
-use Rattle.words.specs.Words.{isInk, grown, words}
-use Rattle.lines.specs.Lines.{isReturn, linesOf, isAllowed, lineFault, faultFrom, bytesFault, cut}
-use Rattle.name_table.specs.Names.{meaning, namesOf, placeFrom, meaningAt, meaningOf}
-use Rattle.keywords.specs.Form.{inside, closing, isJoint, inParts, isClosed, isFormed, plain, spelled, argument}
-use Rattle.keywords.specs.Carried.{carried, keyOf}
-use Rattle.cut_lines.specs.Change.{begins, isChange, noneOr, isRemark, changeTo, changeOf}
-use Rattle.cut_lines.specs.Texts.{textsFrom, rest, past}
-use Rattle.line_rules.specs.Fields.{isSized, isBracketed, oneOf, needsNoModel, isNoModel, isModelName, isPinModel, isPinName, oneWord, isFileByte, isFileName, firstWord, otherWords, nameOf, lineAt, isNameAlone, wordFrom, namedWord, afterName, soleNumber, behindEquals, assignedNumber, threeCells, namedCells, rowOf, slopeFrom, slopeOf, slopeOrMissing, upward, threeSlopes, namedSlopes, wordFault, heading}
-use Rattle.line_rules.specs.Tables.{locations, modelTypes, polarities, enables}
-use Rattle.given.specs.Given.{has, with}
-use Rattle.rules.specs.Going.{unless, refuse, firstOf}
-use Rattle.rules.specs.Header.{version, headerPart, headerLine, headerDone}
-use Rattle.rules.specs.Component.{pinNames, cellsFault, pinRow, componentPart, componentDone}
-use Rattle.rules.specs.Selector.{selectorLine, selectorShut}
-use Rattle.rules.specs.Model.{firstFault, isInput, isDriven, withFirst, rises, rampLineFault, beginsLetter, waveformLine, singlePart, waveformPart, tableFault, modelDone}
-use Rattle.rules.specs.Steps.{onBegun}
-use Rattle.rules.specs.Outline.{named, lists, count, firstFailing}
-use Rattle.rules.specs.Whole.{Outcome, passed, refused, admitEntry, thirdWord, runs, lastChecks, textsOf, outcome}
+use Rattle.laws.specs.Bytes.{bytes}
+use Rattle.laws.specs.Said.{Said, says, fault}
+use Rattle.decimal.specs.Decimal.{numberOf, cellOf, offset}
+use Rattle.lines.specs.Lines.{bytesFault}
+use Rattle.rules.specs.Whole.{Outcome, passed, refused, outcome}
+use Rattle.decimal.specs.declared.Decimal.{Decimal}
+use Rattle.decimal.specs.declared.Cell.{Cell}
 use Rattle.decimal.specs.declared.Cell.the-variants.{Number, Missing}
-use Rattle.decimal.specs.declared.NumberRead.{NumberRead}
-use Rattle.decimal.specs.declared.NumberRead.the-variants.{Value, Wrong}
-use Rattle.decimal.specs.declared.CellRead.{CellRead}
-use Rattle.decimal.specs.declared.CellRead.the-variants.{Read, Bad}
 use Rattle.lines.specs.declared.Bytes.{Bytes}
 use Rattle.lines.specs.declared.Bytes.the-variants.{Clean, Faulty}
 use Rattle.records.specs.declared.Lengths.{Lengths}
+use Rattle.examples.specs.Computing.{computing}
 
 -- accepted, or refused with this fault at this line
 pub data Verdict : Type 0 where
@@ -49,16 +32,20 @@ verdict (refused n k) = refusal n k
 abbrev pub lent : Lengths
 lent = record { components = 8; pins = 512; selectors = 32; choices = 256; models = 64; waveforms = 1024; rows = 1000 }
 
--- the listing's file, with its line 11, 12 and 14
+-- the listing's file up to the end of its first section, with its line 11 and 12; and the whole, with its line 14 too
+abbrev pub firstSection : String → String → String
+firstSection eleven twelve =
+    "[IBIS Ver] 5.0\n[File Name] lk.ibs\n[File Rev] 1\n[Component] LK1\n[Manufacturer] House\n[Package]\nR_pkg 250m NA NA\nL_pkg 15nH NA NA\nC_pkg 18pF NA NA\n[Pin] signal_name model_name\n"
+    ++ˢ eleven ++ˢ "\n" ++ˢ twelve ++ˢ "\n"
+
 abbrev pub listing : String → String → String → String
 listing eleven twelve fourteen =
-    "[IBIS Ver] 5.0\n[File Name] lk.ibs\n[File Rev] 1\n[Component] LK1\n[Manufacturer] House\n[Package]\nR_pkg 250m NA NA\nL_pkg 15nH NA NA\nC_pkg 18pF NA NA\n[Pin] signal_name model_name\n"
-    ++ˢ eleven ++ˢ "\n" ++ˢ twelve ++ˢ "\n[Model] in1\n" ++ˢ fourteen ++ˢ "\nC_comp 5pF NA NA\n[Voltage Range] 3.3 NA NA\n[End]\n"
+    firstSection eleven twelve ++ˢ "[Model] in1\n" ++ˢ fourteen ++ˢ "\nC_comp 5pF NA NA\n[Voltage Range] 3.3 NA NA\n[End]\n"
 
 pub data Example : Type 0 where
   -- a word as a number, and as a cell
-  number : String → NumberRead → Example
-  cell : String → CellRead → Example
+  number : String → Said Decimal → Example
+  cell : String → Said Cell → Example
   -- a file of one line, with so many characters before its LF
   line : ℕ → Bytes → Example
   -- a file, read with tables at their bounds and 1,000 rows
@@ -72,11 +59,11 @@ answered (line n r) = line n (bytesFault (replicate n (code "x") ++ (code "\n" �
 
 infix 70 _e+_ _e-_
 -- digits and power, as the paper writes them: `18 e- 12` is its "18, −12"
-abbrev pub _e+_ : ℕ → ℕ → NumberRead
-n e+ k = Value (record { negative = false; digits = n; power = 40 + k })
+abbrev pub _e+_ : ℕ → ℕ → Said Decimal
+n e+ k = says (record { negative = false; digits = n; power = offset + k })
 
-abbrev pub _e-_ : ℕ → ℕ → NumberRead
-n e- k = Value (record { negative = false; digits = n; power = 40 - k })
+abbrev pub _e-_ : ℕ → ℕ → Said Decimal
+n e- k = says (record { negative = false; digits = n; power = offset - k })
 
 unfoldable pub starred : List Example
 starred =
@@ -87,11 +74,11 @@ starred =
     ∷ number "5f" (5 e- 15)
     ∷ number "1.2e3m" (12 e- 1)
     ∷ number "1e" (1 e+ 0)
-    ∷ number "1e+" (Wrong 11)
+    ∷ number "1e+" (fault 11)
     ∷ number "1234567890123450" (123456789012345 e+ 1)
-    ∷ number "1234567890123456" (Wrong 12)
+    ∷ number "1234567890123456" (fault 12)
     ∷ number "1e24" (1 e+ 24)
-    ∷ number "1e25" (Wrong 12)
+    ∷ number "1e25" (fault 12)
     ∷ number "0e99" (0 e+ 0)
     ∷ line 120 Clean
     ∷ line 121 (Faulty (record { number = 3; line = 1 }))
@@ -102,28 +89,28 @@ starred =
     ∷ file (listing "1 DOOR in1" "2 VSS GNDX" "Model_type Input") (refusal 15 12)
     ∷ file (listing "1 DOOR GND" "2 VSS GND" "Model_type Input") (refusal 16 13)
     ∷ number "1e-40" (1 e- 40)
-    ∷ number "1e-41" (Wrong 12)
-    ∷ number "10e24" (Wrong 12)
+    ∷ number "1e-41" (fault 12)
+    ∷ number "10e24" (fault 12)
     ∷ number "10e-41" (1 e- 40)
     ∷ number "0.1e25" (1 e+ 24)
     ∷ number "1e39f" (1 e+ 24)
     ∷ number "1e5e" (1 e+ 5)
     ∷ number "1ek" (1 e+ 0)
     ∷ number "1M" (1 e+ 6)
-    ∷ number "1k5" (Wrong 11)
-    ∷ number "." (Wrong 11)
+    ∷ number "1k5" (fault 11)
+    ∷ number "." (fault 11)
     ∷ number "5." (5 e+ 0)
     ∷ number "+.5" (5 e- 1)
-    ∷ number "--1" (Wrong 11)
-    ∷ number "-2.5" (Value (record { negative = true; digits = 25; power = 40 - 1 }))
-    ∷ number "NA" (Wrong 11)
-    ∷ cell "NA" (Read Missing)
-    ∷ cell "na" (Read Missing)
-    ∷ cell "nA" (Read Missing)
-    ∷ cell "NAx" (Bad 11)
-    ∷ cell "0" (Read (Number (record { negative = false; digits = 0; power = 40 })))
+    ∷ number "--1" (fault 11)
+    ∷ number "-2.5" (says (record { negative = true; digits = 25; power = offset - 1 }))
+    ∷ number "NA" (fault 11)
+    ∷ cell "NA" (says Missing)
+    ∷ cell "na" (says Missing)
+    ∷ cell "nA" (says Missing)
+    ∷ cell "NAx" (fault 11)
+    ∷ cell "0" (says (Number (record { negative = false; digits = 0; power = offset })))
     ∷ []
 
 pub examples : map answered starred ≡ starred
-unfolding answered starred isBlank isDigit isCapital isSmall isLetter capital small front after keep trim all among other eqs isMinus afterSign pointPlaces afterPoint places figures afterFigures numeralFrom numeral isZero significant zerosCut afterE exponentDigits plusExponent minusExponent letters scaleUp scaleDown ranged resultOf unsigned numberOf isMissing cellOf lessThan aboveZero cellIn isInk Rattle.words.specs.Words.onto grown words isReturn Rattle.lines.specs.Lines.onto linesOf isAllowed lineFault faultFrom bytesFault cut meaning namesOf placeFrom meaningAt meaningOf inside closing isJoint inParts isClosed isFormed plain spelled argument carried keyOf begins isChange noneOr isRemark changeTo changeOf Rattle.cut_lines.specs.Texts.onto textsFrom rest past isSized isBracketed oneOf needsNoModel isNoModel isModelName isPinModel isPinName oneWord isFileByte isFileName firstWord otherWords nameOf lineAt isNameAlone wordFrom namedWord afterName soleNumber behindEquals assignedNumber threeCells namedCells rowOf slopeFrom slopeOf slopeOrMissing upward threeSlopes namedSlopes wordFault locations modelTypes polarities enables has with unless refuse firstOf version headerPart headerLine headerDone heading pinNames cellsFault pinRow componentPart componentDone selectorLine selectorShut firstFault isInput isDriven withFirst rises rampLineFault beginsLetter waveformLine singlePart waveformPart tableFault modelDone onBegun named lists count firstFailing admitEntry thirdWord runs lastChecks textsOf outcome
+unfolding answered starred computing
 examples = refl

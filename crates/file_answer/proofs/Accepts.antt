@@ -7,11 +7,11 @@ use native.Mathlib.Omega.{arith}
 use native.Mathlib.Numerals.{add-one}
 use lib.ListN.{length, getD, length-map, length-reverse}
 use Rattle.laws.proofs.Tests.{by-test}
-use Rattle.cut_lines.specs.Texts.{Text, rest, past, firstCursor}
-use Rattle.cut_lines.specs.Cursors.{Placed}
+use Rattle.cut_lines.specs.Texts.{Text}
+use Rattle.cut_lines.specs.Cursors.{rest, past, firstCursor, Placed}
 use Rattle.cut_lines.specs.declared.Cursor.{Cursor}
 use Rattle.rules.specs.Reading.{FileIs, fileIn}
-use Rattle.layout.specs.Laid.{laid}
+use Rattle.layout.specs.Laid.{laid, countsOf}
 use Rattle.rules.specs.Outline.{place, is, count}
 use Rattle.rules.specs.Whole.{Held, Outcome, passed, refused, outcome, textsOf, lastChecks}
 use Rattle.lines.specs.Lines.{bytesFault}
@@ -26,7 +26,7 @@ use Rattle.notes.specs.Noted.{Note, entryOf, used, heldOf, runLog, emptyLog, wh
 use Rattle.records.specs.declared.Counts.{Counts}
 use Rattle.note_words.specs.Store.{namesHeld, mostNames, listFrom, storeLength, kindOf, noteAt, waveAt, notesTo, wavesTo, logIn}
 use Rattle.note_words.proofs.Laws.{notes-agree, waves-agree}
-use Rattle.layout_by_notes.specs.Lies.{pick, isOf, noted, componentNoted, pinNoted, selectorNoted, choiceNoted, modelNoted, countsOf, Lies}
+use Rattle.layout_by_notes.specs.Lies.{pick, isOf, noted, componentNoted, pinNoted, selectorNoted, choiceNoted, modelNoted, Lies}
 use Rattle.layout_by_notes.proofs.Tables.{lies}
 use Rattle.name_checks.specs.Lookup as look
 use Rattle.name_checks.proofs.SortLaws.{many-count}

@@ -12,7 +12,8 @@ use Rattle.laws.proofs.Tests.{by-order, cond-no, impossible}
 use Rattle.lines.specs.Lines.{linesOf, bytesFault}
 use Rattle.records.specs.declared.Fault.{Fault}
 use Rattle.lines.specs.declared.Bytes.the-variants.{Clean, Faulty}
-use Rattle.cut_lines.specs.Texts.{rest, past, firstCursor, textsFrom}
+use Rattle.cut_lines.specs.Texts.{textsFrom}
+use Rattle.cut_lines.specs.Cursors.{rest, past, firstCursor}
 use Rattle.rules.specs.Outline.{count}
 use Rattle.rules.specs.Whole.{Outcome, passed, refused, runs, concluded, lastChecks, nothingHeld, textsOf, outcome}
 use Rattle.records.specs.declared.Lengths.{Lengths}

@@ -2,12 +2,11 @@
 use Prim.Native.Nat.{ℕ}
 use mathlib.Core.List.{List, []}
 use Rattle.rules.specs.Reading.{FileIs, fileIn}
-use Rattle.layout.specs.Laid.{laid}
+use Rattle.layout.specs.Laid.{laid, countsOf}
 use Rattle.records.specs.Stored.{wordsLaid}
 use Rattle.rules.specs.Whole.{Outcome, passed, refused, outcome, textsOf}
 use Rattle.records.specs.declared.Lengths.{Lengths}
 use Rattle.notes.specs.Noted.{nothingUsed}
-use Rattle.layout_by_notes.specs.Lies.{countsOf}
 use Rattle.records.specs.declared.Verdict.{Verdict}
 use Rattle.records.specs.declared.Verdict.the-variants.{Accepted, Refused}
 use Rattle.records.specs.declared.Answer.{Answer}

@@ -6,7 +6,7 @@ use mathlib.Core.Option.{none}
 use lib.ListN.{length}
 use Rattle.lines.specs.Lines.{bytesFault}
 use Rattle.lines.specs.declared.Bytes.the-variants.{Clean}
-use Rattle.cut_lines.specs.Texts.{rest, past, firstCursor}
+use Rattle.cut_lines.specs.Cursors.{rest, past, firstCursor}
 use Rattle.rules.specs.Whole.{Outcome, passed, refused, outcome, textsOf}
 use Rattle.records.specs.declared.Kind.{Kind}
 use Rattle.records.specs.declared.Lengths.{Lengths}

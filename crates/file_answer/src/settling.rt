@@ -4,7 +4,7 @@ ghost use Prim.Native.Nat.{_≤_};
 ghost use lib.ListN.{length};
 ghost use Rattle.lines.specs.Lines.{bytesFault};
 ghost use Rattle.lines.specs.declared.Bytes.the-variants.{Clean};
-ghost use Rattle.cut_lines.specs.Texts.{rest, firstCursor};
+ghost use Rattle.cut_lines.specs.Cursors.{rest, firstCursor};
 ghost use Rattle.rules.specs.Whole.{outcome};
 ghost use Rattle.note_words.specs.Store.{storeLength};
 ghost use Rattle.component_records.specs.Views.{headerLaid};
@@ -67,14 +67,7 @@ fn last_checks(src: &[u8], l: Lengths, t: Tally, notes: &mut [u32]) -> Answer
             name_checks::sort_by_kind(notes, names);
             accepted(src, t.counts)
         }
-        Last::Missing(k) => refused(Fault {
-            number: 15,
-            line: k,
-        }),
-        Last::Unlisted(k) => refused(Fault {
-            number: 16,
-            line: k,
-        }),
+        Last::Faulty(f) => refused(f),
     }
 }
 

@@ -15,9 +15,9 @@ use Rattle.laws.proofs.Tests.{by-test, and-first, and-second}
 use Rattle.laws.proofs.Fronts.{front-whole, other-yes}
 use Rattle.lines.specs.Lines.{Physical, isReturn, onto, linesOf, cut}
 use Rattle.cut_lines.specs.Change.{isChange, changeOf}
-use Rattle.cut_lines.specs.Texts.{Text, change, charAfter, faultOf, textsFrom, rest}
-use Rattle.cut_lines.specs.declared.ChangeRead.{ChangeRead}
-use Rattle.cut_lines.specs.declared.ChangeRead.the-variants.{To, Wrong}
+use Rattle.cut_lines.specs.Texts.{Text, change, textsFrom}
+use Rattle.laws.specs.Said.{Said, says, fault, faultIn, orElse}
+use Rattle.cut_lines.specs.Cursors.{rest}
 use Rattle.from_notes.specs.Made.{markOf, StandsAt}
 
 -- ---- the bytes of a line are bytes of the file, and none of them is LF
@@ -52,10 +52,10 @@ cut-lacks : (c : ℕ) (w : List ℕ) → all (other c) w ≡ true → cut c w �
 unfolding cut
 cut-lacks c w h = ap (trim isBlank) (front-whole (other c) w h)
 
-after-marks : (c d k : ℕ) (ls : List Physical) → textsFrom c k ls ≡ textsFrom d k ls → (r : ChangeRead)
-    → textsFrom (charAfter c r) k ls ≡ textsFrom (charAfter d r) k ls
-after-marks c d k ls e (To x) = refl
-after-marks c d k ls e (Wrong n) = e
+after-marks : (c d k : ℕ) (ls : List Physical) → textsFrom c k ls ≡ textsFrom d k ls → (r : Said ℕ)
+    → textsFrom (orElse c r) k ls ≡ textsFrom (orElse d r) k ls
+after-marks c d k ls e (says x) = refl
+after-marks c d k ls e (fault n) = e
 
 texts-marks : (c d k : ℕ) (ls : List Physical) → all (lacks c) ls ≡ true → all (lacks d) ls ≡ true → textsFrom c k ls ≡ textsFrom d k ls
 unfolding textsFrom all
@@ -64,7 +64,7 @@ texts-marks c d k (l ∷ ls) h g =
     let ih = texts-marks c d (k + 1) ls (and-second (lacks c l) _ h) (and-second (lacks d l) _ g) in
     let e = cut-lacks c (l .bytes) (and-first (lacks c l) _ h) ∙ sym (cut-lacks d (l .bytes) (and-first (lacks d l) _ g)) in
     by-test (isChange (l .bytes))
-    (λ t. rw t (ap (λ (ts : List Text). change k (faultOf (changeOf (l .bytes))) ∷ ts) (after-marks c d (k + 1) ls ih (changeOf (l .bytes)))))
+    (λ t. rw t (ap (λ (ts : List Text). change k (faultIn (changeOf (l .bytes))) ∷ ts) (after-marks c d (k + 1) ls ih (changeOf (l .bytes)))))
     (λ t. rw t (rw (e, ih)))
 
 -- ---- a cursor by words

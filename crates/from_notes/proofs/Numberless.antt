@@ -5,12 +5,14 @@ use mathlib.Core.List.{List, [], _∷_, map}
 use native.Mathlib.Omega.{arith}
 use lib.ListN.{drop}
 use Rattle.lines.specs.Lines.{linesOf}
-use Rattle.cut_lines.specs.Texts.{Text, plain, change, rest}
+use Rattle.cut_lines.specs.Texts.{Text, plain, change}
+use Rattle.cut_lines.specs.Cursors.{rest}
 use Rattle.cut_lines.specs.declared.Cursor.{Cursor}
-use Rattle.rules.specs.Reading.{keyAt, waveformIn}
+use Rattle.rules.specs.Reading.{waveformIn}
+use Rattle.rules.specs.Keys.{keyAt}
 use Rattle.layout_by_notes.specs.Lies.{keyEdge, waveformFrom}
 use Rattle.cut_lines.proofs.Renumbered.{textAt, texts-map}
-use Rattle.rules.proofs.Numberless.{Numberless, under-at}
+use Rattle.rules.proofs.Numberless.{Numberless, under-numberless}
 use Rattle.from_notes.specs.Made.{StandsAt}
 
 texts-one : (s : List ℕ) (at comment k : ℕ)
@@ -23,8 +25,8 @@ pub stands : {A : Type 0} (g : List Text → A) → Numberless g → {s : List �
 stands g n {s} {at} {comment} h k =
     ap g (h .texts ∙ sym (texts-one s at comment k)) ∙ n (λ n. n - k + 1) (rest s (record { at = at; line = k; comment = comment }))
 
-pub waveform-numberless : Numberless waveformFrom
+pub waveform-numberless : (row : ℕ) → Numberless (waveformFrom row)
 unfolding waveformFrom
-waveform-numberless f [] = refl
-waveform-numberless f (plain k w ∷ ts) = ap (waveformIn (keyEdge (keyAt (plain k w)))) (under-at f ts)
-waveform-numberless f (change k n ∷ ts) = ap (waveformIn (keyEdge (keyAt (change k n)))) (under-at f ts)
+waveform-numberless row f [] = refl
+waveform-numberless row f (plain k w ∷ ts) = ap (waveformIn row (keyEdge (keyAt (plain k w)))) (under-numberless f ts)
+waveform-numberless row f (change k n ∷ ts) = ap (waveformIn row (keyEdge (keyAt (change k n)))) (under-numberless f ts)

@@ -1,53 +1,31 @@
 -- The rows of models, model by model: those so far lie over the row store as it was.
 use Prim.Native.Nat.{ℕ, zero, suc, _+_, _-_, _≤_, _<_}
 use mathlib.Core.Path.{_≡_, refl, sym, ap, _∙_}
-use mathlib.Core.List.{List, [], _∷_, _++_}
+use mathlib.Core.List.{List, _++_, flatMap}
 use native.Mathlib.Omega.{arith}
 use native.Mathlib.Numerals.{add-one}
 use lib.ListN.{length, getD, length-append}
 use borrow.Rule.Slice.PartMut.{putMid, midOf}
-use Rattle.laws.specs.Lists.{front}
 use Rattle.laws.proofs.Tests.{by-order}
-use Rattle.cut_lines.specs.Texts.{Text, rest}
+use Rattle.cut_lines.specs.Cursors.{rest}
 use Rattle.cut_lines.specs.declared.Cursor.{Cursor}
-use Rattle.keywords.specs.declared.ModelPart.{ModelPart}
-use Rattle.keywords.specs.declared.ModelPart.the-variants.{VoltageRange, TemperatureRange, Current, Ramp, Waveform}
-use Rattle.rules.specs.Reading.{isWithin, rowsIn, waveformIn, TableIs, current, waveform, ModelIs, onModelPart, modelIn}
-use Rattle.layout.specs.Laid.{allRows}
+use Rattle.laws.specs.Lists.{front}
+use Rattle.rules.specs.Reading.{isWithin, TableIs}
+use Rattle.layout.specs.Laid.{rowsOf}
 use Rattle.records.specs.Stored.{stored, over}
 use Rattle.records.specs.declared.Kind.the-variants.{OfModel}
-use Rattle.note_words.specs.Store.{listFrom, nameAt, noteOf}
+use Rattle.note_words.specs.Store.{listFrom, noteOf}
 use Rattle.layout_by_notes.specs.Lies.{rowsNoted}
-use Rattle.table_rows.specs.Parts.{PartIs, partsIn, withParts, modelWords}
-use Rattle.table_rows.proofs.Stores.{over-none, over-length, over-rest}
-use Rattle.table_rows.proofs.PartLaws.{keys-parts, stored-append}
+use Rattle.table_rows.specs.Parts.{modelWords}
+use Rattle.table_rows.proofs.Stores.{over-none, over-length, over-rest, stored-append}
 use Rattle.from_notes.specs.Made.{noteBy, rowsAt, StandsBehind}
-use Rattle.from_notes.proofs.Sections.{model-read}
+use Rattle.from_notes.proofs.Sections.{tables-noted}
 
--- ---- a model's rows, whatever its name
+-- ---- a model's rows
 
-module _ (m n : ModelIs) (e : m .tables ≡ n .tables) where
-  part-tables : (w : List ℕ) (ls : List (List ℕ)) (p : ModelPart) → onModelPart m w ls p .tables ≡ onModelPart n w ls p .tables
-  part-tables w ls VoltageRange = e
-  part-tables w ls TemperatureRange = e
-  part-tables w ls (Current t) = ap (λ (ts : List TableIs). ts ++ (current t (rowsIn ls) ∷ [])) e
-  part-tables w ls Ramp = e
-  part-tables w ls (Waveform x) = ap (λ (ts : List TableIs). ts ++ (waveform (waveformIn x ls) ∷ [])) e
-
-tables-same : (ps : List PartIs) (m n : ModelIs) → m .tables ≡ n .tables → withParts m ps .tables ≡ withParts n ps .tables
-unfolding withParts
-tables-same [] m n e = e
-tables-same (p ∷ ps) m n e = tables-same ps _ _ (part-tables m n e (p .argument) (p .lines) (p .part))
-
-tables-named : (n : List ℕ) (ts : List Text) → modelIn [] (front isWithin ts) .tables ≡ modelIn n (front isWithin ts) .tables
-unfolding modelIn
-tables-named n ts =
-    ap (λ (m : ModelIs). m .tables) (keys-parts ts _) ∙ tables-same (partsIn ts) _ _ refl ∙ sym (ap (λ (m : ModelIs). m .tables) (keys-parts ts _))
-
-model-rows : (s ns : List ℕ) (n : ℕ) {c : Cursor} → StandsBehind s ns n c → modelWords (rest s c) ≡ stored (rowsNoted (noteOf s ns n OfModel))
-unfolding modelWords rowsNoted
-model-rows s ns n {c} h =
-    ap (λ (ts : List TableIs). stored (allRows ts)) (tables-named (nameAt s ns n) (rest s c) ∙ ap (λ (m : ModelIs). m .tables) (model-read s ns n h))
+model-rows : (s ns : List ℕ) (n : ℕ) {c : Cursor} → StandsBehind s ns n c → modelWords (front isWithin (rest s c)) ≡ stored (rowsNoted (noteOf s ns n OfModel))
+unfolding rowsNoted
+model-rows s ns n h = ap (λ (ts : List TableIs). stored (flatMap rowsOf ts)) (tables-noted s ns n h)
 
 -- ---- the words of the first models
 
@@ -82,7 +60,7 @@ module _ {s ns before now : List ℕ} {i used : ℕ} (p : Written s ns before no
 
   module _ (q : i < n) {k : ℕ} (e : k ≡ getD ns (listFrom OfModel + i) 0) {c : Cursor} (b : StandsBehind s ns k c) where
     abbrev more : List ℕ
-    more = modelWords (rest s c)
+    more = modelWords (front isWithin (rest s c))
 
     next-words : words s ns (i + 1) ≡ words s ns i ++ more
     next-words =

@@ -1,10 +1,9 @@
 // The record of a waveform: its keyword line says the edge, and its lines stand behind that.
 ghost use mathlib.Core.Path.{_≡_};
 ghost use mathlib.Core.Option.{some};
-ghost use Rattle.cut_lines.specs.Texts.{plain, rest};
-ghost use Rattle.cut_lines.specs.Cursors.{Placed};
-ghost use Rattle.rules.specs.Reading.{keyAt};
-ghost use Rattle.layout.specs.Laid.{waveformLaid};
+ghost use Rattle.cut_lines.specs.Texts.{plain};
+ghost use Rattle.cut_lines.specs.Cursors.{rest, Placed};
+ghost use Rattle.rules.specs.Keys.{keyAt};
 ghost use Rattle.layout_by_notes.specs.Lies.{partEdge, keyEdge, waveformFrom};
 ghost use Rattle.from_notes.specs.Made.{waveformAt};
 use crate::places::cursor_at;
@@ -62,7 +61,7 @@ fn line_edge(w: &[u8]) -> Edge
 // The waveform whose keyword is the next text; row is its first row's place.
 fn waveform_from(src: &[u8], c: Cursor, row: usize) -> Waveform
     requires { ⌜ Placed (now src) c ⌝ }
-    ensures { λ r. ⌜ r ≡ waveformLaid row (waveformFrom (rest (now (src .entry)) c)) ⌝ }
+    ensures { λ r. ⌜ r ≡ waveformFrom row (rest (now (src .entry)) c) ⌝ }
 {
     match cut_lines::next_text(src, c) {
         Next::Text {

@@ -1,6 +1,6 @@
 // The header's steps: [IBIS Ver], [File Name], [File Rev] and the five texts.
 ghost use mathlib.Core.Path.{_≡_};
-ghost use Rattle.rules.specs.Header.{version, textPlace, headerPlace, headerFault, isText, headerPart, headerLine, headerShut, headerDone};
+ghost use Rattle.rules.specs.Header.{version, headerPlace, headerFault, headerPart, headerLine, headerShut, headerDone};
 use keywords::HeaderPart;
 use keywords::HeaderText;
 use rules::Event;
@@ -23,18 +23,6 @@ pub fn open_header(k: u64, argument: &[u8]) -> Went
     Went::On(Stage::InHeader(h), Event::Quiet)
 }
 
-fn text_place(t: HeaderText) -> usize
-    ensures { λ r. ⌜ r ≡ textPlace t ⌝ }
-{
-    match t {
-        HeaderText::Date => 2,
-        HeaderText::Source => 3,
-        HeaderText::Notes => 4,
-        HeaderText::Disclaimer => 5,
-        HeaderText::Copyright => 6,
-    }
-}
-
 // The place of a keyword among the header's.
 fn part_place(p: HeaderPart) -> usize
     ensures { λ r. ⌜ r ≡ headerPlace p ⌝ }
@@ -42,7 +30,15 @@ fn part_place(p: HeaderPart) -> usize
     match p {
         HeaderPart::FileName => 0,
         HeaderPart::FileRev => 1,
-        HeaderPart::FreeText(t) => text_place(t),
+        HeaderPart::FreeText(t) => {
+            match t {
+                HeaderText::Date => 2,
+                HeaderText::Source => 3,
+                HeaderText::Notes => 4,
+                HeaderText::Disclaimer => 5,
+                HeaderText::Copyright => 6,
+            }
+        }
     }
 }
 
@@ -62,16 +58,6 @@ fn part_fault(argument: &[u8], p: HeaderPart) -> u8
     }
 }
 
-fn is_text(p: HeaderPart) -> bool
-    ensures { λ r. ⌜ r ≡ isText p ⌝ }
-{
-    match p {
-        HeaderPart::FileName => false,
-        HeaderPart::FileRev => false,
-        HeaderPart::FreeText(_) => true,
-    }
-}
-
 // A keyword of the header at line k.
 pub fn header_part(h: HeaderState, k: u64, argument: &[u8], p: HeaderPart) -> Went
     ensures { λ r. ⌜ r ≡ headerPart h k (now (argument .entry)) p ⌝ }
@@ -87,7 +73,7 @@ pub fn header_part(h: HeaderState, k: u64, argument: &[u8], p: HeaderPart) -> We
     }
     let next = HeaderState {
         line: h.line,
-        text: is_text(p),
+        text: place >= 2,
         parts: given::also(parts, place),
     };
     Went::On(Stage::InHeader(next), Event::Quiet)

@@ -13,7 +13,8 @@ use Rattle.laws.proofs.Lists.{part-rest}
 use Rattle.laws.proofs.Fronts.{after-at}
 use Rattle.name_table.specs.Names.{meaning}
 use Rattle.keywords.specs.Form.{closing, isFormed, spelled, inside, argument}
-use Rattle.keywords.specs.Carried.{known, named, carried, keyOf}
+use Rattle.keywords.specs.Carried.{carried}
+use Rattle.keywords.specs.Answers.{known, named, keyRead}
 use Rattle.keywords.specs.declared.Keyword.{Keyword}
 use Rattle.keywords.specs.declared.Named.{Named}
 use Rattle.keywords.specs.declared.Named.the-variants.{Is, Nothing}
@@ -53,9 +54,9 @@ known-place : (n : ℕ) (x : Named) → place n (known n x) ≡ n
 known-place n Nothing = refl
 known-place n (Is key) = refl
 
-module _ (w : List ℕ) {key : Keyword} {at : ℕ} (e : keyOf w ≡ Known key at) where
+module _ (w : List ℕ) {key : Keyword} {at : ℕ} (e : keyRead w ≡ Known key at) where
   key-place : at ≡ length w - length (argument w)
-  unfolding keyOf
+  unfolding keyRead
   key-place =
       let n : ℕ = length w - length (argument w) in
       sym (ap (place n) e)

@@ -18,11 +18,13 @@ use Rattle.laws.proofs.Lists.{from-cons}
 use Rattle.laws.proofs.Fronts.{front-at, after-at, front-le}
 use Rattle.laws.proofs.Same.{eqs-eq}
 use Rattle.words.specs.Words.{words, grown, onto}
-use Rattle.name_table.specs.Names.{Entry, namesOf, meaning, placeFrom, meaningOf}
+use Rattle.name_table.specs.Names.{Entry, meaning, placeFrom}
+use Rattle.name_table.specs.Places.{namesOf, meaningOf}
 use Rattle.name_table.specs.declared.Found.{Found}
 use Rattle.name_table.proofs.Laws.{meaning-place}
 use Rattle.keywords.specs.Form.{inside, closing, isJoint, inParts, isClosed, isFormed, plain, spelled, argument}
-use Rattle.keywords.specs.Carried.{carried, named, known, keyOf}
+use Rattle.keywords.specs.Carried.{carried}
+use Rattle.keywords.specs.Answers.{named, known, keyRead}
 use Rattle.keywords.specs.declared.Named.the-variants.{Nothing}
 use Rattle.keywords.specs.declared.KeyRead.the-variants.{Unknown, Malformed}
 
@@ -129,18 +131,18 @@ module _ (w : List ℕ) (stop : ℕ) (found : stop ≡ 1 + length (front (other 
   unfolding closing
   closing-at = sym (after-at (other 93) w 1 stop found)
 
-  pub key-open : isClosed (drop stop w) ≡ false → keyOf w ≡ Malformed
-  unfolding keyOf isFormed
+  pub key-open : isClosed (drop stop w) ≡ false → keyRead w ≡ Malformed
+  unfolding keyRead isFormed
   key-open h = cond-no _ _ (and-right (inParts false (inside w)) (isClosed (closing w)) (ap isClosed (sym closing-at) ∙ h))
 
-  pub key-apart : inParts false (part 1 stop w) ≡ false → keyOf w ≡ Malformed
-  unfolding keyOf isFormed
+  pub key-apart : inParts false (part 1 stop w) ≡ false → keyRead w ≡ Malformed
+  unfolding keyRead isFormed
   key-apart h = cond-no _ _ (and-left (inParts false (inside w)) (isClosed (closing w)) (ap (inParts false) (sym inside-at) ∙ h))
 
   pub key-known : (at : ℕ) → isClosed (drop stop w) ≡ true → inParts false (part 1 stop w) ≡ true
       → at ≡ stop + 1 + length (front isBlank (drop (stop + 1) w)) → at ≤ length w
-      → keyOf w ≡ known at (named (meaning (spelled (part 1 stop w)) carried))
-  unfolding keyOf isFormed argument
+      → keyRead w ≡ known at (named (meaning (spelled (part 1 stop w)) carried))
+  unfolding keyRead isFormed argument
   key-known at h k e l =
       let rest : after isBlank (drop 1 (closing w)) ≡ drop at w =
       ap (λ (x : List ℕ). after isBlank (drop 1 x)) (sym closing-at) ∙ ap (after isBlank) (drop-drop 1 stop w) ∙ after-at isBlank w (stop + 1) at e in
@@ -151,14 +153,14 @@ module _ (w : List ℕ) (stop : ℕ) (found : stop ≡ 1 + length (front (other 
       ∙ ap (λ (x : List ℕ). known at (named (meaning (spelled x) carried))) (sym inside-at)
 
   pub key-unknown : isClosed (drop stop w) ≡ true → inParts false (part 1 stop w) ≡ true
-      → named (meaning (spelled (part 1 stop w)) carried) ≡ Nothing → keyOf w ≡ Unknown
+      → named (meaning (spelled (part 1 stop w)) carried) ≡ Nothing → keyRead w ≡ Unknown
   key-unknown h k e =
       let at : ℕ = stop + 1 + length (front isBlank (drop (stop + 1) w)) in
       key-known at h k refl
       (omega (arith, closed-within w stop h, front-le isBlank (drop (stop + 1) w), length-drop (stop + 1) w))
       ∙ ap (known at) e
 
-pub key-none : (w : List ℕ) → length w ≡ 0 → keyOf w ≡ Malformed
-unfolding keyOf isFormed inside front inParts
+pub key-none : (w : List ℕ) → length w ≡ 0 → keyRead w ≡ Malformed
+unfolding keyRead isFormed inside front inParts
 key-none [] h = refl
 key-none (b ∷ w) h = absurd (omega arith)

@@ -2,3 +2,4 @@
 
 pub mod Laws
 pub mod Arguments
+pub mod Spelling

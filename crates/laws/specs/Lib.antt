@@ -1,3 +1,4 @@
 -- The definitions that every crate above shares.
 pub mod Bytes
 pub mod Lists
+pub mod Said

@@ -24,6 +24,11 @@ unfoldable pub trim : {A : Type 0} → (A → Bool) → List A → List A
 trim p [] = []
 trim p (b ∷ bs) = keep p b (trim p bs)
 
+-- the list begins with this byte
+abbrev pub begins : ℕ → List ℕ → Bool
+begins c [] = false
+begins c (b ∷ bs) = eqb b c
+
 -- every element passes
 unfoldable pub all : {A : Type 0} → (A → Bool) → List A → Bool
 all p [] = true

@@ -1,2 +1,3 @@
 -- What the layout must keep.
 pub mod Sanity
+pub mod Growth

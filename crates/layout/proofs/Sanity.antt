@@ -3,12 +3,17 @@ use Prim.Native.Nat.{ℕ, _+_}
 use mathlib.Core.Path.{_≡_, refl}
 use mathlib.Core.List.{List, [], _∷_}
 use lib.ListN.{length}
-use Rattle.keywords.specs.declared.CurrentTable.{CurrentTable}
-use Rattle.rules.specs.Reading.{WaveformIs, current, waveform}
-use Rattle.records.specs.declared.Row.{Row}
-use Rattle.layout.specs.Laid.{waveformLaid, waveformsLaid}
+use Rattle.laws.specs.Bytes.{bytes, isBlank}
+use Rattle.laws.specs.Lists.{eqs}
+use Rattle.words.specs.Words.{words, grown, onto}
+use Rattle.records.specs.declared.Edge.the-variants.{Rising}
+use Rattle.line_rules.specs.Fields.{oneOf}
+use Rattle.rules.specs.Reading.{rowsIn, edgeOf, waveformIn}
+use Rattle.layout.specs.Laid.{waveformsLaid}
 
 -- a waveform behind a current table has its rows behind that table's
-pub rows-behind : (n : ℕ) (t : CurrentTable) (rs : List Row) (x : WaveformIs) → waveformsLaid n (current t rs ∷ waveform x ∷ []) ≡ waveformLaid (n + length rs) x ∷ []
-unfolding waveformsLaid
-rows-behind n t rs x = refl
+pub rows-behind : (n : ℕ) (ls ks : List (List ℕ))
+    → waveformsLaid (record { key = bytes "pulldown"; lines = ls } ∷ record { key = bytes "rising_waveform"; lines = ks } ∷ []) n
+    ≡ waveformIn (n + length (rowsIn ls)) Rising ks ∷ []
+unfolding waveformsLaid oneOf eqs words grown onto isBlank edgeOf
+rows-behind n ls ks = refl

@@ -1,5 +1,5 @@
 -- The log behind a line, its counts and its room: one note more is one more of its kind, by cases on the kind.
-use Prim.Native.Nat.{_<_}
+use Prim.Native.Nat.{_<_, min}
 use mathlib.Core.Path.{_≡_, refl}
 use mathlib.Core.List.{List, _∷_}
 use mathlib.Core.Bool.{cond}
@@ -8,12 +8,11 @@ use lib.Dec.{eqb}
 use native.Mathlib.Omega.{arith}
 use borrow.Author.Tests.{leb-false}
 use Rattle.laws.proofs.Tests.{cond-all}
-use Rattle.words.specs.Words.{words}
 use Rattle.keywords.specs.Form.{argument}
 use Rattle.keywords.specs.declared.Section.the-variants.{Component, Selector, Model}
 use Rattle.cut_lines.specs.Texts.{Text}
-use Rattle.line_rules.specs.Fields.{firstWord}
-use Rattle.rules.specs.Whole.{bound, waveformBound, thirdWord, textOf, lineOf}
+use Rattle.rules.specs.Whole.{bound, textOf, lineOf}
+use Rattle.records.specs.Bounds.{mostWaveforms}
 use Rattle.records.specs.declared.Kind.the-variants.{OfComponent, OfPin, OfSelector, OfChoice, OfModel}
 use Rattle.records.specs.declared.Lengths.{Lengths}
 use Rattle.rules.specs.declared.Event.{Event}
@@ -30,8 +29,8 @@ oneNoted h n = record { notes = n ∷ h .notes; waves = h .waves; counts = oneMo
 abbrev pub logAfter : Log → Text → List Text → Event → Log
 logAfter h t ts Quiet = h
 logAfter h t ts (Opened o) = oneNoted h (sectionNote (h .counts) (lineOf t) (argument (textOf t)) ts o)
-logAfter h t ts PinRow = oneNoted h (rowNote OfPin (lineOf t) (textOf t) (thirdWord (words (textOf t))))
-logAfter h t ts ChoiceRow = oneNoted h (rowNote OfChoice (lineOf t) (textOf t) (firstWord (words (textOf t))))
+logAfter h t ts PinRow = oneNoted h (rowNote OfPin (lineOf t) 2 (textOf t))
+logAfter h t ts ChoiceRow = oneNoted h (rowNote OfChoice (lineOf t) 0 (textOf t))
 logAfter h t ts WaveformOpened =
     record { notes = h .notes; waves = record { from = t ∷ ts; row = h .counts .rows } ∷ h .waves; counts = moreWaveforms (h .counts) }
 logAfter h t ts TableRow = record { notes = h .notes; waves = h .waves; counts = moreRows (h .counts) }
@@ -44,7 +43,7 @@ Room l c (Opened Selector) = used c OfSelector < bound l OfSelector
 Room l c (Opened Model) = used c OfModel < bound l OfModel
 Room l c PinRow = used c OfPin < bound l OfPin
 Room l c ChoiceRow = used c OfChoice < bound l OfChoice
-Room l c WaveformOpened = c .waveforms < waveformBound l
+Room l c WaveformOpened = c .waveforms < min mostWaveforms (l .waveforms)
 Room l c TableRow = c .rows < l .rows
 Room l c (Ended alone) = Unit {0}
 

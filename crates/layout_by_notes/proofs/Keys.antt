@@ -4,10 +4,9 @@ use mathlib.Core.Path.{_≡_, refl, sym, ap, subst}
 use mathlib.Core.List.{List}
 use mathlib.Core.Bool.{Bool, true, false}
 use mathlib.Core.Option.{Option, none, some}
+use Rattle.laws.specs.Said.{Said, says, fault}
 use Rattle.laws.proofs.Tests.{cond-all}
-use Rattle.words.specs.Words.{words}
-use Rattle.name_table.specs.declared.Found.{Found}
-use Rattle.name_table.specs.declared.Found.the-variants.{At, Nothing}
+use Rattle.words.specs.Words.{word, words}
 use Rattle.keywords.specs.Form.{argument}
 use Rattle.keywords.specs.Carried.{keyOf}
 use Rattle.keywords.specs.declared.Keyword.{Keyword}
@@ -19,21 +18,18 @@ use Rattle.keywords.specs.declared.ComponentPart.{ComponentPart}
 use Rattle.keywords.specs.declared.ComponentPart.the-variants.{Manufacturer, Package, Pin}
 use Rattle.keywords.specs.declared.ModelPart.{ModelPart}
 use Rattle.keywords.specs.declared.ModelPart.the-variants.{VoltageRange, TemperatureRange, Current, Ramp, Waveform}
-use Rattle.keywords.specs.declared.KeyRead.{KeyRead}
-use Rattle.keywords.specs.declared.KeyRead.the-variants.{Known, Unknown, Malformed}
+use Rattle.keywords.specs.declared.CurrentTable.the-variants.{Pulldown, Pullup, GndClamp, PowerClamp}
 use Rattle.cut_lines.specs.Texts.{Text, plain, change}
-use Rattle.line_rules.specs.Fields.{isBracketed, firstWord, lineAt, rowOf}
+use Rattle.line_rules.specs.Fields.{isBracketed, lineAt, rowOf}
 use Rattle.line_rules.specs.Tables.{componentLines, packageLines, modelLines, rampLines, fixtures}
 use Rattle.rules.specs.Header.{version, headerPart, headerLine}
-use Rattle.rules.specs.Component.{locationLine, packageLine, componentLine, componentPart, componentShut}
+use Rattle.rules.specs.Component.{componentLine, componentPart, componentShut}
 use Rattle.rules.specs.Selector.{selectorLine, selectorShut}
-use Rattle.rules.specs.Model.{beginsLetter, withFirst, firstLine, rowLine, rampLine, fixtureLine, waveformLine, modelLine, singlePart, waveformPart, modelPart, modelShut, withModelList, withRow, isNumber}
-use Rattle.rules.specs.Steps.{shut, done, opened, secondVersion, inHeader, inComponent, inModel, onKeyword, keyed, firstKeyed, onLine, onBegun, onText}
-use Rattle.rules.specs.Reading.{isNamedLine}
+use Rattle.rules.specs.Model.{beginsLetter, withFirst, rowLine, waveformLine, modelLine, singlePart, waveformPart, modelPart, modelShut, withModelList, withRow, isNumber}
+use Rattle.rules.specs.Steps.{headerOf, componentOf, modelOf, shut, done, opened, within, onVersion, onKeyword, keyed, onLine, onPlain, onChange, onText}
+use Rattle.rules.proofs.Lettered.{letter-no-row}
 use Rattle.given.specs.declared.Given.{Given}
 use Rattle.records.specs.declared.Row.{Row}
-use Rattle.line_rules.specs.declared.RowRead.{RowRead}
-use Rattle.line_rules.specs.declared.RowRead.the-variants.{Line, Amiss}
 use Rattle.rules.specs.declared.RowsSeen.{RowsSeen}
 use Rattle.rules.specs.declared.ComponentList.{ComponentList}
 use Rattle.rules.specs.declared.ComponentList.the-variants.{ComponentFirst, ComponentShut, PackageLines, PinRows}
@@ -45,12 +41,12 @@ use Rattle.rules.specs.declared.Stage.{Stage}
 use Rattle.rules.specs.declared.Stage.the-variants.{BeforeVersion, InHeader, InComponent, InSelector, InModel, AfterEnd}
 use Rattle.rules.specs.declared.Event.{Event}
 use Rattle.rules.specs.declared.Event.the-variants.{Quiet, Opened, PinRow, ChoiceRow, WaveformOpened, TableRow, Ended}
-use Rattle.layout_by_notes.proofs.Goes.{Goes, past-refuse, past-unless, past-closing, past-all, anywhere}
+use Rattle.layout_by_notes.proofs.Goes.{Goes, past-refuse, past-unless, past-once, past-named, past-closing, past-all, anywhere}
 
 -- ---- what is open: the section, and what a line under the last keyword gives
 
 pub data Gives : Type 0 where
-  nothing pins choices rows points : Gives
+  nothing pins choices rows : Gives
 
 pub record Open : Type 0 where
   pub within : Option Section
@@ -70,7 +66,7 @@ modelGives ModelFirst = nothing
 modelGives ModelShut = nothing
 modelGives (CurrentRows o r) = rows
 modelGives (RampLines o g) = nothing
-modelGives (WaveformRows o g r) = points
+modelGives (WaveformRows o g r) = rows
 
 abbrev pub openAt : Stage → Open
 openAt BeforeVersion = closed
@@ -86,9 +82,9 @@ pub data LineGives : Gives → List ℕ → Event → Type 0 where
   quiet : {w : List ℕ} → LineGives nothing w Quiet
   pin : {w : List ℕ} → LineGives pins w PinRow
   choice : {w : List ℕ} → LineGives choices w ChoiceRow
-  row : {w : List ℕ} {r : Row} → rowOf (words w) ≡ Line r → LineGives rows w TableRow
-  fixture : {w : List ℕ} → isNamedLine w ≡ true → LineGives points w Quiet
-  point : {w : List ℕ} {r : Row} → isNamedLine w ≡ false → rowOf (words w) ≡ Line r → LineGives points w TableRow
+  row : {w : List ℕ} {r : Row} → rowOf (words w) ≡ says r → LineGives rows w TableRow
+  -- a waveform's named line
+  fixture : {w : List ℕ} {n : ℕ} → rowOf (words w) ≡ fault n → LineGives rows w Quiet
 
 -- ---- what a keyword gives and opens, by the section it stands in
 
@@ -107,7 +103,7 @@ modelOpens VoltageRange = nothing
 modelOpens TemperatureRange = nothing
 modelOpens (Current t) = rows
 modelOpens Ramp = nothing
-modelOpens (Waveform e) = points
+modelOpens (Waveform e) = rows
 
 abbrev pub modelEvent : ModelPart → Event
 modelEvent VoltageRange = Quiet
@@ -129,70 +125,45 @@ pub data KeyGives : Option Section → Keyword → Open → Event → Type 0 whe
 pub data Stepped : Open → Text → Open → Event → Type 0 where
   byChange : {o : Open} {k n : ℕ} → Stepped o (change k n) o Quiet
   byLine : {o : Open} {k : ℕ} {w : List ℕ} {e : Event} → isBracketed w ≡ false → LineGives (o .gives) w e → Stepped o (plain k w) o e
-  byKey : {o u : Open} {k at : ℕ} {w : List ℕ} {x : Keyword} {e : Event}
-      → isBracketed w ≡ true → keyOf w ≡ Known x at → KeyGives (o .within) x u e → Stepped o (plain k w) u e
+  byKey : {o u : Open} {k : ℕ} {w : List ℕ} {x : Keyword} {e : Event}
+      → isBracketed w ≡ true → keyOf w ≡ says x → KeyGives (o .within) x u e → Stepped o (plain k w) u e
 
 -- ---- lines: the section stays, and what its open list gives
 
 abbrev LineStep : Option Section → Gives → List ℕ → Stage → Event → Type 0
 LineStep x g w s e = (openAt s ≡ record { within = x; gives = g }) × LineGives g w e
 
-location-goes : (c : ComponentState) (k : ℕ) (w : List ℕ) (x : Found) → componentGives (c .list) ≡ nothing
-    → Goes (LineStep (some Component) nothing w) (locationLine c k w x)
-location-goes c k w Nothing q = tt
-location-goes c k w (At n) q =
-    past-refuse _ _ 8 k _ (past-unless _ _ k _ (ap (λ (g : Gives). record { within = some Component; gives = g }) q, quiet))
-
-package-goes : (c : ComponentState) (o : ℕ) (g : Given) (k : ℕ) (w : List ℕ) (x : Found)
-    → Goes (LineStep (some Component) nothing w) (packageLine c o g k w x)
-package-goes c o g k w Nothing = tt
-package-goes c o g k w (At n) = past-refuse _ _ 8 k _ (past-unless _ _ k _ (refl, quiet))
-
 component-goes : (c : ComponentState) (k : ℕ) (w : List ℕ) (l : ComponentList) → componentGives (c .list) ≡ componentGives l
     → Goes (LineStep (some Component) (componentGives l) w) (componentLine c k w l)
-component-goes c k w ComponentFirst q = location-goes c k w (lineAt componentLines w) q
+component-goes c k w ComponentFirst q =
+    past-named (LineStep (some Component) nothing w) (c .first) (lineAt componentLines w) _ k _ (λ h. (ap (λ (g : Gives). record { within = some Component; gives = g }) q, quiet))
 component-goes c k w ComponentShut q = tt
-component-goes c k w (PackageLines o g) q = package-goes c o g k w (lineAt packageLines w)
+component-goes c k w (PackageLines o g) q = past-named (LineStep (some Component) nothing w) g (lineAt packageLines w) _ k _ (λ h. (refl, quiet))
 component-goes c k w (PinRows o long any) q = past-unless _ _ k _ (refl, pin)
 
-first-goes : (m : ModelState) (k : ℕ) (w : List ℕ) (x : Found) → modelGives (m .list) ≡ nothing
-    → Goes (LineStep (some Model) nothing w) (firstLine m k w x)
-unfolding withFirst
-first-goes m k w Nothing q = tt
-first-goes m k w (At n) q =
-    past-refuse _ _ 8 k _ (past-unless _ _ k _ (ap (λ (g : Gives). record { within = some Model; gives = g }) q, quiet))
-
-ramp-goes : (m : ModelState) (o : ℕ) (g : Given) (k : ℕ) (w : List ℕ) (x : Found)
-    → Goes (LineStep (some Model) nothing w) (rampLine m o g k w x)
-ramp-goes m o g k w Nothing = tt
-ramp-goes m o g k w (At n) = past-refuse _ _ 8 k _ (past-unless _ _ k _ (refl, quiet))
-
-fixture-goes : (m : ModelState) (o : ℕ) (g : Given) (r : RowsSeen) (k : ℕ) (w : List ℕ) (x : Found) → isNamedLine w ≡ true
-    → Goes (LineStep (some Model) points w) (fixtureLine m o g r k w x)
-fixture-goes m o g r k w Nothing h = tt
-fixture-goes m o g r k w (At n) h = past-refuse _ _ 8 k _ (past-unless _ _ k _ (refl, fixture h))
-
 -- a row goes on only where it is one
-row-goes : (P : Stage → Event → Type 0) (on : RowsSeen → ModelList) (m : ModelState) (r : RowsSeen) (k : ℕ) (x : RowRead)
-    → ((y : Row) → x ≡ Line y → P (InModel (withModelList m (on (withRow r (y .number) (isNumber (y .cells .typ)))))) TableRow)
+row-goes : (P : Stage → Event → Type 0) (on : RowsSeen → ModelList) (m : ModelState) (r : RowsSeen) (k : ℕ) (x : Said Row)
+    → ((y : Row) → x ≡ says y → P (InModel (withModelList m (on (withRow r (y .number) (isNumber (y .cells .typ)))))) TableRow)
     → Goes P (rowLine on m r k x)
-row-goes P on m r k (Amiss n) p = tt
-row-goes P on m r k (Line y) p = past-refuse P _ 13 k _ (p y refl)
+row-goes P on m r k (fault n) p = tt
+row-goes P on m r k (says y) p = past-refuse P _ 13 k _ (p y refl)
 
 waveform-goes : (m : ModelState) (o : ℕ) (g : Given) (r : RowsSeen) (k : ℕ) (w : List ℕ)
-    → Goes (LineStep (some Model) points w) (waveformLine m o g r k w)
-unfolding waveformLine isNamedLine
+    → Goes (LineStep (some Model) rows w) (waveformLine m o g r k w)
+unfolding waveformLine
 waveform-goes m o g r k w =
-    cond-all (Goes (LineStep (some Model) points w)) (beginsLetter (firstWord (words w))) _ _
-    (λ h. past-refuse _ _ 7 k _ (fixture-goes m o g r k w (lineAt fixtures w) h))
-    (λ h. row-goes _ (WaveformRows o g) m r k (rowOf (words w)) (λ y e. (refl, point h e)))
+    cond-all (Goes (LineStep (some Model) rows w)) (beginsLetter (word 0 (words w))) _ _
+    (λ b. past-refuse _ _ 7 k _ (past-named (LineStep (some Model) rows w) g (lineAt fixtures w) _ k _ (λ h. (refl, fixture (letter-no-row (words w) b)))))
+    (λ b. row-goes _ (WaveformRows o g) m r k (rowOf (words w)) (λ y e. (refl, row e)))
 
 model-goes : (m : ModelState) (k : ℕ) (w : List ℕ) (l : ModelList) → modelGives (m .list) ≡ modelGives l
     → Goes (LineStep (some Model) (modelGives l) w) (modelLine m k w l)
-model-goes m k w ModelFirst q = first-goes m k w (lineAt modelLines w) q
+unfolding withFirst
+model-goes m k w ModelFirst q =
+    past-named (LineStep (some Model) nothing w) (m .first) (lineAt modelLines w) _ k _ (λ h. (ap (λ (g : Gives). record { within = some Model; gives = g }) q, quiet))
 model-goes m k w ModelShut q = tt
 model-goes m k w (CurrentRows o r) q = row-goes _ (CurrentRows o) m r k (rowOf (words w)) (λ y e. (refl, row e))
-model-goes m k w (RampLines o g) q = ramp-goes m o g k w (lineAt rampLines w)
+model-goes m k w (RampLines o g) q = past-named (LineStep (some Model) nothing w) g (lineAt rampLines w) _ k _ (λ h. (refl, quiet))
 model-goes m k w (WaveformRows o g r) q = waveform-goes m o g r k w
 
 line-goes : (s : Stage) (k : ℕ) (w : List ℕ) → Goes (LineStep (openAt s .within) (openAt s .gives) w) (onLine s k w)
@@ -223,34 +194,36 @@ model-shut m (CurrentRows o r) = past-unless _ _ o _ refl
 model-shut m (RampLines o g) = past-refuse _ _ 9 o _ refl
 model-shut m (WaveformRows o g r) = past-refuse _ _ 9 o _ (past-unless _ _ o _ refl)
 
-shut-stays : (s : Stage) → Goes (Stays (openAt s .within)) (shut s)
+shut-stays : (k : ℕ) (s : Stage) → Goes (Stays (openAt s .within)) (shut k s)
 unfolding selectorShut
-shut-stays BeforeVersion = refl
-shut-stays (InHeader h) = refl
-shut-stays (InComponent c) = component-shut c (c .list)
-shut-stays (InSelector s) = past-refuse _ _ 9 (s .line) _ refl
-shut-stays (InModel m) = model-shut m (m .list)
-shut-stays AfterEnd = refl
+shut-stays k BeforeVersion = refl
+shut-stays k (InHeader h) = refl
+shut-stays k (InComponent c) = component-shut c (c .list)
+shut-stays k (InSelector s) = past-refuse _ _ 9 (s .line) _ refl
+shut-stays k (InModel m) = model-shut m (m .list)
+shut-stays k AfterEnd = tt
 
 abbrev KeyStep : Option Section → Keyword → Stage → Event → Type 0
 KeyStep x a s e = KeyGives x a (openAt s) e
 
-version-goes : (s : Stage) (k : ℕ) → Goes (KeyStep (openAt s .within) key.IbisVer) (secondVersion s k)
-version-goes BeforeVersion k = tt
-version-goes (InHeader h) k = tt
-version-goes (InComponent c) k = tt
-version-goes (InSelector s) k = tt
-version-goes (InModel m) k = tt
-version-goes AfterEnd k = tt
+version-goes : (s : Stage) (k : ℕ) (w : List ℕ) → Goes (KeyStep (openAt s .within) key.IbisVer) (onVersion s k w)
+unfolding onVersion version
+version-goes BeforeVersion k w = past-refuse _ _ 10 k _ ofVersion
+version-goes (InHeader h) k w = tt
+version-goes (InComponent c) k w = tt
+version-goes (InSelector s) k w = tt
+version-goes (InModel m) k w = tt
+version-goes AfterEnd k w = tt
 
-header-goes : (s : Stage) (k : ℕ) (w : List ℕ) (p : HeaderPart) → Goes (KeyStep (openAt s .within) (key.InHeader p)) (inHeader s k w p)
+header-key : (s : Stage) (k : ℕ) (w : List ℕ) (p : HeaderPart)
+    → Goes (KeyStep (openAt s .within) (key.InHeader p)) (within k (headerOf s) (λ h. headerPart h k w p))
 unfolding headerPart
-header-goes BeforeVersion k w p = tt
-header-goes (InHeader h) k w p = past-refuse _ _ 8 k _ (past-unless _ _ k _ ofHeader)
-header-goes (InComponent c) k w p = tt
-header-goes (InSelector s) k w p = tt
-header-goes (InModel m) k w p = tt
-header-goes AfterEnd k w p = tt
+header-key BeforeVersion k w p = tt
+header-key (InHeader h) k w p = past-once _ _ _ k _ ofHeader
+header-key (InComponent c) k w p = tt
+header-key (InSelector s) k w p = tt
+header-key (InModel m) k w p = tt
+header-key AfterEnd k w p = tt
 
 section-goes : (x : Option Section) (k : ℕ) (w : List ℕ) (o : Section) → Goes (KeyStep x (key.Opens o)) (opened k w o)
 section-goes x k w Component = past-refuse _ _ 10 k _ (ofSection Component)
@@ -260,20 +233,23 @@ section-goes x k w Model = past-refuse _ _ 10 k _ (ofSection Model)
 component-part : (c : ComponentState) (k : ℕ) (w : List ℕ) (p : ComponentPart)
     → Goes (KeyStep (some Component) (key.InComponent p)) (componentPart c k w p)
 unfolding componentPart
-component-part c k w Manufacturer = past-refuse _ _ 8 k _ (past-unless _ _ k _ (ofComponent Manufacturer))
-component-part c k w Package = past-refuse _ _ 8 k _ (past-unless _ _ k _ (ofComponent Package))
-component-part c k w Pin = past-refuse _ _ 8 k _ (past-unless _ _ k _ (ofComponent Pin))
+component-part c k w Manufacturer = past-once _ _ _ k _ (ofComponent Manufacturer)
+component-part c k w Package = past-once _ _ _ k _ (ofComponent Package)
+component-part c k w Pin = past-once _ _ _ k _ (ofComponent Pin)
 
 model-part : (m : ModelState) (k : ℕ) (w : List ℕ) (p : ModelPart) → Goes (KeyStep (some Model) (key.InModel p)) (modelPart m k w p)
 unfolding singlePart waveformPart
-model-part m k w VoltageRange = past-refuse _ _ 8 k _ (past-unless _ _ k _ (ofModel VoltageRange))
-model-part m k w TemperatureRange = past-refuse _ _ 8 k _ (past-unless _ _ k _ (ofModel TemperatureRange))
-model-part m k w (Current t) = past-refuse _ _ 8 k _ (past-unless _ _ k _ (ofModel (Current t)))
-model-part m k w Ramp = past-refuse _ _ 8 k _ (past-unless _ _ k _ (ofModel Ramp))
+model-part m k w VoltageRange = past-once _ _ _ k _ (ofModel VoltageRange)
+model-part m k w TemperatureRange = past-once _ _ _ k _ (ofModel TemperatureRange)
+model-part m k w (Current Pulldown) = past-once _ _ _ k _ (ofModel (Current Pulldown))
+model-part m k w (Current Pullup) = past-once _ _ _ k _ (ofModel (Current Pullup))
+model-part m k w (Current GndClamp) = past-once _ _ _ k _ (ofModel (Current GndClamp))
+model-part m k w (Current PowerClamp) = past-once _ _ _ k _ (ofModel (Current PowerClamp))
+model-part m k w Ramp = past-once _ _ _ k _ (ofModel Ramp)
 model-part m k w (Waveform e) = past-unless _ _ k _ (past-refuse _ _ 17 k _ (ofModel (Waveform e)))
 
 component-key : (s : Stage) (k : ℕ) (w : List ℕ) (p : ComponentPart)
-    → Goes (KeyStep (openAt s .within) (key.InComponent p)) (inComponent s k w p)
+    → Goes (KeyStep (openAt s .within) (key.InComponent p)) (within k (componentOf s) (λ c. componentPart c k w p))
 component-key BeforeVersion k w p = tt
 component-key (InHeader h) k w p = tt
 component-key (InComponent c) k w p = component-part c k w p
@@ -281,7 +257,7 @@ component-key (InSelector s) k w p = tt
 component-key (InModel m) k w p = tt
 component-key AfterEnd k w p = tt
 
-model-key : (s : Stage) (k : ℕ) (w : List ℕ) (p : ModelPart) → Goes (KeyStep (openAt s .within) (key.InModel p)) (inModel s k w p)
+model-key : (s : Stage) (k : ℕ) (w : List ℕ) (p : ModelPart) → Goes (KeyStep (openAt s .within) (key.InModel p)) (within k (modelOf s) (λ m. modelPart m k w p))
 model-key BeforeVersion k w p = tt
 model-key (InHeader h) k w p = tt
 model-key (InComponent c) k w p = tt
@@ -290,13 +266,13 @@ model-key (InModel m) k w p = model-part m k w p
 model-key AfterEnd k w p = tt
 
 keyword-goes : (s : Stage) (k : ℕ) (w : List ℕ) (x : Keyword) → Goes (KeyStep (openAt s .within) x) (onKeyword s k w x)
-keyword-goes s k w key.IbisVer = version-goes s k
-keyword-goes s k w (key.InHeader p) = header-goes s k w p
+keyword-goes s k w key.IbisVer = version-goes s k w
+keyword-goes s k w (key.InHeader p) = header-key s k w p
 keyword-goes s k w (key.Opens o) =
-    past-closing _ (λ (t : Stage). Unit {0}) _ (done s) (anywhere (done s)) (λ t q. section-goes (openAt s .within) k w o)
+    past-closing _ (λ (t : Stage). Unit {0}) _ (done k s) (anywhere (done k s)) (λ t q. section-goes (openAt s .within) k w o)
 keyword-goes s k w (key.InComponent p) = component-key s k w p
 keyword-goes s k w (key.InModel p) = model-key s k w p
-keyword-goes s k w key.End = past-closing _ (λ (t : Stage). Unit {0}) _ (done s) (anywhere (done s)) (λ t q. ofEnd)
+keyword-goes s k w key.End = past-closing _ (λ (t : Stage). Unit {0}) _ (done k s) (anywhere (done k s)) (λ t q. ofEnd)
 
 -- ---- a text
 
@@ -305,47 +281,25 @@ TextStep s t u e = Stepped (openAt s) t (openAt u) e
 
 module _ (k : ℕ) (w : List ℕ) where
   -- behind what the keyword line closed
-  keyed-goes : (s t : Stage) (x : KeyRead) → isBracketed w ≡ true → keyOf w ≡ x → openAt t .within ≡ openAt s .within
+  keyed-goes : (s t : Stage) (x : Said Keyword) → isBracketed w ≡ true → keyOf w ≡ x → openAt t .within ≡ openAt s .within
       → Goes (TextStep s (plain k w)) (keyed t k w x)
-  keyed-goes s t Malformed b r q = tt
-  keyed-goes s t Unknown b r q = tt
-  keyed-goes s t (Known x at) b r q =
+  keyed-goes s t (fault n) b r q = tt
+  keyed-goes s t (says x) b r q =
       past-all (TextStep s (plain k w)) (KeyStep (openAt t .within) x) (onKeyword t k (argument w) x) (keyword-goes t k (argument w) x)
       (λ u e g. byKey b r (subst (λ (y : Option Section). KeyGives y x (openAt u) e) q g))
 
-  first-keyed : (x : KeyRead) → isBracketed w ≡ true → keyOf w ≡ x → Goes (TextStep BeforeVersion (plain k w)) (firstKeyed k w x)
-  unfolding version
-  first-keyed Malformed b r = tt
-  first-keyed Unknown b r = tt
-  first-keyed (Known key.IbisVer at) b r = past-refuse _ _ 10 k _ (byKey b r ofVersion)
-  first-keyed (Known (key.InHeader p) at) b r = tt
-  first-keyed (Known (key.Opens o) at) b r = tt
-  first-keyed (Known (key.InComponent p) at) b r = tt
-  first-keyed (Known (key.InModel p) at) b r = tt
-  first-keyed (Known key.End at) b r = tt
-
-  begun-goes : (s : Stage) → Goes (TextStep s (plain k w)) (onBegun s k w)
-  unfolding onBegun
-  begun-goes s =
+  plain-goes : (s : Stage) → Goes (TextStep s (plain k w)) (onPlain s k w)
+  unfolding onPlain
+  plain-goes s =
       let after : Stage → Event → Type 0 = TextStep s (plain k w) in
       let line : Stage → Event → Type 0 = LineStep (openAt s .within) (openAt s .gives) w in
       cond-all (Goes after) (isBracketed w) _ _
-      (λ b. past-closing after (λ (t : Stage). openAt t .within ≡ openAt s .within) _ (shut s) (shut-stays s) (λ t q. keyed-goes s t (keyOf w) b refl q))
+      (λ b. past-closing after (λ (t : Stage). openAt t .within ≡ openAt s .within) _ (shut k s) (shut-stays k s) (λ t q. keyed-goes s t (keyOf w) b refl q))
       (λ b.
       past-all after line (onLine s k w) (line-goes s k w)
       (λ u e g. subst (λ (o : Open). Stepped (openAt s) (plain k w) o e) (sym (g .0)) (byLine b (g .1))))
 
 pub text-goes : (s : Stage) (t : Text) → Goes (TextStep s t) (onText s t)
-text-goes BeforeVersion (plain k w) =
-    cond-all (Goes (TextStep BeforeVersion (plain k w))) (isBracketed w) _ _ (λ b. first-keyed k w (keyOf w) b refl) (λ b. tt)
-text-goes (InHeader h) (plain k w) = begun-goes k w (InHeader h)
-text-goes (InComponent c) (plain k w) = begun-goes k w (InComponent c)
-text-goes (InSelector s) (plain k w) = begun-goes k w (InSelector s)
-text-goes (InModel m) (plain k w) = begun-goes k w (InModel m)
-text-goes AfterEnd (plain k w) = tt
-text-goes BeforeVersion (change k n) = tt
-text-goes (InHeader h) (change k n) = past-unless _ n k _ byChange
-text-goes (InComponent c) (change k n) = past-unless _ n k _ byChange
-text-goes (InSelector s) (change k n) = past-unless _ n k _ byChange
-text-goes (InModel m) (change k n) = past-unless _ n k _ byChange
-text-goes AfterEnd (change k n) = tt
+unfolding onChange
+text-goes s (plain k w) = plain-goes k w s
+text-goes s (change k n) = past-refuse _ _ 7 k _ (past-refuse _ _ 5 k _ (past-refuse _ _ 7 k _ (past-unless _ n k _ byChange)))

@@ -5,47 +5,49 @@ use mathlib.Core.List.{List, [], _∷_, _++_, map, flatMap, reverse}
 use mathlib.Core.Option.{Option, some}
 use native.Mathlib.Omega.{arith}
 use lib.ListN.{length, length-append}
-use Rattle.laws.proofs.Tests.{cond-yes, cond-no}
-use Rattle.words.specs.Words.{words}
+use Rattle.laws.specs.Bytes.{isBlank}
+use Rattle.laws.specs.Lists.{eqs}
+use Rattle.laws.specs.Said.{Said, says}
+use Rattle.words.specs.Words.{words, grown, onto}
 use Rattle.keywords.specs.declared.Keyword.{Keyword}
 use Rattle.keywords.specs.declared.Keyword.the-variants as key
-use Rattle.keywords.specs.declared.ModelPart.the-variants.{Waveform}
+use Rattle.keywords.specs.declared.ModelPart.the-variants.{Current, Waveform}
 use Rattle.keywords.specs.declared.CurrentTable.{CurrentTable}
+use Rattle.keywords.specs.declared.CurrentTable.the-variants.{Pulldown, Pullup, GndClamp, PowerClamp}
 use Rattle.records.specs.declared.Edge.{Edge}
+use Rattle.records.specs.declared.Edge.the-variants.{Rising, Falling}
 use Rattle.cut_lines.specs.Texts.{Text, plain}
-use Rattle.line_rules.specs.Fields.{rowOf}
-use Rattle.rules.specs.Reading.{ontoRow, rowsIn, rowLines, under, keyAt, pinIn, choiceIn, waveformIn, TableIs, current, waveform, sectionsIn}
-use Rattle.layout.specs.Laid.{Laid, pinLaid, choiceLaid, allRows, waveformLaid, waveformsLaid, laidFrom}
+use Rattle.line_rules.specs.Fields.{oneOf, rowOf}
+use Rattle.rules.specs.Component.{pinIn}
+use Rattle.rules.specs.Reading.{ontoRows, rowsIn, under, choiceIn, edgeOf, waveformIn, TableIs, sectionsIn}
+use Rattle.rules.specs.Keys.{keyAt}
+use Rattle.layout.specs.Laid.{Laid, tables, rowsOf, waveformsLaid, laidFrom}
 use Rattle.records.specs.declared.Kind.the-variants.{OfComponent, OfPin, OfSelector, OfChoice, OfModel}
 use Rattle.records.specs.declared.Row.{Row}
-use Rattle.line_rules.specs.declared.RowRead.{RowRead}
-use Rattle.line_rules.specs.declared.RowRead.the-variants.{Line}
 use Rattle.rules.specs.declared.Event.{Event}
 use Rattle.rules.specs.declared.Event.the-variants.{WaveformOpened}
 use Rattle.notes.specs.Noted.{Log, sections, moreRows}
 use Rattle.layout_by_notes.specs.Lies.{pick, isOf, noted, componentNoted, pinNoted, selectorNoted, choiceNoted, modelNoted, rowsNoted, waveformFrom, waveNoted, keyEdge}
 use Rattle.layout_by_notes.proofs.Lists.{latest-then}
-use Rattle.layout_by_notes.proofs.Keys.{Gives, rows, points, Open, LineGives, quiet, pin, choice, row, fixture, point}
-use Rattle.layout_by_notes.proofs.Ahead.{Ahead, gathered, ahead}
+use Rattle.layout_by_notes.proofs.Keys.{Gives, rows, Open, LineGives, quiet, pin, choice, row, fixture}
+use Rattle.layout_by_notes.proofs.Ahead.{tableOf, Ahead, gathered, ahead}
 use Rattle.layout_by_notes.proofs.Counts.{logAfter}
 
 -- ---- the tables, with the open section read to its end
 
 unfoldable pub finished : Ahead → Log → Laid
 finished x h =
-    record {
-      components = map componentNoted (noted OfComponent h);
-      pins = map pinNoted (noted OfPin h) ++ map (λ (w : List ℕ). pinLaid (pinIn w)) (x .pinLines);
-      selectors = map selectorNoted (noted OfSelector h);
-      choices = map choiceNoted (noted OfChoice h) ++ map (λ (w : List ℕ). choiceLaid (choiceIn w)) (x .choiceLines);
-      models = map modelNoted (noted OfModel h);
-      waveforms = map waveNoted (reverse (h .waves)) ++ waveformsLaid (h .counts .rows + length (x .openRows)) (x .tables);
-      rows = flatMap rowsNoted (noted OfModel h);
-    }
+    tables (map componentNoted (noted OfComponent h))
+    (map pinNoted (noted OfPin h) ++ map pinIn (x .pinLines))
+    (map selectorNoted (noted OfSelector h))
+    (map choiceNoted (noted OfChoice h) ++ map choiceIn (x .choiceLines))
+    (map modelNoted (noted OfModel h))
+    (map waveNoted (reverse (h .waves)) ++ waveformsLaid (x .tables) (h .counts .rows + length (x .openRows)))
+    (flatMap rowsNoted (noted OfModel h))
 
 -- the rows counted so far and those ahead are all rows of the noted models
 abbrev pub Filled : Ahead → Log → Type 0
-Filled x h = h .counts .rows + (length (x .openRows) + length (allRows (x .tables))) ≡ length (flatMap rowsNoted (noted OfModel h))
+Filled x h = h .counts .rows + (length (x .openRows) + length (flatMap rowsOf (x .tables))) ≡ length (flatMap rowsNoted (noted OfModel h))
 
 -- the tables of the whole file, as they are seen from a text on
 abbrev pub outlook : Open → List Text → Log → Laid
@@ -76,17 +78,13 @@ unfolding finished noted sections
 row-carried p c rs more tb h e =
     let n : h .counts .rows + length rs ≡ h .counts .rows + 1 + length more = omega arith in
     record {
-      tables = same-laid refl refl refl refl refl (ap (λ (k : ℕ). map waveNoted (reverse (h .waves)) ++ waveformsLaid k tb) n) refl;
+      tables = same-laid refl refl refl refl refl (ap (λ (k : ℕ). map waveNoted (reverse (h .waves)) ++ waveformsLaid tb k) n) refl;
       places = refl;
       filled = λ f. omega arith;
     }
 
-onto-one : (x : RowRead) (r : Row) (more : List Row) → x ≡ Line r → length (ontoRow x more) ≡ suc (length more)
-onto-one x r more e = ap (λ (y : RowRead). length (ontoRow y more)) e
-
--- the rows of a waveform that are ahead
-abbrev waiting : List (List ℕ) → List (List ℕ) → List TableIs → Ahead
-waiting ps ls tb = record { pinLines = ps; choiceLines = []; openRows = rowsIn ls; tables = tb }
+onto-one : (x : Said Row) (r : Row) (more : List Row) → x ≡ says r → length (ontoRows x more) ≡ suc (length more)
+onto-one x r more e = ap (λ (y : Said Row). length (ontoRows y more)) e
 
 same-ahead : {x y z : Ahead} {h g : Log} → x ≡ y → Carried y h z g → Carried x h z g
 same-ahead {z = z} {h = h} {g = g} p c = subst (λ (a : Ahead). Carried a h z g) (sym p) c
@@ -94,7 +92,7 @@ same-ahead {z = z} {h = h} {g = g} p c = subst (λ (a : Ahead). Carried a h z g)
 pub line-carried : {g : Gives} {w : List ℕ} {e : Event} → LineGives g w e
     → (k : ℕ) (ls ps : List (List ℕ)) (tb : List TableIs) (h : Log) (ts : List Text)
     → Carried (gathered g (w ∷ ls) ps tb) h (gathered g ls ps tb) (logAfter h (plain k w) ts e)
-unfolding finished noted pick pinNoted choiceNoted rowsIn rowLines sections
+unfolding finished noted pick pinNoted choiceNoted rowsIn sections
 line-carried quiet k ls ps tb h ts = nothing-moves
 line-carried pin k ls ps tb h ts =
     record {
@@ -108,12 +106,9 @@ line-carried choice k ls ps tb h ts =
       places = refl;
       filled = λ f. f;
     }
-line-carried {w} (row {r = r} e) k ls ps tb h ts = row-carried ps [] (ontoRow (rowOf (words w)) (rowsIn ls)) (rowsIn ls) tb h (onto-one _ r _ e)
-line-carried {w} (fixture n) k ls ps tb h ts =
-    same-ahead (ap (λ (l : List (List ℕ)). waiting ps l tb) (cond-yes (rowLines ls) (w ∷ rowLines ls) n)) nothing-moves
-line-carried {w} (point {r = r} n e) k ls ps tb h ts =
-    same-ahead (ap (λ (l : List (List ℕ)). waiting ps l tb) (cond-no (rowLines ls) (w ∷ rowLines ls) n))
-    (row-carried ps [] (ontoRow (rowOf (words w)) (rowsIn (rowLines ls))) (rowsIn (rowLines ls)) tb h (onto-one _ r _ e))
+line-carried {w} (row {r = r} e) k ls ps tb h ts = row-carried ps [] (ontoRows (rowOf (words w)) (rowsIn ls)) (rowsIn ls) tb h (onto-one _ r _ e)
+line-carried {w} (fixture e) k ls ps tb h ts =
+    same-ahead (ap (λ (x : Said Row). record { pinLines = ps; choiceLines = []; openRows = ontoRows x (rowsIn ls); tables = tb }) e) nothing-moves
 
 -- ---- a text leads on: the tables of the whole file are seen from the next text as from this one
 
@@ -130,35 +125,56 @@ carried-on o t ts h u e p q c f = (
 
 -- ---- a keyword inside a section
 
+-- the waveform that a table is, by its keyword: a current table is none
+waveform-none : (t : CurrentTable) (ls : List (List ℕ)) (tb : List TableIs) (n : ℕ)
+    → waveformsLaid (tableOf (Current t) ls ∷ tb) n ≡ waveformsLaid tb (n + length (rowsIn ls))
+unfolding waveformsLaid oneOf eqs words grown onto isBlank
+waveform-none Pulldown ls tb n = refl
+waveform-none Pullup ls tb n = refl
+waveform-none GndClamp ls tb n = refl
+waveform-none PowerClamp ls tb n = refl
+
+waveform-some : (e : Edge) (ls : List (List ℕ)) (tb : List TableIs) (n : ℕ)
+    → waveformsLaid (tableOf (Waveform e) ls ∷ tb) n ≡ waveformIn n e ls ∷ waveformsLaid tb (n + length (rowsIn ls))
+unfolding waveformsLaid edgeOf oneOf eqs words grown onto isBlank
+waveform-some Rising ls tb n = refl
+waveform-some Falling ls tb n = refl
+
 -- a current table's keyword: what was to come as its rows is now under it
 pub current-carried : (t : CurrentTable) (ls : List (List ℕ)) (tb : List TableIs) (h : Log)
-    → Carried (record { pinLines = []; choiceLines = []; openRows = []; tables = current t (rowsIn ls) ∷ tb }) h (gathered rows ls [] tb) h
-unfolding finished waveformsLaid allRows
+    → Carried (record { pinLines = []; choiceLines = []; openRows = []; tables = tableOf (Current t) ls ∷ tb }) h (gathered rows ls [] tb) h
+unfolding finished flatMap
 current-carried t ls tb h =
-    let n : h .counts .rows + 0 + length (rowsIn ls) ≡ h .counts .rows + length (rowsIn ls) = omega arith in
+    let before : List _ = map waveNoted (reverse (h .waves)) in
+    let z : h .counts .rows + 0 ≡ h .counts .rows = omega arith in
     record {
-      tables = same-laid refl refl refl refl refl (ap (λ (k : ℕ). map waveNoted (reverse (h .waves)) ++ waveformsLaid k tb) n) refl;
+      tables =
+          same-laid refl refl refl refl refl
+          (ap (λ (j : ℕ). before ++ waveformsLaid (tableOf (Current t) ls ∷ tb) j) z
+          ∙ ap (λ (l : List _). before ++ l) (waveform-none t ls tb (h .counts .rows)))
+          refl;
       places = refl;
-      filled = λ f. omega (arith, length-append (rowsIn ls) (allRows tb));
+      filled = λ f. omega (arith, length-append (rowsIn ls) (flatMap rowsOf tb));
     }
 
 -- a waveform's keyword: the same, and the waveform is noted
 pub waveform-carried : (t : Text) (ts : List Text) (e : Edge) (tb : List TableIs) (h : Log) → keyAt t ≡ some (key.InModel (Waveform e))
-    → Carried (record { pinLines = []; choiceLines = []; openRows = []; tables = waveform (waveformIn e (under ts)) ∷ tb }) h
-    (gathered points (under ts) [] tb) (logAfter h t ts WaveformOpened)
-unfolding finished noted sections waveformsLaid allRows waveformIn waveNoted waveformFrom
+    → Carried (record { pinLines = []; choiceLines = []; openRows = []; tables = tableOf (Waveform e) (under ts) ∷ tb }) h
+    (gathered rows (under ts) [] tb) (logAfter h t ts WaveformOpened)
+unfolding finished noted sections flatMap waveNoted waveformFrom
 waveform-carried t ts e tb h q =
     let n : ℕ = h .counts .rows in
-    let rs : List Row = rowsIn (rowLines (under ts)) in
+    let rs : List Row = rowsIn (under ts) in
     let before : List _ = map waveNoted (reverse (h .waves)) in
     let z : n + 0 ≡ n = omega arith in
     record {
       tables =
           same-laid refl refl refl refl refl
-          (ap (λ (j : ℕ). before ++ (waveformLaid j (waveformIn e (under ts)) ∷ waveformsLaid (j + length rs) tb)) z
-          ∙ ap (λ (y : Option Keyword). before ++ (waveformLaid n (waveformIn (keyEdge y) (under ts)) ∷ waveformsLaid (n + length rs) tb)) (sym q)
-          ∙ latest-then waveNoted (record { from = t ∷ ts; row = n }) (h .waves) (waveformsLaid (n + length rs) tb))
+          (ap (λ (j : ℕ). before ++ waveformsLaid (tableOf (Waveform e) (under ts) ∷ tb) j) z
+          ∙ ap (λ (l : List _). before ++ l) (waveform-some e (under ts) tb n)
+          ∙ ap (λ (y : Option Keyword). before ++ (waveformIn n (keyEdge y) (under ts) ∷ waveformsLaid tb (n + length rs))) (sym q)
+          ∙ latest-then waveNoted (record { from = t ∷ ts; row = n }) (h .waves) (waveformsLaid tb (n + length rs)))
           refl;
       places = refl;
-      filled = λ f. omega (arith, length-append rs (allRows tb));
+      filled = λ f. omega (arith, length-append rs (flatMap rowsOf tb));
     }

@@ -10,11 +10,12 @@ use Rattle.keywords.specs.declared.Section.the-variants.{Component, Model}
 use Rattle.keywords.specs.declared.ComponentPart.the-variants.{Manufacturer, Package, Pin}
 use Rattle.keywords.specs.declared.ModelPart.the-variants.{VoltageRange, TemperatureRange, Current, Ramp, Waveform}
 use Rattle.cut_lines.specs.Texts.{Text, plain, change}
-use Rattle.rules.specs.Reading.{under, keyAt, argumentAt, opens, isWithin, ontoSections, sectionsIn}
+use Rattle.rules.specs.Reading.{under, argumentAt, isWithin, sectionsIn}
+use Rattle.rules.specs.Keys.{keyAt, opens, ontoSections}
 use Rattle.rules.specs.declared.Event.{Event}
 use Rattle.rules.specs.declared.Event.the-variants.{Quiet, WaveformOpened, Ended}
 use Rattle.notes.specs.Noted.{Log}
-use Rattle.layout_by_notes.proofs.Keys.{Gives, nothing, pins, rows, points, Open, closed, KeyGives, ofVersion, ofHeader, ofSection, ofComponent, ofModel, ofEnd, Stepped, byChange, byLine, byKey}
+use Rattle.layout_by_notes.proofs.Keys.{Gives, nothing, pins, rows, Open, closed, KeyGives, ofVersion, ofHeader, ofSection, ofComponent, ofModel, ofEnd, Stepped, byChange, byLine, byKey}
 use Rattle.layout_by_notes.proofs.Ahead.{keyPins, keyTables, pinsAhead, tablesAhead, Ahead, noneAhead, ofComponents, ofModels, ahead, sections-at, ahead-at, key-at, no-key, under-key, under-line, under-change, none-left, none-after}
 use Rattle.layout_by_notes.proofs.Counts.{logAfter, Counted}
 use Rattle.layout_by_notes.proofs.Lying.{Carried, Onward, carried-on, nothing-moves, line-carried, current-carried, waveform-carried}
@@ -69,7 +70,7 @@ module _ (k : ℕ) (w : List ℕ) (ts : List Text) (h : Log) (c : Counted h) whe
   key-onward (ofModel Ramp) g q v =
       inside k w ts q v (some Model) g (record { within = some Model; gives = nothing }) Quiet h refl nothing-moves
   key-onward (ofModel (Waveform e)) g q v =
-      inside k w ts q v (some Model) g (record { within = some Model; gives = points }) WaveformOpened h refl
+      inside k w ts q v (some Model) g (record { within = some Model; gives = rows }) WaveformOpened h refl
       (waveform-carried (plain k w) ts e (tablesAhead ts) h q)
   key-onward {x} (ofEnd {alone = alone}) g q v =
       inside k w ts q v x g closed (Ended alone) h refl (subst (λ (y : Ahead). Carried y h noneAhead h) (sym (none-after x)) nothing-moves)

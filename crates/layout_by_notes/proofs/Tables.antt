@@ -7,7 +7,7 @@ use lib.ListN.{length}
 use Rattle.cut_lines.specs.Texts.{Text}
 use Rattle.rules.specs.Steps.{onText}
 use Rattle.rules.specs.Reading.{sectionsIn, fileIn}
-use Rattle.layout.specs.Laid.{Laid, allRows, waveformsLaid, laidFrom, laid}
+use Rattle.layout.specs.Laid.{Laid, waveformsLaid, laidFrom, laid}
 use Rattle.records.specs.declared.Kind.the-variants.{OfComponent, OfPin, OfSelector, OfChoice, OfModel}
 use Rattle.records.specs.declared.Lengths.{Lengths}
 use Rattle.rules.specs.declared.Stage.{Stage}
@@ -79,7 +79,7 @@ seen-on a o t u e h ts y x =
     record { counted = counted-after h t ts e (x .counted); filled = on .1; tables = x .tables ∙ on .0 }
 
 lies-at-end : (g : Log) → Counted g → Filled noneAhead g → Lies g (finished noneAhead g)
-unfolding finished noted waveformsLaid allRows
+unfolding finished noted waveformsLaid flatMap
 lies-at-end g c f =
     let rest : g .counts .rows ≡ length (finished noneAhead g .rows) = omega arith in
     record {
@@ -106,7 +106,7 @@ lies-at-end g c f =
 module _ (l : Lengths) (past : ℕ) (ts : List Text) (g : Log) (run : runLog l past BeforeVersion emptyLog ts ≡ whole g) where
   -- what document 01 reads from the texts of an accepted file lies in the tables as noted
   pub lies : Lies g (laid (fileIn ts))
-  unfolding laid fileIn laidFrom finished noted pick sections waveformsLaid allRows flatMap sectionsIn
+  unfolding laid fileIn laidFrom finished noted pick sections waveformsLaid flatMap sectionsIn
   lies =
       let a : Laid = laid (fileIn ts) in
       let first : Seen a closed emptyLog ts = record { counted = none-counted; filled = refl; tables = refl } in

@@ -1,34 +1,37 @@
 -- What the notes of an accepted file say of the lent tables: a record for each note, read from the texts that stand behind its keyword.
-use Prim.Native.Nat.{_≤_}
+use Prim.Native.Nat.{ℕ, _≤_, min}
 use mathlib.Core.Path.{_≡_}
 use mathlib.Core.List.{List, [], _∷_, map, flatMap, reverse}
 use mathlib.Core.Bool.{Bool, cond}
-use mathlib.Core.Option.{Option, none, some}
+use mathlib.Core.Option.{Option}
 use lib.ListN.{length}
 use Rattle.laws.specs.Lists.{front}
 use Rattle.keywords.specs.declared.Keyword.{Keyword}
-use Rattle.keywords.specs.declared.Keyword.the-variants as key
 use Rattle.keywords.specs.declared.ModelPart.{ModelPart}
 use Rattle.keywords.specs.declared.ModelPart.the-variants.{VoltageRange, TemperatureRange, Current, Ramp, Waveform}
-use Rattle.records.specs.declared.Edge.{Edge}
-use Rattle.records.specs.declared.Edge.the-variants.{Rising}
 use Rattle.cut_lines.specs.Texts.{Text}
+use Rattle.rules.specs.Component.{pinIn}
 use Rattle.rules.specs.Outline.{is}
-use Rattle.rules.specs.Whole.{bound, waveformBound}
-use Rattle.rules.specs.Reading.{pinIn, componentIn, choiceIn, modelIn, WaveformIs, waveformIn, ModelIs, under, isWithin, keyAt}
-use Rattle.layout.specs.Laid.{Laid, componentLaid, pinLaid, selectorLaid, choiceLaid, modelLaid, waveformLaid, allRows}
+use Rattle.rules.specs.Whole.{bound}
+use Rattle.rules.specs.Reading.{under, isWithin, pinsIn, componentIn, choiceIn, choicesIn, modelIn, TableIs, tablesIn, waveformIn}
+use Rattle.rules.specs.Keys.{keyAt, byKeyword}
+use Rattle.layout.specs.Laid.{Laid, countsOf, rowsOf, tableAt, waveformsLaid}
+use Rattle.records.specs.Bounds.{mostWaveforms}
+use Rattle.records.specs.Stored.{nameLaid}
 use Rattle.records.specs.declared.Kind.{Kind}
 use Rattle.records.specs.declared.Kind.the-variants.{OfComponent, OfPin, OfSelector, OfChoice, OfModel}
 use Rattle.records.specs.declared.Lengths.{Lengths}
+use Rattle.records.specs.declared.Counts.{Counts}
 use Rattle.records.specs.declared.Row.{Row}
 use Rattle.records.specs.declared.Component.{Component}
 use Rattle.records.specs.declared.Pin.{Pin}
 use Rattle.records.specs.declared.Selector.{Selector}
 use Rattle.records.specs.declared.Choice.{Choice}
 use Rattle.records.specs.declared.Model.{Model}
+use Rattle.records.specs.declared.Edge.{Edge}
+use Rattle.records.specs.declared.Edge.the-variants.{Rising}
 use Rattle.records.specs.declared.Waveform as laidWaveform
 use Rattle.notes.specs.Noted.{Note, entryOf, Wave, Log}
-use Rattle.records.specs.declared.Counts.{Counts}
 
 -- ---- the notes of one kind, in file order
 
@@ -45,28 +48,32 @@ noted k g = reverse (pick (isOf k) (g .notes))
 
 -- ---- the record of a note. A section's texts are those behind its keyword, up to the next section's keyword or [End]
 
+abbrev pub textsNoted : Note → List Text
+textsNoted n = front isWithin (n .behind)
+
 unfoldable pub componentNoted : Note → Component
-componentNoted n = componentLaid (n .section) (n .start) (componentIn (n .name) (front isWithin (n .behind)))
+componentNoted n = componentIn (n .section) (record { start = n .start; count = length (pinsIn (textsNoted n)) }) (n .name) (textsNoted n)
 
 unfoldable pub pinNoted : Note → Pin
-pinNoted n = pinLaid (pinIn (n .text))
+pinNoted n = pinIn (n .text)
 
 unfoldable pub selectorNoted : Note → Selector
 selectorNoted n =
-    selectorLaid (n .section) (n .start) (record { name = n .name; choices = map choiceIn (under (front isWithin (n .behind))) })
+    record { section = n .section; name = nameLaid (n .name); choices = record { start = n .start; count = length (choicesIn (textsNoted n)) } }
 
 unfoldable pub choiceNoted : Note → Choice
-choiceNoted n = choiceLaid (choiceIn (n .text))
+choiceNoted n = choiceIn (n .text)
 
-unfoldable pub modelRead : Note → ModelIs
-modelRead n = modelIn (n .name) (front isWithin (n .behind))
+-- the tables of a noted model, and their rows
+abbrev pub tablesNoted : Note → List TableIs
+tablesNoted n = tablesIn (textsNoted n)
 
 unfoldable pub modelNoted : Note → Model
-modelNoted n = modelLaid (n .section) (n .row) (n .start) (modelRead n)
+modelNoted n =
+    modelIn (n .section) (tableAt (tablesNoted n) (n .row)) (record { start = n .start; count = length (waveformsLaid (tablesNoted n) (n .row)) }) (n .name) (textsNoted n)
 
--- the rows of all tables of a noted model
 unfoldable pub rowsNoted : Note → List Row
-rowsNoted n = allRows (modelRead n .tables)
+rowsNoted n = flatMap rowsOf (tablesNoted n)
 
 -- ---- the record of a waveform's note: its texts begin with its keyword
 
@@ -79,35 +86,17 @@ partEdge Ramp = Rising
 partEdge (Waveform e) = e
 
 abbrev pub keyEdge : Option Keyword → Edge
-keyEdge none = Rising
-keyEdge (some key.IbisVer) = Rising
-keyEdge (some (key.InHeader p)) = Rising
-keyEdge (some (key.Opens o)) = Rising
-keyEdge (some (key.InComponent p)) = Rising
-keyEdge (some (key.InModel p)) = partEdge p
-keyEdge (some key.End) = Rising
+keyEdge k = byKeyword Rising (λ p. Rising) (λ o. Rising) (λ p. Rising) partEdge Rising k
 
-unfoldable pub waveformFrom : List Text → WaveformIs
-waveformFrom [] = waveformIn Rising []
-waveformFrom (t ∷ ts) = waveformIn (keyEdge (keyAt t)) (under ts)
+-- row is the place of its first row
+unfoldable pub waveformFrom : ℕ → List Text → laidWaveform.Waveform
+waveformFrom row [] = waveformIn row Rising []
+waveformFrom row (t ∷ ts) = waveformIn row (keyEdge (keyAt t)) (under ts)
 
 unfoldable pub waveNoted : Wave → laidWaveform.Waveform
-waveNoted w = waveformLaid (w .row) (waveformFrom (w .from))
+waveNoted w = waveformFrom (w .row) (w .from)
 
 -- ---- the tables lie as noted
-
--- how much of each table is used
-abbrev pub countsOf : Laid → Counts
-countsOf a =
-    record {
-      components = length (a .components);
-      pins = length (a .pins);
-      selectors = length (a .selectors);
-      choices = length (a .choices);
-      models = length (a .models);
-      waveforms = length (a .waveforms);
-      rows = length (a .rows);
-    }
 
 pub record Lies (g : Log) (a : Laid) : Type 0 where
   pub components : a .components ≡ map componentNoted (noted OfComponent g)
@@ -127,7 +116,7 @@ pub record Bounded (l : Lengths) (c : Counts) : Type 0 where
   pub selectors : c .selectors ≤ bound l OfSelector
   pub choices : c .choices ≤ bound l OfChoice
   pub models : c .models ≤ bound l OfModel
-  pub waveforms : c .waveforms ≤ waveformBound l
+  pub waveforms : c .waveforms ≤ min mostWaveforms (l .waveforms)
   pub rows : c .rows ≤ l .rows
 
 pub record Fits (l : Lengths) (c : Counts) : Type 0 where

@@ -3,38 +3,58 @@ use Prim.Native.Nat.{ℕ, _≤_, _<_}
 use mathlib.Core.Path.{_≡_, refl, sym, ap, _∙_}
 use mathlib.Core.List.{List, [], _∷_}
 use mathlib.Core.Bool.{Bool, true, false, cond, _&&_}
-use mathlib.Core.Option.{Option, none, some}
 use native.Mathlib.Omega.{arith}
 use lib.ListN.{length}
-use Rattle.laws.specs.Bytes.{bytes}
+use Rattle.laws.specs.Bytes.{bytes, isBlank}
 use Rattle.laws.specs.Lists.{eqs}
-use Rattle.laws.proofs.Tests.{cond-yes, cond-no, cond-same, cond-map, and-both, and-left, and-right}
-use Rattle.line_rules.specs.Fields.{heading}
-use Rattle.line_cells.specs.Headings.{headingRead, restRead}
+use Rattle.laws.specs.Said.{Said, says, fault, faultIn, orElse}
+use Rattle.laws.proofs.Tests.{cond-yes, cond-no, and-both, and-left, and-right}
+use Rattle.words.specs.Words.{words, grown, onto}
+use Rattle.line_rules.specs.Fields.{sameWords, heading}
+use Rattle.line_cells.specs.Headings.{headingRead, headingFault, isLong, restRead}
+use Rattle.line_cells.specs.declared.HeadingRead.{HeadingRead}
 use Rattle.line_cells.specs.declared.HeadingRead.the-variants.{Short, Long, NoHeading}
-
--- `s && (t && u)` asked in two steps
-two-steps : (s t u : Bool) → headingRead (cond (s && (t && u)) (some true) none) ≡ cond (s && t) (cond u Long NoHeading) NoHeading
-two-steps true true true = refl
-two-steps true true false = refl
-two-steps true false u = refl
-two-steps false t u = refl
 
 abbrev areNamed : List ℕ → List ℕ → Bool
 areNamed a b = eqs a (bytes "signal_name") && eqs b (bytes "model_name")
 
+-- by the tests of the two names, and of what stands behind them
+heading-by : (x y short long : Bool)
+    → headingRead (cond (x && (y && short)) (says false) (cond (x && (y && long)) (says true) (fault 10)))
+    ≡ cond (x && y) (cond short Short (cond long Long NoHeading)) NoHeading
+heading-by true true true long = refl
+heading-by true true false true = refl
+heading-by true true false false = refl
+heading-by true false short long = refl
+heading-by false y short long = refl
+
+and-true : (t : Bool) → (t && true) ≡ t
+and-true true = refl
+and-true false = refl
+
+abbrev cells : List (List ℕ)
+cells = bytes "R_pin" ∷ bytes "L_pin" ∷ bytes "C_pin" ∷ []
+
+rest-by : (ws : List (List ℕ)) → cond (sameWords ws []) Short (cond (sameWords ws cells) Long NoHeading) ≡ restRead ws
+unfolding sameWords restRead
+rest-by [] = refl
+rest-by (a ∷ []) = cond-no _ _ (and-right (eqs a (bytes "R_pin")) _ refl)
+rest-by (a ∷ b ∷ []) = cond-no _ _ (and-right (eqs a (bytes "R_pin")) _ (and-right (eqs b (bytes "L_pin")) _ refl))
+rest-by (a ∷ b ∷ c ∷ []) =
+    ap (λ (t : Bool). cond (eqs a (bytes "R_pin") && (eqs b (bytes "L_pin") && t)) Long NoHeading) (and-true (eqs c (bytes "C_pin")))
+rest-by (a ∷ b ∷ c ∷ d ∷ ws) =
+    cond-no _ _ (and-right (eqs a (bytes "R_pin")) _ (and-right (eqs b (bytes "L_pin")) _ (and-right (eqs c (bytes "C_pin")) _ refl)))
+
 heading-from : (a b : List ℕ) (ws : List (List ℕ)) → headingRead (heading (a ∷ b ∷ ws)) ≡ cond (areNamed a b) (restRead ws) NoHeading
-unfolding heading restRead
-heading-from a b [] = cond-map headingRead (areNamed a b) (some false) none
-heading-from a b (c ∷ []) = cond-same (areNamed a b) NoHeading
-heading-from a b (c ∷ d ∷ []) = cond-same (areNamed a b) NoHeading
-heading-from a b (c ∷ d ∷ e ∷ []) = two-steps (eqs a (bytes "signal_name")) (eqs b (bytes "model_name")) _
-heading-from a b (c ∷ d ∷ e ∷ f ∷ ws) = cond-same (areNamed a b) NoHeading
+unfolding heading sameWords words grown onto isBlank
+heading-from a b ws =
+    heading-by (eqs a (bytes "signal_name")) (eqs b (bytes "model_name")) (sameWords ws []) (sameWords ws cells)
+    ∙ ap (λ (r : HeadingRead). cond (areNamed a b) r NoHeading) (rest-by ws)
 
 pub heading-few : (ws : List (List ℕ)) → length ws ≤ 1 → NoHeading ≡ headingRead (heading ws)
-unfolding heading
+unfolding heading sameWords words grown onto isBlank
 heading-few [] h = refl
-heading-few (a ∷ []) h = refl
+heading-few (a ∷ []) h = rw (and-right (eqs a (bytes "signal_name")) false refl)
 heading-few (a ∷ b ∷ ws) h = absurd (omega arith)
 
 module _ {all : List (List ℕ)} {a b : List ℕ} {ws : List (List ℕ)} (e : all ≡ a ∷ b ∷ ws) where
@@ -82,17 +102,18 @@ module _ {ws : List (List ℕ)} {a b c : List ℕ} (e : ws ≡ a ∷ b ∷ c ∷
 
 -- ---- what the code's answer says of the heading
 
-pub read-short : (h : Option Bool) → headingRead h ≡ Short → h ≡ some false
-read-short none e = cc
-read-short (some false) e = refl
-read-short (some true) e = cc
+fault-by : (short long : Bool)
+    → faultIn (cond short (says false) (cond long (says true) (fault 10))) ≡ headingFault (headingRead (cond short (says false) (cond long (says true) (fault 10))))
+fault-by true long = refl
+fault-by false true = refl
+fault-by false false = refl
 
-pub read-long : (h : Option Bool) → headingRead h ≡ Long → h ≡ some true
-read-long none e = cc
-read-long (some false) e = cc
-read-long (some true) e = refl
+pub heading-fault : (ws : List (List ℕ)) → faultIn (heading ws) ≡ headingFault (headingRead (heading ws))
+unfolding heading
+heading-fault ws =
+    fault-by (sameWords ws (words (bytes "signal_name model_name"))) (sameWords ws (words (bytes "signal_name model_name R_pin L_pin C_pin")))
 
-pub read-none : (h : Option Bool) → headingRead h ≡ NoHeading → h ≡ none
-read-none none e = refl
-read-none (some false) e = cc
-read-none (some true) e = cc
+pub heading-long : (h : Said Bool) → orElse false h ≡ isLong (headingRead h)
+heading-long (says true) = refl
+heading-long (says false) = refl
+heading-long (fault n) = refl

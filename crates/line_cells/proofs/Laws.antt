@@ -3,71 +3,118 @@ use Prim.Native.Nat.{ℕ, _+_, _≤_, _<_}
 use Prim.Native.Char.{code}
 use mathlib.Core.Path.{_≡_, refl, sym, ap, _∙_}
 use mathlib.Core.List.{List, [], _∷_}
-use mathlib.Core.Bool.{true, false}
+use mathlib.Core.Bool.{true, false, cond}
 use native.Mathlib.Omega.{arith}
 use lib.ListN.{length, take, drop, getD, drop-of-length-le, length-drop}
+use lib.Dec.{eqb}
 use borrow.Author.Tests.{eq-eqb, ne-eqb, lt-ltb, le-ltb}
+use Rattle.laws.specs.Bytes.{isBlank}
 use Rattle.laws.specs.Lists.{front, after, other, part}
+use Rattle.laws.specs.Said.{Said, says, fault, readOn}
 use Rattle.laws.proofs.Tests.{cond-yes, cond-no, and-both, and-left, and-right}
 use Rattle.laws.proofs.Lists.{from-cons, part-rest}
 use Rattle.laws.proofs.Fronts.{front-take, after-drop, among-found}
 use Rattle.decimal.specs.Decimal.{numberOf, cellOf}
-use Rattle.decimal.specs.declared.NumberRead.the-variants.{Wrong}
-use Rattle.words.specs.Words.{words}
-use Rattle.words.specs.declared.Word.{Word}
-use Rattle.line_rules.specs.Fields.{withTyp, threeCells, rowOf, slopeOf, slopeFrom, slopeOrMissing, twoFaults, ratioOf, isUpward, upward, slopesTyp, threeSlopes}
-use Rattle.line_rules.specs.declared.TripleRead.the-variants.{Flawed}
-use Rattle.line_rules.specs.declared.RowRead.the-variants.{Amiss}
-use Rattle.line_rules.specs.declared.RampCellRead.the-variants.{Faulted}
+use Rattle.decimal.specs.Answers.{numberRead, cellRead, numberSays, cellSays}
+use Rattle.decimal.specs.declared.Cell.{Cell}
+use Rattle.decimal.specs.declared.NumberRead.{NumberRead}
+use Rattle.decimal.specs.declared.CellRead.{CellRead}
+use Rattle.decimal.proofs.Answers.{number-said, cell-said}
+use Rattle.records.specs.Stored.{noCells}
+use Rattle.records.specs.declared.Triple.{Triple}
+use Rattle.records.specs.declared.RampCell.{RampCell}
 use Rattle.records.specs.declared.RampTriple.{RampTriple}
+use Rattle.words.specs.Words.{word, words}
+use Rattle.words.specs.declared.Word.{Word}
+use Rattle.words.proofs.Laws.{words-none, words-some}
+use Rattle.line_rules.specs.Fields.{exactly, typMinMax, cellsBy, rowOf, slopeOf, slopeFrom, slopeOrMissing, ratioOf, isUpward, upward, threeSlopes}
+use Rattle.line_rules.specs.Answers.{tripleRead, rowRead, slopeRead, rampRead, tripleSays, slopeSays}
+use Rattle.line_rules.specs.declared.TripleRead.{TripleRead}
+use Rattle.line_rules.specs.declared.TripleRead.the-variants.{Cells, Flawed}
+use Rattle.line_rules.specs.declared.RowRead.the-variants.{Amiss}
+use Rattle.line_rules.specs.declared.RampCellRead.{RampCellRead}
+use Rattle.line_rules.specs.declared.RampCellRead.the-variants.{Faulted}
 use Rattle.line_rules.specs.declared.RampRead.the-variants.{Slopes, Refused}
+use Rattle.line_rules.proofs.Answers.{triple-said, slope-said}
+use Rattle.rules.specs.Component.{pinCells}
 use Rattle.line_cells.specs.Threes.{bytesOf, ThreeAre}
 
 -- ---- words that are too few or too many
 
-pub three-other : (ws : List (List ℕ)) → (length ws ≡ 3 → ⊥) → threeCells ws ≡ Flawed 10
-unfolding threeCells
-three-other [] h = refl
-three-other (a ∷ []) h = refl
-three-other (a ∷ b ∷ []) h = refl
-three-other (a ∷ b ∷ c ∷ []) h = absurd (h refl)
-three-other (a ∷ b ∷ c ∷ d ∷ ws) h = refl
+pub cells-other : (typ : List ℕ → Said Cell) (ws : List (List ℕ)) → (length ws ≡ 3 → ⊥) → Flawed 10 ≡ tripleRead (cellsBy typ ws)
+unfolding cellsBy exactly
+cells-other typ ws h = ap tripleRead (sym (cond-no _ _ (ne-eqb (length ws) 3 h)))
 
-pub row-other : (ws : List (List ℕ)) → (length ws ≡ 4 → ⊥) → rowOf ws ≡ Amiss 10
-unfolding rowOf
-row-other [] h = refl
-row-other (a ∷ []) h = refl
-row-other (a ∷ b ∷ []) h = refl
-row-other (a ∷ b ∷ c ∷ []) h = refl
-row-other (a ∷ b ∷ c ∷ d ∷ []) h = absurd (h refl)
-row-other (a ∷ b ∷ c ∷ d ∷ e ∷ ws) h = refl
+pub row-other : (ws : List (List ℕ)) → (length ws ≡ 4 → ⊥) → Amiss 10 ≡ rowRead (rowOf ws)
+unfolding rowOf exactly
+row-other ws h = ap rowRead (sym (cond-no _ _ (ne-eqb (length ws) 4 h)))
 
-pub slopes-other : (ws : List (List ℕ)) → (length ws ≡ 3 → ⊥) → threeSlopes ws ≡ Refused 10
-unfolding threeSlopes
-slopes-other [] h = refl
-slopes-other (a ∷ []) h = refl
-slopes-other (a ∷ b ∷ []) h = refl
-slopes-other (a ∷ b ∷ c ∷ []) h = absurd (h refl)
-slopes-other (a ∷ b ∷ c ∷ d ∷ ws) h = refl
+pub slopes-other : (ws : List (List ℕ)) → (length ws ≡ 3 → ⊥) → Refused 10 ≡ rampRead (threeSlopes ws)
+unfolding threeSlopes exactly
+slopes-other ws h = ap rampRead (sym (cond-no _ _ (ne-eqb (length ws) 3 h)))
 
--- ---- just three words
+-- ---- a pin row's cells, by the place where the blanks from `at` on end
 
-module _ {s : List ℕ} {at : ℕ} {a b c : Word} (t : ThreeAre s at a b c) where
-  pub three-cells : withTyp (numberOf (bytesOf s a)) (cellOf (bytesOf s b)) (cellOf (bytesOf s c)) ≡ threeCells (words (drop at s))
-  unfolding threeCells
-  three-cells = sym (ap threeCells (t .are))
+module _ (s : List ℕ) (at start : ℕ) (e : start ≡ at + length (front isBlank (drop at s))) where
+  pub pin-cells-none : length s ≤ start → Cells noCells ≡ tripleRead (pinCells (words (drop at s)))
+  unfolding pinCells
+  pin-cells-none h = sym (ap (λ (ws : List (List ℕ)). tripleRead (pinCells ws)) (words-none s at start e h))
 
-  pub three-slopes : slopesTyp (slopeOf (bytesOf s a)) (slopeOrMissing (bytesOf s b)) (slopeOrMissing (bytesOf s c)) ≡ threeSlopes (words (drop at s))
-  unfolding threeSlopes
-  three-slopes = sym (ap threeSlopes (t .are))
+  pub pin-cells-some : start < length s → tripleRead (cellsBy cellOf (words (drop at s))) ≡ tripleRead (pinCells (words (drop at s)))
+  unfolding pinCells
+  pin-cells-some h =
+      let n : 0 < length (words (drop at s)) = omega (arith, ap length (words-some s at start e h _ refl)) in
+      ap tripleRead (sym (cond-no _ _ (ne-eqb (length (words (drop at s))) 0 (λ z. omega arith))))
+
+-- ---- just as many as there must be
+
+abbrev kept : Cell → Cell → Cell → Triple
+kept typ min max = record { typ = typ; min = min; max = max }
+
+-- faults of the words before 13
+on-upward : (p q r : Said RampCell)
+    → readOn p (λ typ. readOn q (λ min. readOn r (λ max. upward (record { typ = typ; min = min; max = max }))))
+    ≡ readOn (typMinMax (λ typ min max. record { typ = typ; min = min; max = max }) p q r) upward
+on-upward (says a) (says b) (says c) = refl
+on-upward (says a) (says b) (fault n) = refl
+on-upward (says a) (fault n) r = refl
+on-upward (fault n) q r = refl
+
+-- three answers, by what they say
+module _ (typ : List ℕ → Said Cell) {s : List ℕ} {at : ℕ} {a b c : Word} (t : ThreeAre s at a b c) {p q r : CellRead} where
+  pub three-cells : p ≡ cellRead (typ (bytesOf s a)) → q ≡ cellRead (cellOf (bytesOf s b)) → r ≡ cellRead (cellOf (bytesOf s c))
+      → tripleRead (typMinMax kept (cellSays p) (cellSays q) (cellSays r)) ≡ tripleRead (cellsBy typ (words (drop at s)))
+  unfolding cellsBy exactly word
+  three-cells e f g =
+      rw (cell-said p (typ (bytesOf s a)) e, cell-said q (cellOf (bytesOf s b)) f, cell-said r (cellOf (bytesOf s c)) g)
+      (sym (ap (λ (ws : List (List ℕ)). tripleRead (cellsBy typ ws)) (t .are)))
+
+module _ {s : List ℕ} {at : ℕ} {a b c : Word} (t : ThreeAre s at a b c) {p q r : RampCellRead} where
+  pub three-slopes : p ≡ slopeRead (slopeOf (bytesOf s a)) → q ≡ slopeRead (slopeOrMissing (bytesOf s b)) → r ≡ slopeRead (slopeOrMissing (bytesOf s c))
+      → rampRead (readOn (slopeSays p) (λ typ. readOn (slopeSays q) (λ min. readOn (slopeSays r) (λ max. upward (record { typ = typ; min = min; max = max })))))
+      ≡ rampRead (threeSlopes (words (drop at s)))
+  unfolding threeSlopes exactly word
+  three-slopes e f g =
+      rw (slope-said p (slopeOf (bytesOf s a)) e, slope-said q (slopeOrMissing (bytesOf s b)) f, slope-said r (slopeOrMissing (bytesOf s c)) g)
+      (ap rampRead (on-upward (slopeOf (bytesOf s a)) (slopeOrMissing (bytesOf s b)) (slopeOrMissing (bytesOf s c))) ∙ sym (ap (λ (ws : List (List ℕ)). rampRead (threeSlopes ws)) (t .are)))
+
+-- four words: a number, and three cells
+pub row-four : {ws : List (List ℕ)} {a b c d : List ℕ} → ws ≡ a ∷ b ∷ c ∷ d ∷ [] → {n : NumberRead} {t : TripleRead} {p q r : CellRead}
+    → n ≡ numberRead (numberOf a) → t ≡ tripleRead (typMinMax kept (cellSays p) (cellSays q) (cellSays r))
+    → p ≡ cellRead (cellOf b) → q ≡ cellRead (cellOf c) → r ≡ cellRead (cellOf d)
+    → rowRead (readOn (numberSays n) (λ number. readOn (tripleSays t) (λ cells. says (record { number = number; cells = cells })))) ≡ rowRead (rowOf ws)
+unfolding rowOf cellsBy exactly word
+row-four {ws} {a} {b} {c} {d} e {n} {t} {p} {q} {r} f g h i j =
+    rw (number-said n (numberOf a) f, triple-said t (typMinMax kept (cellSays p) (cellSays q) (cellSays r)) g, cell-said p (cellOf b) h, cell-said q (cellOf c) i, cell-said r (cellOf d) j)
+    (sym (ap (λ (vs : List (List ℕ)). rowRead (rowOf vs)) e))
 
 -- ---- a slope
 
-pub both-first : (n m : ℕ) → n ≡ 12 → Faulted m ≡ twoFaults n (Wrong m)
-both-first n m h = sym (ap Faulted (cond-yes m n (eq-eqb n 12 h)))
+pub both-first : (n m : ℕ) → m ≡ 11 → Faulted 11 ≡ slopeRead (fault (cond (eqb m 11) 11 n))
+both-first n m h = sym (ap Faulted (cond-yes 11 n (eq-eqb m 11 h)))
 
-pub both-second : (n m : ℕ) → (n ≡ 12 → ⊥) → Faulted n ≡ twoFaults n (Wrong m)
-both-second n m h = sym (ap Faulted (cond-no m n (ne-eqb n 12 h)))
+pub both-second : (n m : ℕ) → (m ≡ 11 → ⊥) → Faulted n ≡ slopeRead (fault (cond (eqb m 11) 11 n))
+both-second n m h = sym (ap Faulted (cond-no 11 n (ne-eqb m 11 h)))
 
 abbrev slash : ℕ
 slash = code "/"
@@ -82,9 +129,9 @@ module _ (w : List ℕ) (i : ℕ) (e : i ≡ 0 + length (front (other slash) w))
   before : front (other slash) w ≡ take i w
   before = sym (front-take (other slash) w) ∙ ap (λ (n : ℕ). take n w) size
 
-  pub slope-none : length w ≤ i → Faulted 11 ≡ slopeOf w
+  pub slope-none : length w ≤ i → Faulted 11 ≡ slopeRead (slopeOf w)
   unfolding slopeOf slopeFrom
-  slope-none h = sym (ap (slopeFrom (front (other slash) w)) (from ∙ drop-of-length-le w h))
+  slope-none h = ap slopeRead (sym (ap (slopeFrom (front (other slash) w)) (from ∙ drop-of-length-le w h)))
 
   module _ (h : i < length w) (j : ℕ) (q : j ≡ i + 1 + length (front (other slash) (drop (i + 1) w))) where
     opened : slopeOf w ≡ slopeFrom (take i w) (getD w i 0 ∷ drop (i + 1) w)
@@ -93,34 +140,36 @@ module _ (w : List ℕ) (i : ℕ) (e : i ≡ 0 + length (front (other slash) w))
         ap (slopeFrom (front (other slash) w)) (from ∙ from-cons w i 0 h)
         ∙ ap (λ (f : List ℕ). slopeFrom f (getD w i 0 ∷ drop (i + 1) w)) before
 
-    pub slope-two : j < length w → Faulted 11 ≡ slopeOf w
+    pub slope-two : j < length w → Faulted 11 ≡ slopeRead (slopeOf w)
     unfolding slopeFrom
     slope-two k =
         let l : length (front (other slash) (drop (i + 1) w)) < length (drop (i + 1) w) = omega (arith, length-drop (i + 1) w) in
-        sym (opened ∙ cond-yes _ _ (among-found slash (drop (i + 1) w) ∙ lt-ltb _ _ l))
+        ap slopeRead (sym (opened ∙ cond-yes _ _ (among-found slash (drop (i + 1) w) ∙ lt-ltb _ _ l)))
 
-    pub slope-one : length w ≤ j → ratioOf (numberOf (take i w)) (numberOf (part (i + 1) (length w) w)) ≡ slopeOf w
+    pub slope-one : length w ≤ j → {x y : NumberRead} → x ≡ numberRead (numberOf (take i w)) → y ≡ numberRead (numberOf (part (i + 1) (length w) w))
+        → slopeRead (ratioOf (numberSays x) (numberSays y)) ≡ slopeRead (slopeOf w)
     unfolding slopeFrom
-    slope-one k =
+    slope-one k {x} {y} f g =
         let l : length (drop (i + 1) w) ≤ length (front (other slash) (drop (i + 1) w)) = omega (arith, length-drop (i + 1) w) in
-        ap (λ (f : List ℕ). ratioOf (numberOf (take i w)) (numberOf f)) (part-rest w (i + 1))
-        ∙ sym (opened ∙ cond-no _ _ (among-found slash (drop (i + 1) w) ∙ le-ltb _ _ l))
+        rw (number-said x (numberOf (take i w)) f, number-said y (numberOf (part (i + 1) (length w) w)) g)
+        (ap (λ (l : List ℕ). slopeRead (ratioOf (numberOf (take i w)) (numberOf l))) (part-rest w (i + 1))
+        ∙ ap slopeRead (sym (opened ∙ cond-no _ _ (among-found slash (drop (i + 1) w) ∙ le-ltb _ _ l))))
 
 -- ---- divisors
 
 module _ (t : RampTriple) where
-  pub upward-typ : isUpward (t .typ) ≡ false → Refused 13 ≡ upward t
+  pub upward-typ : isUpward (t .typ) ≡ false → Refused 13 ≡ rampRead (upward t)
   unfolding upward
-  upward-typ h = sym (cond-no _ _ (and-left (isUpward (t .typ)) _ h))
+  upward-typ h = ap rampRead (sym (cond-no _ _ (and-left (isUpward (t .typ)) _ h)))
 
-  pub upward-min : isUpward (t .min) ≡ false → Refused 13 ≡ upward t
+  pub upward-min : isUpward (t .min) ≡ false → Refused 13 ≡ rampRead (upward t)
   unfolding upward
-  upward-min h = sym (cond-no _ _ (and-right (isUpward (t .typ)) _ (and-left (isUpward (t .min)) _ h)))
+  upward-min h = ap rampRead (sym (cond-no _ _ (and-right (isUpward (t .typ)) _ (and-left (isUpward (t .min)) _ h))))
 
-  pub upward-max : isUpward (t .max) ≡ false → Refused 13 ≡ upward t
+  pub upward-max : isUpward (t .max) ≡ false → Refused 13 ≡ rampRead (upward t)
   unfolding upward
-  upward-max h = sym (cond-no _ _ (and-right (isUpward (t .typ)) _ (and-right (isUpward (t .min)) _ h)))
+  upward-max h = ap rampRead (sym (cond-no _ _ (and-right (isUpward (t .typ)) _ (and-right (isUpward (t .min)) _ h))))
 
-  pub upward-all : isUpward (t .typ) ≡ true → isUpward (t .min) ≡ true → isUpward (t .max) ≡ true → Slopes t ≡ upward t
+  pub upward-all : isUpward (t .typ) ≡ true → isUpward (t .min) ≡ true → isUpward (t .max) ≡ true → Slopes t ≡ rampRead (upward t)
   unfolding upward
-  upward-all a b c = sym (cond-yes _ _ (and-both (isUpward (t .typ)) _ a (and-both (isUpward (t .min)) _ b c)))
+  upward-all a b c = ap rampRead (sym (cond-yes _ _ (and-both (isUpward (t .typ)) _ a (and-both (isUpward (t .min)) _ b c))))

@@ -3,9 +3,17 @@ ghost use mathlib.Core.Path.{_≡_};
 ghost use Prim.Native.Nat.{_≤_};
 ghost use lib.ListN.{length, drop};
 ghost use Rattle.laws.specs.Lists.{eqs};
-ghost use Rattle.decimal.specs.Decimal.{numberOf, cellOf};
+ghost use mathlib.Core.Bool.{cond};
+ghost use lib.Dec.{eqb};
+ghost use Rattle.laws.specs.Said.{says, fault, faultIn, orElse, readOn};
+ghost use Rattle.decimal.specs.Decimal.{numberOf, givenCell, cellOf};
+ghost use Rattle.decimal.specs.Answers.{numberRead, cellRead, numberSays, cellSays};
+ghost use Rattle.decimal.specs.declared.Cell.the-variants.{Missing};
+ghost use Rattle.records.specs.Stored.{noCells};
 ghost use Rattle.words.specs.Words.{words};
-ghost use Rattle.line_rules.specs.Fields.{threeCells, withTyp, withMin, withMax, tableCells, onRow, withNumber, rowOf, slopeOf, slopeOrMissing, ratioOf, twoFaults, isUpward, upward, slopesTyp, slopesMin, slopesMax, threeSlopes, numberFault, cellFault, tripleFault, rampFault, heading, numberIs, tripleIs};
+ghost use Rattle.line_rules.specs.Fields.{typMinMax, threeCells, cellsBy, rowOf, slopeOf, slopeOrMissing, ratioOf, isUpward, upward, threeSlopes, heading};
+ghost use Rattle.line_rules.specs.Answers.{tripleRead, rowRead, slopeRead, rampRead, tripleSays, slopeSays, rampSays};
+ghost use Rattle.rules.specs.Component.{pinCells};
 ghost use Rattle.line_cells.specs.Headings.{headingRead, restRead};
 ghost use Rattle.line_cells.specs.Threes.{bytesOf, Within, ThreeFrom};
 use decimal::Cell;
@@ -39,16 +47,25 @@ pub enum HeadingRead {
 
 fn number_at(w: &[u8], r: Word) -> NumberRead
     requires { ⌜ Within (now w) r ⌝ }
-    ensures { λ n. ⌜ n ≡ numberOf (bytesOf (now (w .entry)) r) ⌝ }
+    ensures { λ n. ⌜ n ≡ numberRead (numberOf (bytesOf (now (w .entry)) r)) ⌝ }
 {
     let start = r.start;
     let end = r.end;
     decimal::number_of(&w[start..end])
 }
 
+fn given_at(w: &[u8], r: Word) -> CellRead
+    requires { ⌜ Within (now w) r ⌝ }
+    ensures { λ n. ⌜ n ≡ cellRead (givenCell (bytesOf (now (w .entry)) r)) ⌝ }
+{
+    let start = r.start;
+    let end = r.end;
+    decimal::given_cell(&w[start..end])
+}
+
 fn cell_at(w: &[u8], r: Word) -> CellRead
     requires { ⌜ Within (now w) r ⌝ }
-    ensures { λ n. ⌜ n ≡ cellOf (bytesOf (now (w .entry)) r) ⌝ }
+    ensures { λ n. ⌜ n ≡ cellRead (cellOf (bytesOf (now (w .entry)) r)) ⌝ }
 {
     let start = r.start;
     let end = r.end;
@@ -85,7 +102,7 @@ pub fn three_words(w: &[u8], at: usize) -> ThreeWords
 // ---- three cells and a table's row: the leftmost fault counts
 
 fn with_max(typ: Cell, min: Cell, c: CellRead) -> TripleRead
-    ensures { λ r. ⌜ r ≡ withMax typ min c ⌝ }
+    ensures { λ r. ⌜ r ≡ tripleRead (readOn (cellSays c) (λ max. says (record { typ = typ; min = min; max = max }))) ⌝ }
 {
     match c {
         CellRead::Bad(fault) => TripleRead::Flawed(fault),
@@ -98,7 +115,7 @@ fn with_max(typ: Cell, min: Cell, c: CellRead) -> TripleRead
 }
 
 fn with_min(typ: Cell, b: CellRead, c: CellRead) -> TripleRead
-    ensures { λ r. ⌜ r ≡ withMin typ b c ⌝ }
+    ensures { λ r. ⌜ r ≡ tripleRead (readOn (cellSays b) (λ min. readOn (cellSays c) (λ max. says (record { typ = typ; min = min; max = max })))) ⌝ }
 {
     match b {
         CellRead::Bad(fault) => TripleRead::Flawed(fault),
@@ -106,29 +123,8 @@ fn with_min(typ: Cell, b: CellRead, c: CellRead) -> TripleRead
     }
 }
 
-fn with_typ(a: NumberRead, b: CellRead, c: CellRead) -> TripleRead
-    ensures { λ r. ⌜ r ≡ withTyp a b c ⌝ }
-{
-    match a {
-        NumberRead::Wrong(fault) => TripleRead::Flawed(fault),
-        NumberRead::Value(typ) => with_min(Cell::Number(typ), b, c),
-    }
-}
-
-// Three words and no more, from a place on: a number and two cells.
-pub fn three_cells(w: &[u8], at: usize) -> TripleRead
-    requires { ⌜ at ≤ length (now w) ⌝ }
-    ensures { λ r. ⌜ r ≡ threeCells (words (drop at (now (w .entry)))) ⌝ }
-{
-    match three_words(w, at) {
-        ThreeWords::Three { a, b, c } => with_typ(number_at(w, a), cell_at(w, b), cell_at(w, c)),
-        ThreeWords::Other => TripleRead::Flawed(10),
-    }
-}
-
-// Inside a table typ may be missing.
-fn table_cells(a: CellRead, b: CellRead, c: CellRead) -> TripleRead
-    ensures { λ r. ⌜ r ≡ tableCells a b c ⌝ }
+fn cells_from(a: CellRead, b: CellRead, c: CellRead) -> TripleRead
+    ensures { λ r. ⌜ r ≡ tripleRead (typMinMax (λ typ min max. record { typ = typ; min = min; max = max }) (cellSays a) (cellSays b) (cellSays c)) ⌝ }
 {
     match a {
         CellRead::Bad(fault) => TripleRead::Flawed(fault),
@@ -136,8 +132,41 @@ fn table_cells(a: CellRead, b: CellRead, c: CellRead) -> TripleRead
     }
 }
 
+// Three words and no more, from a place on: a number and two cells.
+pub fn three_cells(w: &[u8], at: usize) -> TripleRead
+    requires { ⌜ at ≤ length (now w) ⌝ }
+    ensures { λ r. ⌜ r ≡ tripleRead (threeCells (words (drop at (now (w .entry))))) ⌝ }
+{
+    match three_words(w, at) {
+        ThreeWords::Three { a, b, c } => cells_from(given_at(w, a), cell_at(w, b), cell_at(w, c)),
+        ThreeWords::Other => TripleRead::Flawed(10),
+    }
+}
+
+// Three words and no more, from a place on: three cells, of which typ may be missing too.
+pub fn any_cells(w: &[u8], at: usize) -> TripleRead
+    requires { ⌜ at ≤ length (now w) ⌝ }
+    ensures { λ r. ⌜ r ≡ tripleRead (cellsBy cellOf (words (drop at (now (w .entry))))) ⌝ }
+{
+    match three_words(w, at) {
+        ThreeWords::Three { a, b, c } => cells_from(cell_at(w, a), cell_at(w, b), cell_at(w, c)),
+        ThreeWords::Other => TripleRead::Flawed(10),
+    }
+}
+
+// A pin row's cells, from a place on: three words and no more, or nothing, and then they are missing.
+pub fn pin_cells(w: &[u8], at: usize) -> TripleRead
+    requires { ⌜ at ≤ length (now w) ⌝ }
+    ensures { λ r. ⌜ r ≡ tripleRead (pinCells (words (drop at (now (w .entry))))) ⌝ }
+{
+    if w.len() <= words::skip_blanks(w, at) {
+        return TripleRead::Cells(records::no_cells());
+    }
+    any_cells(w, at)
+}
+
 fn on_row(number: Decimal, c: TripleRead) -> RowRead
-    ensures { λ r. ⌜ r ≡ onRow number c ⌝ }
+    ensures { λ r. ⌜ r ≡ rowRead (readOn (tripleSays c) (λ cells. says (record { number = number; cells = cells }))) ⌝ }
 {
     match c {
         TripleRead::Flawed(fault) => RowRead::Amiss(fault),
@@ -149,7 +178,7 @@ fn on_row(number: Decimal, c: TripleRead) -> RowRead
 }
 
 fn with_number(a: NumberRead, c: TripleRead) -> RowRead
-    ensures { λ r. ⌜ r ≡ withNumber a c ⌝ }
+    ensures { λ r. ⌜ r ≡ rowRead (readOn (numberSays a) (λ number. readOn (tripleSays c) (λ cells. says (record { number = number; cells = cells })))) ⌝ }
 {
     match a {
         NumberRead::Wrong(fault) => RowRead::Amiss(fault),
@@ -159,7 +188,7 @@ fn with_number(a: NumberRead, c: TripleRead) -> RowRead
 
 // Four words and no more: a number and three cells.
 pub fn row_of(w: &[u8]) -> RowRead
-    ensures { λ r. ⌜ r ≡ rowOf (words (now (w .entry))) ⌝ }
+    ensures { λ r. ⌜ r ≡ rowRead (rowOf (words (now (w .entry)))) ⌝ }
 {
     let a = words::word_at(w, 0);
     let b = words::word_at(w, a.end);
@@ -174,29 +203,29 @@ pub fn row_of(w: &[u8]) -> RowRead
     }
     with_number(
         number_at(w, a),
-        table_cells(cell_at(w, b), cell_at(w, c), cell_at(w, d)),
+        cells_from(cell_at(w, b), cell_at(w, c), cell_at(w, d)),
     )
 }
 
 // ---- a ramp's slopes
 
-// The first number has a fault: 11 of either counts before 12 of either.
-fn two_faults(fault: u8, b: NumberRead) -> RampCellRead
-    ensures { λ r. ⌜ r ≡ twoFaults fault b ⌝ }
+// The first number has fault n: 11 of either counts before 12 of either.
+fn two_faults(n: u8, b: NumberRead) -> RampCellRead
+    ensures { λ r. ⌜ r ≡ slopeRead (fault (cond (eqb (faultIn (numberSays b)) 11) 11 n)) ⌝ }
 {
     match b {
         NumberRead::Wrong(second) => {
-            if fault == 12 {
-                return RampCellRead::Faulted(second);
+            if second == 11 {
+                return RampCellRead::Faulted(11);
             }
-            RampCellRead::Faulted(fault)
+            RampCellRead::Faulted(n)
         }
-        NumberRead::Value(_) => RampCellRead::Faulted(fault),
+        NumberRead::Value(_) => RampCellRead::Faulted(n),
     }
 }
 
 fn ratio_of(a: NumberRead, b: NumberRead) -> RampCellRead
-    ensures { λ r. ⌜ r ≡ ratioOf a b ⌝ }
+    ensures { λ r. ⌜ r ≡ slopeRead (ratioOf (numberSays a) (numberSays b)) ⌝ }
 {
     match a {
         NumberRead::Wrong(fault) => two_faults(fault, b),
@@ -212,7 +241,7 @@ fn ratio_of(a: NumberRead, b: NumberRead) -> RampCellRead
 
 // A word of two numbers with one slash between.
 pub fn slope_of(w: &[u8]) -> RampCellRead
-    ensures { λ r. ⌜ r ≡ slopeOf (now (w .entry)) ⌝ }
+    ensures { λ r. ⌜ r ≡ slopeRead (slopeOf (now (w .entry))) ⌝ }
 {
     let slash = words::find(w, 0, b'/');
     if w.len() <= slash {
@@ -230,7 +259,7 @@ pub fn slope_of(w: &[u8]) -> RampCellRead
 
 // The same, or NA.
 pub fn slope_or_missing(w: &[u8]) -> RampCellRead
-    ensures { λ r. ⌜ r ≡ slopeOrMissing (now (w .entry)) ⌝ }
+    ensures { λ r. ⌜ r ≡ slopeRead (slopeOrMissing (now (w .entry))) ⌝ }
 {
     if words::same_capitals(w, b"NA") {
         return RampCellRead::Slope(RampCell::Absent);
@@ -240,7 +269,7 @@ pub fn slope_or_missing(w: &[u8]) -> RampCellRead
 
 fn slope_at(w: &[u8], r: Word) -> RampCellRead
     requires { ⌜ Within (now w) r ⌝ }
-    ensures { λ n. ⌜ n ≡ slopeOf (bytesOf (now (w .entry)) r) ⌝ }
+    ensures { λ n. ⌜ n ≡ slopeRead (slopeOf (bytesOf (now (w .entry)) r)) ⌝ }
 {
     let start = r.start;
     let end = r.end;
@@ -249,7 +278,7 @@ fn slope_at(w: &[u8], r: Word) -> RampCellRead
 
 fn slope_or_missing_at(w: &[u8], r: Word) -> RampCellRead
     requires { ⌜ Within (now w) r ⌝ }
-    ensures { λ n. ⌜ n ≡ slopeOrMissing (bytesOf (now (w .entry)) r) ⌝ }
+    ensures { λ n. ⌜ n ≡ slopeRead (slopeOrMissing (bytesOf (now (w .entry)) r)) ⌝ }
 {
     let start = r.start;
     let end = r.end;
@@ -267,7 +296,7 @@ fn is_upward(c: RampCell) -> bool
 
 // A divisor that is not above zero is told after what is wrong with the words.
 fn upward(typ: RampCell, min: RampCell, max: RampCell) -> RampRead
-    ensures { λ r. ⌜ r ≡ upward (record { typ = typ; min = min; max = max }) ⌝ }
+    ensures { λ r. ⌜ r ≡ rampRead (upward (record { typ = typ; min = min; max = max })) ⌝ }
 {
     if !is_upward(typ) {
         return RampRead::Refused(13);
@@ -286,7 +315,7 @@ fn upward(typ: RampCell, min: RampCell, max: RampCell) -> RampRead
 }
 
 fn slopes_max(typ: RampCell, min: RampCell, c: RampCellRead) -> RampRead
-    ensures { λ r. ⌜ r ≡ slopesMax typ min c ⌝ }
+    ensures { λ r. ⌜ r ≡ rampRead (readOn (slopeSays c) (λ max. upward (record { typ = typ; min = min; max = max }))) ⌝ }
 {
     match c {
         RampCellRead::Faulted(fault) => RampRead::Refused(fault),
@@ -295,7 +324,7 @@ fn slopes_max(typ: RampCell, min: RampCell, c: RampCellRead) -> RampRead
 }
 
 fn slopes_min(typ: RampCell, b: RampCellRead, c: RampCellRead) -> RampRead
-    ensures { λ r. ⌜ r ≡ slopesMin typ b c ⌝ }
+    ensures { λ r. ⌜ r ≡ rampRead (readOn (slopeSays b) (λ min. readOn (slopeSays c) (λ max. upward (record { typ = typ; min = min; max = max })))) ⌝ }
 {
     match b {
         RampCellRead::Faulted(fault) => RampRead::Refused(fault),
@@ -304,7 +333,7 @@ fn slopes_min(typ: RampCell, b: RampCellRead, c: RampCellRead) -> RampRead
 }
 
 fn slopes_typ(a: RampCellRead, b: RampCellRead, c: RampCellRead) -> RampRead
-    ensures { λ r. ⌜ r ≡ slopesTyp a b c ⌝ }
+    ensures { λ r. ⌜ r ≡ rampRead (readOn (slopeSays a) (λ typ. readOn (slopeSays b) (λ min. readOn (slopeSays c) (λ max. upward (record { typ = typ; min = min; max = max }))))) ⌝ }
 {
     match a {
         RampCellRead::Faulted(fault) => RampRead::Refused(fault),
@@ -315,7 +344,7 @@ fn slopes_typ(a: RampCellRead, b: RampCellRead, c: RampCellRead) -> RampRead
 // Three words and no more, from a place on: a slope and two that may be missing.
 pub fn three_slopes(w: &[u8], at: usize) -> RampRead
     requires { ⌜ at ≤ length (now w) ⌝ }
-    ensures { λ r. ⌜ r ≡ threeSlopes (words (drop at (now (w .entry)))) ⌝ }
+    ensures { λ r. ⌜ r ≡ rampRead (threeSlopes (words (drop at (now (w .entry))))) ⌝ }
 {
     match three_words(w, at) {
         ThreeWords::Three { a, b, c } => slopes_typ(
@@ -329,17 +358,8 @@ pub fn three_slopes(w: &[u8], at: usize) -> RampRead
 
 // ---- the fault of what is read, 0 for none
 
-pub fn number_fault(r: NumberRead) -> u8
-    ensures { λ n. ⌜ n ≡ numberFault r ⌝ }
-{
-    match r {
-        NumberRead::Value(_) => 0,
-        NumberRead::Wrong(fault) => fault,
-    }
-}
-
 pub fn cell_fault(r: CellRead) -> u8
-    ensures { λ n. ⌜ n ≡ cellFault r ⌝ }
+    ensures { λ n. ⌜ n ≡ faultIn (cellSays r) ⌝ }
 {
     match r {
         CellRead::Read(_) => 0,
@@ -348,7 +368,7 @@ pub fn cell_fault(r: CellRead) -> u8
 }
 
 pub fn triple_fault(r: TripleRead) -> u8
-    ensures { λ n. ⌜ n ≡ tripleFault r ⌝ }
+    ensures { λ n. ⌜ n ≡ faultIn (tripleSays r) ⌝ }
 {
     match r {
         TripleRead::Cells(_) => 0,
@@ -357,7 +377,7 @@ pub fn triple_fault(r: TripleRead) -> u8
 }
 
 pub fn ramp_fault(r: RampRead) -> u8
-    ensures { λ n. ⌜ n ≡ rampFault r ⌝ }
+    ensures { λ n. ⌜ n ≡ faultIn (rampSays r) ⌝ }
 {
     match r {
         RampRead::Slopes(_) => 0,
@@ -413,17 +433,17 @@ pub fn heading_of(w: &[u8]) -> HeadingRead
 
 // ---- what a line that has passed its checks gives; missing stays missing
 
-pub fn number_is(r: NumberRead) -> Cell
-    ensures { λ c. ⌜ c ≡ numberIs r ⌝ }
+pub fn cell_is(r: CellRead) -> Cell
+    ensures { λ c. ⌜ c ≡ orElse Missing (cellSays r) ⌝ }
 {
     match r {
-        NumberRead::Value(d) => Cell::Number(d),
-        NumberRead::Wrong(_) => Cell::Missing,
+        CellRead::Read(c) => c,
+        CellRead::Bad(_) => Cell::Missing,
     }
 }
 
 pub fn triple_is(r: TripleRead) -> Triple
-    ensures { λ t. ⌜ t ≡ tripleIs r ⌝ }
+    ensures { λ t. ⌜ t ≡ orElse noCells (tripleSays r) ⌝ }
 {
     match r {
         TripleRead::Cells(t) => t,

@@ -1,17 +1,30 @@
 -- Laws on model types by their letters, on a line's fault by its place, and on what must not be there.
 use Prim.Native.Nat.{ℕ, _≤_, _<_}
-use mathlib.Core.Path.{_≡_, ap}
+use mathlib.Core.Path.{_≡_, refl, ap}
 use mathlib.Core.List.{List}
-use mathlib.Core.Bool.{true, false, not, or-true}
+use mathlib.Core.Bool.{Bool, true, false, not, or-true}
 use native.Mathlib.Omega.{arith}
 use lib.ListN.{length, take, length-take}
-use borrow.Author.Tests.{ne-eqb, le-leb, lt-leb}
-use Rattle.laws.specs.Bytes.{bytes}
+use borrow.Author.Tests.{ne-eqb}
+use Rattle.laws.specs.Bytes.{bytes, isBlank}
 use Rattle.laws.specs.Lists.{eqs}
-use Rattle.laws.proofs.Tests.{cond-yes, cond-no, or-none}
+use Rattle.laws.proofs.Tests.{or-none}
 use Rattle.laws.proofs.Same.{eqs-apart}
-use Rattle.line_rules.specs.Fields.{oneOf, numberFault, rampFault, namedSlopes, assignedNumber}
-use Rattle.rules.specs.Model.{isInput, isDriven, firstFault, rampLineFault}
+use Rattle.laws.specs.Said.{says, faultIn}
+use Rattle.words.specs.Words.{words, grown, onto}
+use Rattle.name_table.specs.Names.{placeFrom}
+use Rattle.name_table.specs.declared.Found.the-variants.{At}
+use Rattle.keywords.specs.declared.CurrentTable.{CurrentTable}
+use Rattle.keywords.specs.declared.CurrentTable.the-variants.{Pulldown, Pullup, GndClamp, PowerClamp}
+use Rattle.keywords.specs.declared.ModelPart.the-variants.{Current}
+use Rattle.line_rules.specs.Fields.{oneOf, lineAt, numberLine}
+use Rattle.line_rules.specs.Tables.{modelLines, rampLines}
+use Rattle.line_rules.proofs.Places.{named-at}
+use Rattle.named_lines.specs.Places.{namedWord}
+use Rattle.named_lines.proofs.LineLaws.{onOne, behind-one}
+use Rattle.rules.specs.Model.{isInput, isDriven, typeIs, firstFault, rampFault, modelFault}
+use Rattle.line_faults.specs.Arguments.{aloneFault}
+use Rattle.line_faults.specs.Places.{firstAt, rampAt}
 
 -- ---- "Types that begin Input or I/O"
 
@@ -50,19 +63,39 @@ module _ (t : List ℕ) where
   unfolding isDriven oneOf
   driven-last e q = rw (e, q) (ap not (or-none (eqs t (bytes "Terminator"))))
 
--- ---- the first lines, past the fourth
+-- ---- the first lines: past the fourth place, and by name
 
-pub first-number : (n : ℕ) (w : List ℕ) → 4 ≤ n → firstFault n w ≡ numberFault (assignedNumber w)
-unfolding firstFault
+pub first-number : (n : ℕ) (w : List ℕ) → 4 ≤ n → firstAt n w ≡ faultIn (numberLine w)
+unfolding firstAt
 first-number n w h =
     rw (ne-eqb n 0 (omega arith), ne-eqb n 1 (omega arith), ne-eqb n 2 (omega arith), ne-eqb n 3 (omega arith))
 
+pub first-named : (n : ℕ) (w : List ℕ) → lineAt modelLines w ≡ At n → firstAt n w ≡ firstFault w
+unfolding firstAt firstFault placeFrom words grown onto isBlank eqs
+first-named n w e =
+    rw (
+      named-at modelLines "Model_type" w n 0 e refl,
+      named-at modelLines "Polarity" w n 1 e refl,
+      named-at modelLines "Enable" w n 2 e refl,
+      named-at modelLines "C_comp" w n 3 e refl,
+    )
+
 -- ---- a ramp's lines
 
-pub ramp-slope : (n : ℕ) (w : List ℕ) → n ≤ 1 → rampLineFault n w ≡ rampFault (namedSlopes w)
-unfolding rampLineFault
-ramp-slope n w h = cond-yes _ _ (le-leb n 1 h)
+pub ramp-named : (n : ℕ) (w : List ℕ) → lineAt rampLines w ≡ At n → rampAt n w ≡ rampFault w
+unfolding rampAt rampFault placeFrom words grown onto isBlank eqs
+ramp-named n w e = rw (named-at rampLines "R_load" w n 2 e refl)
 
-pub ramp-load : (n : ℕ) (w : List ℕ) → 1 < n → rampLineFault n w ≡ numberFault (assignedNumber w)
-unfolding rampLineFault
-ramp-load n w h = cond-no _ _ (lt-leb n 1 h)
+-- ---- a test of the type's word, by the word behind the name
+
+pub type-is : (p : List ℕ → Bool) (w : List ℕ) → typeIs p w ≡ onOne (λ t. says (p t)) (namedWord w)
+unfolding typeIs
+type-is p w = behind-one (λ t. says (p t)) w
+
+-- ---- the keywords of the current tables, which take no argument
+
+pub current-alone : (argument : List ℕ) (t : CurrentTable) → aloneFault argument ≡ modelFault argument (Current t)
+current-alone argument Pulldown = refl
+current-alone argument Pullup = refl
+current-alone argument GndClamp = refl
+current-alone argument PowerClamp = refl

@@ -1,2 +1,3 @@
 -- Small definitions for this crate's own functions.
 pub mod Arguments
+pub mod Places

@@ -1,11 +1,13 @@
-// What is wrong with what stands on a line: the faults of named lines, of pin rows and of keywords' arguments.
+// What is wrong with what stands on a line: the faults of named lines and of keywords' arguments.
 ghost use mathlib.Core.Path.{_≡_};
-ghost use Rattle.words.specs.Words.{words};
-ghost use Rattle.line_rules.specs.Fields.{namedCells, namedSlopes, namedWord, wordFault};
+ghost use Rattle.laws.specs.Said.{faultIn, orElse};
+ghost use Rattle.line_rules.specs.Fields.{wordLine, cellsLine, slopesLine};
+ghost use Rattle.line_rules.specs.Answers.{tripleRead, rampRead};
 ghost use Rattle.line_rules.specs.Tables.{locations, modelTypes, polarities, enables};
-ghost use Rattle.rules.specs.Component.{pinNames, cellsFault, pinRow, componentFault};
+ghost use Rattle.rules.specs.Component.{componentFault};
 ghost use Rattle.line_faults.specs.Arguments.{aloneFault};
-ghost use Rattle.rules.specs.Model.{orNothing, isInput, isDriven, firstFault, rampLineFault, modelFault};
+ghost use Rattle.line_faults.specs.Places.{firstAt, rampAt};
+ghost use Rattle.rules.specs.Model.{isInput, isDriven, typeIs, modelFault};
 use keywords::ComponentPart;
 use keywords::ModelPart;
 use line_cells::HeadingRead;
@@ -20,8 +22,8 @@ use records::Polarity;
 
 // ---- three cells or slopes behind a name
 
-pub fn named_cells(w: &[u8]) -> TripleRead
-    ensures { λ r. ⌜ r ≡ namedCells (now (w .entry)) ⌝ }
+pub fn cells_line(w: &[u8]) -> TripleRead
+    ensures { λ r. ⌜ r ≡ tripleRead (cellsLine (now (w .entry))) ⌝ }
 {
     if !named_lines::name_alone(w) {
         return TripleRead::Flawed(10);
@@ -30,8 +32,8 @@ pub fn named_cells(w: &[u8]) -> TripleRead
     line_cells::three_cells(w, name.end)
 }
 
-pub fn named_slopes(w: &[u8]) -> RampRead
-    ensures { λ r. ⌜ r ≡ namedSlopes (now (w .entry)) ⌝ }
+pub fn slopes_line(w: &[u8]) -> RampRead
+    ensures { λ r. ⌜ r ≡ rampRead (slopesLine (now (w .entry))) ⌝ }
 {
     if !named_lines::name_alone(w) {
         return RampRead::Refused(10);
@@ -43,7 +45,7 @@ pub fn named_slopes(w: &[u8]) -> RampRead
 // ---- a word behind a name
 
 pub fn location_fault(w: &[u8]) -> u8
-    ensures { λ r. ⌜ r ≡ wordFault locations (now (w .entry)) ⌝ }
+    ensures { λ r. ⌜ r ≡ faultIn (wordLine locations (now (w .entry))) ⌝ }
 {
     match named_lines::location_of(w) {
         LocationRead::Located(_) => 0,
@@ -52,7 +54,7 @@ pub fn location_fault(w: &[u8]) -> u8
 }
 
 fn type_fault(w: &[u8]) -> u8
-    ensures { λ r. ⌜ r ≡ wordFault modelTypes (now (w .entry)) ⌝ }
+    ensures { λ r. ⌜ r ≡ faultIn (wordLine modelTypes (now (w .entry))) ⌝ }
 {
     match named_lines::type_of(w) {
         TypeRead::OfType(_) => 0,
@@ -61,7 +63,7 @@ fn type_fault(w: &[u8]) -> u8
 }
 
 fn polarity_fault(w: &[u8]) -> u8
-    ensures { λ r. ⌜ r ≡ wordFault polarities (now (w .entry)) ⌝ }
+    ensures { λ r. ⌜ r ≡ faultIn (wordLine polarities (now (w .entry))) ⌝ }
 {
     match named_lines::polarity_of(w) {
         Polarity::NoPolarity => 10,
@@ -71,7 +73,7 @@ fn polarity_fault(w: &[u8]) -> u8
 }
 
 fn enable_fault(w: &[u8]) -> u8
-    ensures { λ r. ⌜ r ≡ wordFault enables (now (w .entry)) ⌝ }
+    ensures { λ r. ⌜ r ≡ faultIn (wordLine enables (now (w .entry))) ⌝ }
 {
     match named_lines::enable_of(w) {
         Enable::NoEnable => 10,
@@ -84,25 +86,25 @@ fn enable_fault(w: &[u8]) -> u8
 
 // The line at place n of a model's first lines.
 pub fn first_fault(n: usize, w: &[u8]) -> u8
-    ensures { λ r. ⌜ r ≡ firstFault n (now (w .entry)) ⌝ }
+    ensures { λ r. ⌜ r ≡ firstAt n (now (w .entry)) ⌝ }
 {
     match n {
         0 => type_fault(w),
         1 => polarity_fault(w),
         2 => enable_fault(w),
-        3 => line_cells::triple_fault(named_cells(w)),
-        _ => line_cells::number_fault(named_lines::assigned_number(w)),
+        3 => line_cells::triple_fault(cells_line(w)),
+        _ => line_cells::cell_fault(named_lines::number_line(w)),
     }
 }
 
 // The line at place n of a ramp's.
 pub fn ramp_line_fault(n: usize, w: &[u8]) -> u8
-    ensures { λ r. ⌜ r ≡ rampLineFault n (now (w .entry)) ⌝ }
+    ensures { λ r. ⌜ r ≡ rampAt n (now (w .entry)) ⌝ }
 {
-    if n <= 1 {
-        return line_cells::ramp_fault(named_slopes(w));
+    if n == 2 {
+        return line_cells::cell_fault(named_lines::number_line(w));
     }
-    line_cells::number_fault(named_lines::assigned_number(w))
+    line_cells::ramp_fault(slopes_line(w))
 }
 
 // The type begins Input or I/O.
@@ -122,12 +124,13 @@ fn begins_input(t: &[u8]) -> bool
     words::same(&t[..5], b"Input")
 }
 
-pub fn is_input(w: &[u8]) -> bool
-    ensures { λ r. ⌜ r ≡ isInput (orNothing (namedWord (now (w .entry)))) ⌝ }
+// The same of the word behind Model_type; where there is none, what was known before.
+pub fn is_input(w: &[u8], before: bool) -> bool
+    ensures { λ r. ⌜ r ≡ orElse before (typeIs isInput (now (w .entry))) ⌝ }
 {
     match named_lines::named_word(w) {
         WordRead::One { start, end } => begins_input(&w[start..end]),
-        WordRead::NoWord => false,
+        WordRead::NoWord => before,
     }
 }
 
@@ -144,12 +147,12 @@ fn wants_ramp(t: &[u8]) -> bool
     !words::same(t, b"Terminator")
 }
 
-pub fn is_driven(w: &[u8]) -> bool
-    ensures { λ r. ⌜ r ≡ isDriven (orNothing (namedWord (now (w .entry)))) ⌝ }
+pub fn is_driven(w: &[u8], before: bool) -> bool
+    ensures { λ r. ⌜ r ≡ orElse before (typeIs isDriven (now (w .entry))) ⌝ }
 {
     match named_lines::named_word(w) {
         WordRead::One { start, end } => wants_ramp(&w[start..end]),
-        WordRead::NoWord => true,
+        WordRead::NoWord => before,
     }
 }
 

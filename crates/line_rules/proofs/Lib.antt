@@ -1,2 +1,4 @@
--- What the definitions must keep.
+-- What the definitions must keep, and what the code's answers say.
 pub mod Sanity
+pub mod Answers
+pub mod Places

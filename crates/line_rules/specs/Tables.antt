@@ -28,6 +28,14 @@ rampLines = "dV/dt_r dV/dt_f R_load"
 abbrev pub fixtures : String
 fixtures = "R_fixture V_fixture V_fixture_min V_fixture_max C_fixture L_fixture R_dut L_dut C_dut"
 
+-- ---- a model's tables by their keywords; the waveforms among them
+
+abbrev pub waveformKeywords : String
+waveformKeywords = "rising_waveform falling_waveform"
+
+abbrev pub tableKeywords : String
+tableKeywords = "pulldown pullup gnd_clamp power_clamp rising_waveform falling_waveform"
+
 -- ---- words, and what they mean
 
 unfoldable pub locations : List (Entry Location)
@@ -35,20 +43,11 @@ locations = entry "Pin" AtPin ∷ entry "Die" AtDie ∷ []
 
 unfoldable pub modelTypes : List (Entry ModelType)
 modelTypes =
-    entry "Input" Input
-    ∷ entry "Output" Output
-    ∷ entry "I/O" InputOutput
-    ∷ entry "3-state" ThreeState
-    ∷ entry "Open_drain" OpenDrain
-    ∷ entry "I/O_open_drain" InputOutputOpenDrain
-    ∷ entry "Open_sink" OpenSink
-    ∷ entry "I/O_open_sink" InputOutputOpenSink
-    ∷ entry "Open_source" OpenSource
-    ∷ entry "I/O_open_source" InputOutputOpenSource
-    ∷ entry "Input_ECL" InputEcl
-    ∷ entry "Output_ECL" OutputEcl
-    ∷ entry "I/O_ECL" InputOutputEcl
-    ∷ entry "3-state_ECL" ThreeStateEcl
+    entry "Input" Input ∷ entry "Output" Output ∷ entry "I/O" InputOutput ∷ entry "3-state" ThreeState
+    ∷ entry "Open_drain" OpenDrain ∷ entry "I/O_open_drain" InputOutputOpenDrain
+    ∷ entry "Open_sink" OpenSink ∷ entry "I/O_open_sink" InputOutputOpenSink
+    ∷ entry "Open_source" OpenSource ∷ entry "I/O_open_source" InputOutputOpenSource
+    ∷ entry "Input_ECL" InputEcl ∷ entry "Output_ECL" OutputEcl ∷ entry "I/O_ECL" InputOutputEcl ∷ entry "3-state_ECL" ThreeStateEcl
     ∷ entry "Terminator" Terminator
     ∷ []
 

@@ -43,11 +43,7 @@ isAllowed b = leb 0x20 b && leb b 0x7E || eqb b (code "\t")
 -- 2 forbidden byte, 3 line over 120, 4 line not ended, in that order; 0 no fault
 unfoldable pub lineFault : Physical → ℕ
 lineFault l =
-    cond (all isAllowed (l .bytes))
-    (cond (leb (length (l .bytes)) 120)
-    (cond (l .ended) 0 4)
-    3)
-    2
+    cond (all isAllowed (l .bytes)) (cond (leb (length (l .bytes)) 120) (cond (l .ended) 0 4) 3) 2
 
 -- the first line with a fault; the lines are numbered from k on
 unfoldable pub faultFrom : ℕ → List Physical → Bytes

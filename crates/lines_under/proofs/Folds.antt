@@ -5,8 +5,7 @@ use mathlib.Core.List.{List, [], _∷_}
 use native.Mathlib.Omega.{arith}
 use lib.ListN.{length}
 use Rattle.laws.specs.Lists.{part}
-use Rattle.cut_lines.specs.Texts.{rest}
-use Rattle.cut_lines.specs.Cursors.{Placed}
+use Rattle.cut_lines.specs.Cursors.{rest, Placed}
 use Rattle.cut_lines.specs.declared.Cursor.{Cursor}
 use Rattle.rules.specs.Reading.{under}
 use Rattle.lines_under.specs.Under.{LineIs, StopsAt, LineNextIs}

@@ -2,44 +2,48 @@
 use Prim.Native.Nat.{ℕ, _+_, _≤_}
 use mathlib.Core.Path.{_≡_, refl, sym, ap, _∙_}
 use mathlib.Core.List.{List, [], _∷_}
-use mathlib.Core.Bool.{Bool, true, false, cond, not, _&&_}
+use mathlib.Core.Bool.{Bool, true, false, cond, not}
 use mathlib.Core.Option.{Option, none, some}
 use native.Mathlib.Omega.{arith}
 use borrow.Author.Tests.{not-true}
 use Rattle.laws.specs.Lists.{front, after, part}
-use Rattle.laws.proofs.Tests.{by-test, cond-yes, cond-no, cond-map, and-right}
+use Rattle.laws.proofs.Tests.{by-test, cond-yes, cond-no, cond-map}
 use Rattle.laws.proofs.Lists.{part-length, part-rest, part-from}
+use Rattle.laws.specs.Said.{Said}
 use Rattle.keywords.specs.Carried.{keyOf}
+use Rattle.keywords.specs.Answers.{keywordSays, keyRead}
 use Rattle.keywords.specs.declared.Keyword.{Keyword}
 use Rattle.keywords.specs.declared.KeyRead.{KeyRead}
 use Rattle.keywords.specs.declared.KeyRead.the-variants.{Known, Malformed}
-use Rattle.cut_lines.specs.Texts.{Text, plain, change, rest}
-use Rattle.cut_lines.specs.Cursors.{Placed, TextIs, ChangeIs, OutIs}
+use Rattle.cut_lines.specs.Texts.{Text, plain, change}
+use Rattle.cut_lines.specs.Cursors.{rest, Placed, TextIs, ChangeIs, OutIs}
 use Rattle.cut_lines.specs.declared.Cursor.{Cursor}
-use Rattle.line_rules.specs.Fields.{isBracketed, isSome}
-use Rattle.rules.specs.Reading.{isLine, plainLines, under, keyIn, keyAt, isEnd, isWithin}
-use Rattle.laws.proofs.Fronts.{front-front}
+use Rattle.line_rules.specs.Fields.{isBracketed}
+use Rattle.rules.specs.Reading.{under, isWithin}
+use Rattle.rules.specs.Keys.{keyIn, keyAt, isEnd}
+use Rattle.rules.proofs.Keys.{within-key}
 use Rattle.keywords.proofs.Arguments.{key-within, key-argument}
-use Rattle.lines_under.specs.Under.{keyRead, isKeyless, LineIs, StopsAt, NoLineIs, KeyIs}
+use Rattle.keywords.proofs.Spelling.{key-said}
+use Rattle.lines_under.specs.Under.{isLine, textRead, isSome, isKeyless, LineIs, StopsAt, NoLineIs, KeyIs}
 
 -- ---- the lines under a keyword, by the first text
 
 module _ {ts us : List Text} (k : ℕ) where
   pub under-change : (f : ℕ) → ts ≡ change k f ∷ us → (under ts ≡ under us) × (after isLine ts ≡ after isLine us)
-  unfolding under front after plainLines
+  unfolding under after
   under-change f e = (rw e, rw e)
 
   module _ (w : List ℕ) (e : ts ≡ plain k w ∷ us) where
     pub under-line : isBracketed w ≡ false → (under ts ≡ w ∷ under us) × (after isLine ts ≡ after isLine us)
-    unfolding under front after plainLines
+    unfolding under after
     under-line h = (rw (e, h), rw (e, h))
 
     pub under-key : isBracketed w ≡ true → (under ts ≡ []) × (after isLine ts ≡ ts)
-    unfolding under front after plainLines
+    unfolding under after
     under-key h = (rw (e, h), rw (e, h))
 
 pub under-end : {ts : List Text} → ts ≡ [] → (under ts ≡ []) × (after isLine ts ≡ ts)
-unfolding under front after plainLines
+unfolding under after
 under-end e = (rw e, rw e)
 
 -- ---- the next keyword, by the first text
@@ -58,12 +62,15 @@ unfolding after
 key-end e = rw e
 
 -- as the code reads it
-pub key-at : (k : ℕ) (w : List ℕ) (r : KeyRead) → keyRead w ≡ r → keyAt (plain k w) ≡ keyIn r
-unfolding keyRead
-key-at k w r e = sym (cond-map keyIn (isBracketed w) (keyOf w) Malformed) ∙ ap keyIn e
+pub key-at : (k : ℕ) (w : List ℕ) (r : KeyRead) → textRead w ≡ r → keyAt (plain k w) ≡ keyIn (keywordSays r)
+unfolding textRead
+key-at k w r e =
+    ap (λ (x : Said Keyword). cond (isBracketed w) (keyIn x) none) (sym (key-said w))
+    ∙ sym (cond-map (λ (x : KeyRead). keyIn (keywordSays x)) (isBracketed w) (keyRead w) Malformed)
+    ∙ ap (λ (x : KeyRead). keyIn (keywordSays x)) e
 
-pub key-known : (w : List ℕ) (k : Keyword) (at : ℕ) → keyRead w ≡ Known k at → keyOf w ≡ Known k at
-unfolding keyRead
+pub key-known : (w : List ℕ) (k : Keyword) (at : ℕ) → textRead w ≡ Known k at → keyRead w ≡ Known k at
+unfolding textRead
 key-known w k at e =
     by-test (isBracketed w)
     (λ h. sym (cond-yes _ _ h) ∙ e)
@@ -138,12 +145,12 @@ module _ {s : List ℕ} {c d : Cursor} (p : Sought s c d) where
   sought-change {k} {f} t =
       record { keys = p .keys ∙ key-skip (change k f) (t .more) refl; placed = t .goes .placed; rises = omega (arith, p .rises, t .goes .rises) }
 
-  pub sought-none : {k a e : ℕ} {n : Cursor} → TextIs s d k a e n → keyIn (keyRead (part a e s)) ≡ none → Sought s c n
+  pub sought-none : {k a e : ℕ} {n : Cursor} → TextIs s d k a e n → keyIn (keywordSays (textRead (part a e s))) ≡ none → Sought s c n
   sought-none {k} {a} {e} t h =
-      let none-at = key-at k (part a e s) (keyRead (part a e s)) refl ∙ h in
+      let none-at = key-at k (part a e s) (textRead (part a e s)) refl ∙ h in
       record { keys = p .keys ∙ key-skip (plain k (part a e s)) (t .more) none-at; placed = t .goes .placed; rises = omega (arith, p .rises, t .goes .rises) }
 
-  module _ {k a e : ℕ} {n : Cursor} (t : TextIs s d k a e n) {key : Keyword} {at : ℕ} (h : keyRead (part a e s) ≡ Known key at) where
+  module _ {k a e : ℕ} {n : Cursor} (t : TextIs s d k a e n) {key : Keyword} {at : ℕ} (h : textRead (part a e s) ≡ Known key at) where
     pub sought-within : a + at ≤ e
     sought-within =
         omega (arith, key-within (part a e s) (key-known (part a e s) key at h), part-length s a e (t .fits), t .starts)
@@ -178,7 +185,7 @@ keyless-none : (t : Text) → isKeyless t ≡ true → keyAt t ≡ none
 keyless-none t h = none-is (keyAt t) h
 
 keyless-within : (t : Text) → isKeyless t ≡ true → isWithin t ≡ true
-keyless-within t h = ap (λ (k : Option Keyword). not (isEnd k)) (keyless-none t h)
+keyless-within t h = within-key t ∙ ap (λ (k : Option Keyword). not (isEnd k)) (keyless-none t h)
 
 -- passing over the lines first changes nothing
 pub keys-behind : (ts : List Text) → after isKeyless (after isLine ts) ≡ after isKeyless ts
@@ -189,17 +196,15 @@ keys-behind (t ∷ ts) =
     (λ h. rw (h, line-keyless t h) (keys-behind ts))
     (λ h. rw h)
 
-line-within : (t : Text) → isLine t ≡ (isWithin t && isLine t)
-line-within t =
-    by-test (isLine t)
-    (λ h. rw (h, keyless-within t (line-keyless t h)))
-    (λ h. h ∙ sym (and-right (isWithin t) (isLine t) h))
-
 -- the lines under a keyword are within its section
 pub under-within : (ts : List Text) → under (front isWithin ts) ≡ under ts
-unfolding under
-under-within ts =
-    ap plainLines (front-front isLine isWithin isLine (λ t. line-within t) ts)
+unfolding under front
+under-within [] = refl
+under-within (plain k w ∷ ts) =
+    by-test (isBracketed w)
+    (λ h. by-test (isWithin (plain k w)) (λ i. rw (i, h)) (λ i. rw (i, h)))
+    (λ h. rw (keyless-within (plain k w) (line-keyless (plain k w) (ap not h)), h) (ap (λ (ls : List (List ℕ)). w ∷ ls) (under-within ts)))
+under-within (change k n ∷ ts) = rw (keyless-within (change k n) refl) (under-within ts)
 
 -- ---- what looks at keywords alone
 
@@ -214,7 +219,7 @@ module _ {A : Type 0} (f : List Text → A) (skips : (t : Text) (ts : List Text)
 
   front-skips : (t : Text) (ts : List Text) → keyAt t ≡ none → f (front isWithin (t ∷ ts)) ≡ f (front isWithin ts)
   unfolding front
-  front-skips t ts h = ap f (cond-yes _ _ (ap (λ (k : Option Keyword). not (isEnd k)) h)) ∙ skips t (front isWithin ts) h
+  front-skips t ts h = ap f (cond-yes _ _ (within-key t ∙ ap (λ (k : Option Keyword). not (isEnd k)) h)) ∙ skips t (front isWithin ts) h
 
 -- the same within a section
 pub keys-within : {A : Type 0} (f : List Text → A) → ((t : Text) (ts : List Text) → keyAt t ≡ none → f (t ∷ ts) ≡ f ts)
@@ -225,8 +230,8 @@ keys-within f skips = keys-only (λ (ts : List Text). f (front isWithin ts)) (fr
 module _ (t : Text) (ts : List Text) (k : Keyword) (e : keyAt t ≡ some k) where
   pub within-stop : isEnd (some k) ≡ true → front isWithin (t ∷ ts) ≡ []
   unfolding front
-  within-stop h = cond-no _ _ (ap (λ (o : Option Keyword). not (isEnd o)) e ∙ ap not h)
+  within-stop h = cond-no _ _ (within-key t ∙ ap (λ (o : Option Keyword). not (isEnd o)) e ∙ ap not h)
 
   pub within-go : isEnd (some k) ≡ false → front isWithin (t ∷ ts) ≡ t ∷ front isWithin ts
   unfolding front
-  within-go h = cond-yes _ _ (ap (λ (o : Option Keyword). not (isEnd o)) e ∙ ap not h)
+  within-go h = cond-yes _ _ (within-key t ∙ ap (λ (o : Option Keyword). not (isEnd o)) e ∙ ap not h)

@@ -1,3 +1,4 @@
 -- Laws on what stands under a keyword, cited by the crates above.
 pub mod Laws
 pub mod Folds
+pub mod Keyed

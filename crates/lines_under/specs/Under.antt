@@ -2,19 +2,20 @@
 use Prim.Native.Nat.{ℕ, _+_, _≤_, _<_}
 use mathlib.Core.Path.{_≡_}
 use mathlib.Core.List.{List, [], _∷_}
-use mathlib.Core.Bool.{Bool, cond, not}
-use mathlib.Core.Option.{some}
+use mathlib.Core.Bool.{Bool, true, false, cond, not}
+use mathlib.Core.Option.{Option, none, some}
 use lib.ListN.{length}
 use Rattle.laws.specs.Lists.{after, part}
-use Rattle.keywords.specs.Carried.{keyOf}
+use Rattle.keywords.specs.Answers.{keyRead}
 use Rattle.keywords.specs.declared.Keyword.{Keyword}
 use Rattle.keywords.specs.declared.KeyRead.{KeyRead}
 use Rattle.keywords.specs.declared.KeyRead.the-variants.{Malformed}
-use Rattle.cut_lines.specs.Texts.{Text, rest}
-use Rattle.cut_lines.specs.Cursors.{Placed}
+use Rattle.cut_lines.specs.Texts.{Text, plain, change}
+use Rattle.cut_lines.specs.Cursors.{rest, Placed}
 use Rattle.cut_lines.specs.declared.Cursor.{Cursor}
-use Rattle.line_rules.specs.Fields.{isBracketed, isSome}
-use Rattle.rules.specs.Reading.{isLine, under, keyAt, argumentAt}
+use Rattle.line_rules.specs.Fields.{isBracketed}
+use Rattle.rules.specs.Reading.{under, argumentAt}
+use Rattle.rules.specs.Keys.{keyAt}
 use Rattle.lines_under.specs.declared.LineNext.{LineNext}
 use Rattle.lines_under.specs.declared.LineNext.the-variants.{Line, NoLine}
 use Rattle.lines_under.specs.declared.KeyNext.{KeyNext}
@@ -22,6 +23,11 @@ use Rattle.lines_under.specs.declared.KeyNext.the-variants.{Key, NoKey}
 use Rattle.lines_under.specs.declared.Lines.{Lines}
 
 -- ---- lines
+
+-- a text that is no keyword line
+abbrev pub isLine : Text → Bool
+isLine (plain k w) = not (isBracketed w)
+isLine (change k n) = true
 
 pub record LineIs (s : List ℕ) (c : Cursor) (a e : ℕ) (n : Cursor) : Type 0 where
   pub more : under (rest s c) ≡ part a e s ∷ under (rest s n)
@@ -54,8 +60,12 @@ pub record LinesAre (s : List ℕ) (c : Cursor) (r : Lines) : Type 0 where
 -- ---- keywords
 
 -- what a text is as a keyword line; one that is none counts as badly formed
-unfoldable pub keyRead : List ℕ → KeyRead
-keyRead w = cond (isBracketed w) (keyOf w) Malformed
+unfoldable pub textRead : List ℕ → KeyRead
+textRead w = cond (isBracketed w) (keyRead w) Malformed
+
+abbrev pub isSome : Option Keyword → Bool
+isSome none = false
+isSome (some k) = true
 
 abbrev pub isKeyless : Text → Bool
 isKeyless t = not (isSome (keyAt t))

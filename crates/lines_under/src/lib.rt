@@ -1,7 +1,9 @@
 // What stands under a keyword: the lines up to the next keyword line, one after another; and the keywords, one after another.
 ghost use mathlib.Core.Path.{_≡_};
+ghost use mathlib.Core.Option.{some};
 ghost use Rattle.cut_lines.specs.Cursors.{Placed};
-ghost use Rattle.lines_under.specs.Under.{keyRead, LineNextIs, KeyNextIs, LinesAre};
+ghost use Rattle.rules.specs.Keys.{isEnd};
+ghost use Rattle.lines_under.specs.Under.{textRead, LineNextIs, KeyNextIs, LinesAre};
 use cut_lines::Cursor;
 use cut_lines::Next;
 use keywords::KeyRead;
@@ -90,7 +92,7 @@ pub fn count_lines(src: &[u8], c: Cursor) -> Lines
 
 // What a text is as a keyword line; one that is none counts as badly formed.
 fn key_in(w: &[u8]) -> KeyRead
-    ensures { λ r. ⌜ r ≡ keyRead (now (w .entry)) ⌝ }
+    ensures { λ r. ⌜ r ≡ textRead (now (w .entry)) ⌝ }
 {
     if !named_lines::bracketed(w) {
         return KeyRead::Malformed;
@@ -129,5 +131,19 @@ pub fn next_key(src: &[u8], c: Cursor) -> KeyNext
             Next::Change { line, fault, next } => d = next,
             Next::Out { line } => return KeyNext::NoKey,
         }
+    }
+}
+
+// The keyword ends the section above it: it opens one, or is [End].
+pub fn ends(k: Keyword) -> bool
+    ensures { λ r. ⌜ r ≡ isEnd (some k) ⌝ }
+{
+    match k {
+        Keyword::Opens(_) => true,
+        Keyword::End => true,
+        Keyword::IbisVer => false,
+        Keyword::InHeader(_) => false,
+        Keyword::InComponent(_) => false,
+        Keyword::InModel(_) => false,
     }
 }

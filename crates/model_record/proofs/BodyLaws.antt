@@ -1,125 +1,178 @@
--- The keywords of a model, one after another, give the record that document 01's definition gives.
+-- The keywords of a model as a fold over the keywords, and the whole record: a table more, if the keyword opens one, and the first of its kind counts.
 use Prim.Native.Nat.{ℕ, _+_}
+use Prim.Native.String.{String}
 use mathlib.Core.Path.{_≡_, refl, sym, ap, _∙_}
-use mathlib.Core.List.{List, [], _∷_}
-use mathlib.Core.Option.{none}
+use mathlib.Core.List.{List, [], _∷_, _++_, flatMap}
+use mathlib.Core.Bool.{Bool, true, false, cond}
+use mathlib.Core.Option.{none, some}
 use native.Mathlib.Omega.{arith}
-use lib.ListN.{length}
-use Rattle.laws.specs.Lists.{front}
-use Rattle.keywords.specs.declared.CurrentTable.{CurrentTable}
-use Rattle.keywords.specs.declared.CurrentTable.the-variants.{Pulldown, Pullup, GndClamp, PowerClamp}
-use Rattle.keywords.specs.declared.ModelPart.{ModelPart}
-use Rattle.keywords.specs.declared.ModelPart.the-variants.{VoltageRange, TemperatureRange, Current, Ramp, Waveform}
+use lib.ListN.{length, length-append}
+use Rattle.laws.specs.Bytes.{bytes, isBlank}
+use Rattle.laws.specs.Lists.{front, eqs}
+use Rattle.laws.proofs.Tests.{by-test, cond-yes, cond-same}
+use Rattle.words.specs.Words.{words, grown, onto}
+use Rattle.keywords.specs.declared.Keyword.{Keyword}
+use Rattle.keywords.specs.declared.Keyword.the-variants.{InModel}
+use Rattle.keywords.specs.declared.ModelPart.the-variants.{VoltageRange, TemperatureRange, Ramp}
+use Rattle.keywords.proofs.Spelling.{spelling}
 use Rattle.cut_lines.specs.Texts.{Text}
-use Rattle.rules.specs.Reading.{under, isWithin, firstIn, withDefaults, bareFirst, rowsIn, waveformIn, current, waveform, ModelIs, onModelPart, modelIn}
-use Rattle.records.specs.Stored.{noCells, nameLaid}
-use Rattle.rules.specs.Same.{waveformsOf}
-use Rattle.layout.specs.Laid.{allRows, tableAt, rangeLaid, rampLaid, modelLaid}
+use Rattle.line_rules.specs.Fields.{oneOf}
+use Rattle.line_rules.specs.Tables.{waveformKeywords}
+use Rattle.rules.specs.Reading.{argumentAt, under, keySays, numberSaid, rangeIn, noRange, rampIn, TableIs, tablesIn, modelIn, isWithin}
+use Rattle.rules.specs.Keys.{keyAt}
+use Rattle.rules.proofs.Keys.{each-keyword, says-skip, says-key, says-map}
+use Rattle.rules.proofs.Tables.{tables-skip}
+use Rattle.records.specs.Stored.{nameLaid}
+use Rattle.records.specs.declared.Range.{Range}
+use Rattle.records.specs.declared.Table.{Table}
+use Rattle.layout.specs.Laid.{rowsOf, tableAt, waveformsLaid}
 use Rattle.lines_under.proofs.Laws.{under-within}
-use Rattle.table_rows.specs.Parts.{PartIs, partsIn, withParts}
-use Rattle.table_rows.proofs.RowLaws.{current-rows, waveform-rows}
-use Rattle.table_rows.proofs.PartLaws.{keys-parts}
-use Rattle.model_record.specs.Firsts.{firstLaid, bareLines, firstsFrom, defaulted}
-use Rattle.model_record.specs.Bodies.{bareBody, withPart, bodyFrom, modelOver}
-use Rattle.model_record.specs.declared.FirstLines.{FirstLines}
+use Rattle.lines_under.proofs.Keyed.{KeyFold}
+use Rattle.table_rows.specs.Parts.{opensTable}
+use Rattle.table_rows.proofs.PartLaws.{moreTables, tables-more}
+use Rattle.model_record.specs.Firsts.{bareLines, firstsOn, defaulted}
+use Rattle.model_record.specs.Bodies.{noTable, bareBody, withTable, bodyStep, tableOn, bodyOn, modelOver}
 use Rattle.model_record.specs.declared.Body.{Body}
-use Rattle.model_record.proofs.FirstLaws.{first-laid}
-use Rattle.model_record.proofs.RampLaws.{ramp-laid}
-use Rattle.model_record.proofs.TableLaws.{rows-behind, table-same, table-other, table-wave, waves-same, waves-more}
 
--- what a model's keywords gave so far, as it lies in the record
-abbrev bodyLaid : ℕ → ModelIs → Body
-bodyLaid n m =
+-- ---- a table more: x, if t is true; n is the next row's place
+
+abbrev rowBehind : Bool → TableIs → ℕ → ℕ
+rowBehind t x n = cond t (n + length (rowsOf x)) n
+
+rows-behind : (t : Bool) (x : TableIs) (more : List TableIs) (n : ℕ)
+    → n + length (flatMap rowsOf (moreTables t x more)) ≡ rowBehind t x n + length (flatMap rowsOf more)
+unfolding flatMap
+rows-behind true x more n = omega (arith, length-append (rowsOf x) (flatMap rowsOf more))
+rows-behind false x more n = refl
+
+-- how many waveforms there are with it
+abbrev wavesWith : Bool → TableIs → ℕ → ℕ
+wavesWith t x m = cond t (cond (oneOf (x .key) (words (bytes waveformKeywords))) (m + 1) m) m
+
+one-more : {A : Type 0} (t : Bool) (a : A) (l : List A) (m : ℕ) → m + length (cond t (a ∷ []) [] ++ l) ≡ cond t (m + 1) m + length l
+one-more true a l m = omega arith
+one-more false a l m = refl
+
+waves-behind : (t : Bool) (x : TableIs) (more : List TableIs) (n m : ℕ)
+    → m + length (waveformsLaid (moreTables t x more) n) ≡ wavesWith t x m + length (waveformsLaid more (rowBehind t x n))
+unfolding waveformsLaid
+waves-behind true x more n m = one-more (oneOf (x .key) (words (bytes waveformKeywords))) _ (waveformsLaid more (n + length (rowsOf x))) m
+waves-behind false x more n m = refl
+
+-- the table of a kind with it
+abbrev tableWith : Bool → TableIs → ℕ → Table → String → Table
+tableWith t x n u key = cond t (cond (eqs (x .key) (bytes key)) (withTable u n (length (rowsOf x))) u) u
+
+table-behind : (t : Bool) (x : TableIs) (more : List TableIs) (n : ℕ) (u : Table) (key : String)
+    → tableOn u (moreTables t x more) n key ≡ tableOn (tableWith t x n u key) more (rowBehind t x n) key
+unfolding tableOn
+table-behind true x more n u key = refl
+table-behind false x more n u key = refl
+
+-- once there is one, it counts
+module _ (key : String) where
+  first-counts : (ts : List TableIs) (u : Table) (n : ℕ) → u .given ≡ true → tableOn u ts n key ≡ u
+  unfolding tableOn
+  first-counts [] u n e = refl
+  first-counts (t ∷ ts) u n e =
+      let same : cond (eqs (t .key) (bytes key)) (withTable u n (length (rowsOf t))) u ≡ u =
+      ap (λ (v : Table). cond (eqs (t .key) (bytes key)) v u) (cond-yes _ _ e) ∙ sym (cond-same (eqs (t .key) (bytes key)) u)
+      in
+      ap (λ (v : Table). tableOn v ts (n + length (rowsOf t)) key) same ∙ first-counts ts u (n + length (rowsOf t)) e
+
+  first-is : (ts : List TableIs) (n : ℕ) → tableOn noTable ts n key ≡ tableAt ts n key
+  unfolding tableOn tableAt
+  first-is [] n = refl
+  first-is (t ∷ ts) n =
+      by-test (eqs (t .key) (bytes key))
+      (λ q. rw q (first-counts ts _ (n + length (rowsOf t)) refl))
+      (λ q. rw q (first-is ts (n + length (rowsOf t))))
+
+-- ---- a keyword more
+
+body-skip : (b : Body) (t : Text) (ts : List Text) → keyAt t ≡ none → bodyOn b (t ∷ ts) ≡ bodyOn b ts
+unfolding bodyOn
+body-skip b t ts e =
+    rw (
+      says-skip (λ w ls. rangeIn w ls .cells) (b .voltage) t ts (InModel VoltageRange) e,
+      says-skip rangeIn (b .temperature) t ts (InModel TemperatureRange) e,
+      says-skip rampIn (b .ramp) t ts (InModel Ramp) e,
+      tables-skip t ts e,
+    )
+
+-- by its name; x is the table that it opens, if it does
+abbrev bodyBy : Body → List ℕ → Bool → TableIs → List ℕ → List (List ℕ) → List Text → Body
+bodyBy b name t x w ls ts =
     record {
-      voltage = m .voltage;
-      temperature = rangeLaid (m .temperature);
-      pulldown = tableAt Pulldown n (m .tables);
-      pullup = tableAt Pullup n (m .tables);
-      ground = tableAt GndClamp n (m .tables);
-      power = tableAt PowerClamp n (m .tables);
-      ramp = rampLaid (m .ramp);
-      waveforms = length (waveformsOf (m .tables));
-      row = n + length (allRows (m .tables));
+      voltage = keySays "voltage_range" (λ v ks. rangeIn v ks .cells) (cond (eqs name (bytes "voltage_range")) (rangeIn w ls .cells) (b .voltage)) ts;
+      temperature = keySays "temperature_range" rangeIn (cond (eqs name (bytes "temperature_range")) (rangeIn w ls) (b .temperature)) ts;
+      pulldown = tableOn (tableWith t x (b .row) (b .pulldown) "pulldown") (tablesIn ts) (rowBehind t x (b .row)) "pulldown";
+      pullup = tableOn (tableWith t x (b .row) (b .pullup) "pullup") (tablesIn ts) (rowBehind t x (b .row)) "pullup";
+      ground = tableOn (tableWith t x (b .row) (b .ground) "gnd_clamp") (tablesIn ts) (rowBehind t x (b .row)) "gnd_clamp";
+      power = tableOn (tableWith t x (b .row) (b .power) "power_clamp") (tablesIn ts) (rowBehind t x (b .row)) "power_clamp";
+      ramp = keySays "ramp" rampIn (cond (eqs name (bytes "ramp")) (rampIn w ls) (b .ramp)) ts;
+      waveforms = wavesWith t x (b .waveforms) + length (waveformsLaid (tablesIn ts) (rowBehind t x (b .row)));
+      row = rowBehind t x (b .row) + length (flatMap rowsOf (tablesIn ts));
     }
 
--- ---- one keyword
+-- the table that a keyword opens, if it does
+abbrev tableOf : Keyword → List (List ℕ) → TableIs
+tableOf k ls = record { key = bytes (spelling k); lines = ls }
 
-module _ (n : ℕ) (m : ModelIs) (w : List ℕ) (ls : List (List ℕ)) where
-  body-current : (u : CurrentTable) → withPart (bodyLaid n m) w ls (Current u) ≡ bodyLaid n (onModelPart m w ls (Current u))
-  body-current Pulldown =
-      let ts = m .tables in let rs = rowsIn ls in
-      rw (current-rows ls, table-same Pulldown Pulldown rs refl ts n, table-other Pullup Pulldown rs refl ts n, table-other GndClamp Pulldown rs refl ts n, table-other PowerClamp Pulldown rs refl ts n, waves-same Pulldown rs ts, rows-behind n ts (current Pulldown rs))
-  body-current Pullup =
-      let ts = m .tables in let rs = rowsIn ls in
-      rw (current-rows ls, table-other Pulldown Pullup rs refl ts n, table-same Pullup Pullup rs refl ts n, table-other GndClamp Pullup rs refl ts n, table-other PowerClamp Pullup rs refl ts n, waves-same Pullup rs ts, rows-behind n ts (current Pullup rs))
-  body-current GndClamp =
-      let ts = m .tables in let rs = rowsIn ls in
-      rw (current-rows ls, table-other Pulldown GndClamp rs refl ts n, table-other Pullup GndClamp rs refl ts n, table-same GndClamp GndClamp rs refl ts n, table-other PowerClamp GndClamp rs refl ts n, waves-same GndClamp rs ts, rows-behind n ts (current GndClamp rs))
-  body-current PowerClamp =
-      let ts = m .tables in let rs = rowsIn ls in
-      rw (current-rows ls, table-other Pulldown PowerClamp rs refl ts n, table-other Pullup PowerClamp rs refl ts n, table-other GndClamp PowerClamp rs refl ts n, table-same PowerClamp PowerClamp rs refl ts n, waves-same PowerClamp rs ts, rows-behind n ts (current PowerClamp rs))
+body-by : (b : Body) (w : List ℕ) (ls : List (List ℕ)) (ts : List Text) (k : Keyword)
+    → bodyBy b (bytes (spelling k)) (opensTable k) (tableOf k ls) w ls ts ≡ bodyOn (bodyStep b k w ls) ts
+unfolding bodyOn oneOf eqs words grown onto isBlank
+body-by b w ls ts = each-keyword _ refl refl refl refl refl refl refl refl refl refl refl refl refl refl refl refl refl refl refl refl refl refl refl refl
 
-  body-part : (p : ModelPart) → withPart (bodyLaid n m) w ls p ≡ bodyLaid n (onModelPart m w ls p)
-  unfolding waveformIn
-  body-part VoltageRange = refl
-  body-part TemperatureRange = refl
-  body-part (Current u) = body-current u
-  body-part Ramp = rw (ramp-laid ls)
-  body-part (Waveform e) =
-      let ts = m .tables in let x = waveformIn e ls in
-      rw (waveform-rows ls, table-wave Pulldown x ts n, table-wave Pullup x ts n, table-wave GndClamp x ts n, table-wave PowerClamp x ts n, waves-more x ts, rows-behind n ts (waveform x))
+body-more : (b : Body) (t : Text) (ts : List Text) (k : Keyword) → keyAt t ≡ some k → bodyOn b (t ∷ ts) ≡ bodyOn (bodyStep b k (argumentAt t) (under ts)) ts
+unfolding bodyOn
+body-more b t ts k e =
+    let is = opensTable k in
+    let x = tableOf k (under ts) in
+    let more = tablesIn ts in
+    rw (
+      says-key (λ w ls. rangeIn w ls .cells) (b .voltage) t ts "voltage_range" k e,
+      says-key rangeIn (b .temperature) t ts "temperature_range" k e,
+      says-key rampIn (b .ramp) t ts "ramp" k e,
+      tables-more t ts k e,
+      table-behind is x more (b .row) (b .pulldown) "pulldown",
+      table-behind is x more (b .row) (b .pullup) "pullup",
+      table-behind is x more (b .row) (b .ground) "gnd_clamp",
+      table-behind is x more (b .row) (b .power) "power_clamp",
+      waves-behind is x more (b .row) (b .waveforms),
+      rows-behind is x more (b .row),
+    )
+    (body-by b (argumentAt t) (under ts) ts k)
 
--- ---- all of them
+no-more : (n : ℕ) → n + 0 ≡ n
+no-more n = omega arith
 
-body-from : (n : ℕ) (ps : List PartIs) (m : ModelIs) → bodyFrom (bodyLaid n m) ps ≡ bodyLaid n (withParts m ps)
-unfolding bodyFrom withParts
-body-from n [] m = refl
-body-from n (p ∷ ps) m =
-    ap (λ (b : Body). bodyFrom b ps) (body-part n m (p .argument) (p .lines) (p .part))
-    ∙ body-from n ps (onModelPart m (p .argument) (p .lines) (p .part))
+body-empty : (b : Body) → bodyOn b [] ≡ b
+unfolding bodyOn keySays tablesIn tableOn waveformsLaid flatMap
+body-empty b = rw (no-more (b .waveforms), no-more (b .row))
 
-part-keeps : (m : ModelIs) (w : List ℕ) (ls : List (List ℕ)) (p : ModelPart)
-    → (onModelPart m w ls p .name ≡ m .name) × (onModelPart m w ls p .first ≡ m .first)
-part-keeps m w ls VoltageRange = (refl, refl)
-part-keeps m w ls TemperatureRange = (refl, refl)
-part-keeps m w ls (Current u) = (refl, refl)
-part-keeps m w ls Ramp = (refl, refl)
-part-keeps m w ls (Waveform e) = (refl, refl)
+pub body-fold : KeyFold bodyOn bodyStep
+body-fold = record { empty = body-empty; skip = body-skip; more = body-more }
 
-parts-keep : (ps : List PartIs) (m : ModelIs) → (withParts m ps .name ≡ m .name) × (withParts m ps .first ≡ m .first)
-unfolding withParts
-parts-keep [] m = (refl, refl)
-parts-keep (p ∷ ps) m =
-    let k = part-keeps m (p .argument) (p .lines) (p .part) in
-    let l = parts-keep ps (onModelPart m (p .argument) (p .lines) (p .part)) in
-    (l .0 ∙ k .0, l .1 ∙ k .1)
+-- ---- the whole record: what its first lines and its keywords give
 
--- ---- the whole record
+module _ (row start n : ℕ) (name : List ℕ) (ts : List Text) where
+  abbrev inside : List Text
+  inside = front isWithin ts
 
-model-over : (n row start : ℕ) (m : ModelIs) → modelLaid n row start m ≡ modelOver n start (nameLaid (m .name)) (firstLaid (m .first)) (bodyLaid row m)
-unfolding modelLaid
-model-over n row start m = refl
+  waves-are : 0 + length (waveformsLaid (tablesIn inside) row) ≡ length (waveformsLaid (tablesIn inside) row)
+  waves-are = omega arith
 
-module _ (n row start : ℕ) (name : List ℕ) (ts : List Text) where
-  -- the model before its first keyword
-  abbrev opened : ModelIs
-  opened = record { name = name; first = withDefaults (firstIn bareFirst (under ts)); voltage = noCells; temperature = none; ramp = none; tables = [] }
-
-  opened-body : bareBody row ≡ bodyLaid row opened
-  unfolding tableAt waveformsOf allRows
-  opened-body = let z : row ≡ row + 0 = omega arith in ap bareBody z
-
-  opened-in : modelIn name (front isWithin ts) ≡ withParts opened (partsIn ts)
-  unfolding modelIn
-  opened-in = rw (under-within ts) (keys-parts ts opened)
-
-  pub model-laid : modelOver n start (nameLaid name) (defaulted (firstsFrom bareLines (under ts))) (bodyFrom (bareBody row) (partsIn ts)) ≡ modelLaid n row start (modelIn name (front isWithin ts))
-  model-laid =
-      let ps = partsIn ts in
-      let m = withParts opened ps in
-      let k = parts-keep ps opened in
-      ap (λ (f : FirstLines). modelOver n start (nameLaid name) f (bodyFrom (bareBody row) ps)) (first-laid (under ts) ∙ ap firstLaid (sym (k .1)))
-      ∙ ap (modelOver n start (nameLaid name) (firstLaid (m .first))) (ap (λ (b : Body). bodyFrom b ps) opened-body ∙ body-from row ps opened)
-      ∙ ap (λ (w : List ℕ). modelOver n start (nameLaid w) (firstLaid (m .first)) (bodyLaid row m)) (sym (k .0))
-      ∙ sym (model-over n row start m)
-      ∙ ap (modelLaid n row start) (sym opened-in)
+  pub model-is : modelOver n start (nameLaid name) (defaulted (firstsOn bareLines (under ts))) (bodyOn (bareBody row) inside)
+      ≡ modelIn n (tableAt (tablesIn inside) row) (record { start = start; count = length (waveformsLaid (tablesIn inside) row) }) name inside
+  unfolding bodyOn firstsOn modelIn numberSaid
+  model-is =
+      rw (
+        sym (under-within ts),
+        sym (says-map (λ (r : Range). r .cells) "voltage_range" rangeIn noRange inside),
+        first-is "pulldown" (tablesIn inside) row,
+        first-is "pullup" (tablesIn inside) row,
+        first-is "gnd_clamp" (tablesIn inside) row,
+        first-is "power_clamp" (tablesIn inside) row,
+        waves-are,
+      )

@@ -1,6 +1,5 @@
 -- Laws on a model's first lines, on its ramp, and on its keywords.
 pub mod FirstLaws
 pub mod RampLaws
-pub mod TableLaws
 pub mod BodyLaws
 pub mod Takes

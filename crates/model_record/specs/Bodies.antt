@@ -1,30 +1,37 @@
--- What the keywords of a model give, one after another, as it lies in the model's record.
+-- What the keywords of a model give, one after another.
 use Prim.Native.Nat.{ℕ, _+_, _^_, _≤_, _<_}
+use Prim.Native.String.{String}
 use mathlib.Core.Path.{_≡_}
-use mathlib.Core.List.{List, [], _∷_}
+use mathlib.Core.List.{List, [], _∷_, flatMap}
 use mathlib.Core.Bool.{true, false, cond}
-use mathlib.Core.Option.{none, some}
+use mathlib.Core.Option.{some}
 use lib.ListN.{length}
+use lib.Dec.{eqb}
+use Rattle.laws.specs.Bytes.{bytes}
+use Rattle.laws.specs.Lists.{after, eqs}
+use Rattle.laws.specs.Said.{orElse}
 use Rattle.words.specs.Words.{words}
-use Rattle.keywords.specs.declared.CurrentTable.{CurrentTable}
 use Rattle.keywords.specs.declared.CurrentTable.the-variants.{Pulldown, Pullup, GndClamp, PowerClamp}
+use Rattle.keywords.specs.declared.Keyword.{Keyword}
 use Rattle.keywords.specs.declared.ModelPart.{ModelPart}
 use Rattle.keywords.specs.declared.ModelPart.the-variants.{VoltageRange, TemperatureRange, Current, Ramp, Waveform}
-use Rattle.cut_lines.specs.Texts.{rest}
-use Rattle.cut_lines.specs.Cursors.{Placed}
+use Rattle.cut_lines.specs.Texts.{Text}
+use Rattle.cut_lines.specs.Cursors.{rest, Placed}
 use Rattle.cut_lines.specs.declared.Cursor.{Cursor}
-use Rattle.line_rules.specs.Fields.{threeCells, tripleIs}
-use Rattle.rules.specs.Reading.{under}
+use Rattle.line_rules.specs.Fields.{threeCells}
+use Rattle.rules.specs.Model.{modelPlace}
+use Rattle.rules.specs.Reading.{under, keySays, rangeIn, noRange, rampIn, noRamp, TableIs, tablesIn, rowsIn}
+use Rattle.rules.specs.Keys.{byKeyword}
+use Rattle.layout.specs.Laid.{rowsOf, waveformsLaid}
 use Rattle.records.specs.Stored.{noCells}
-use Rattle.layout.specs.Laid.{rangeLaid, rampLaid}
+use Rattle.records.specs.declared.Edge.the-variants.{Rising}
 use Rattle.records.specs.declared.Name.{Name}
 use Rattle.records.specs.declared.RampTable.{RampTable}
 use Rattle.records.specs.declared.Table.{Table}
 use Rattle.records.specs.declared.Triple.{Triple}
 use Rattle.records.specs.declared.Model.{Model}
-use Rattle.table_rows.specs.Rows.{tableRows}
-use Rattle.table_rows.specs.Parts.{PartIs, partsIn}
-use Rattle.model_record.specs.Ramps.{bareRamp, rampFrom}
+use Rattle.lines_under.specs.Under.{isKeyless}
+use Rattle.table_rows.specs.Parts.{isTable}
 use Rattle.model_record.specs.declared.FirstLines.{FirstLines}
 use Rattle.model_record.specs.declared.Body.{Body}
 use Rattle.model_record.specs.declared.Taken.{Taken}
@@ -37,12 +44,12 @@ abbrev pub bareBody : ℕ → Body
 bareBody n =
     record {
       voltage = noCells;
-      temperature = rangeLaid none;
+      temperature = noRange;
       pulldown = noTable;
       pullup = noTable;
       ground = noTable;
       power = noTable;
-      ramp = rampLaid none;
+      ramp = noRamp;
       waveforms = 0;
       row = n;
     }
@@ -51,125 +58,45 @@ bareBody n =
 abbrev pub withTable : Table → ℕ → ℕ → Table
 withTable t at n = cond (t .given) t (record { given = true; rows = record { start = at; count = n } })
 
-abbrev pub withVoltage : Body → Triple → Body
-withVoltage b t =
+-- a keyword more, whose argument says cells, or under which a ramp stands, or n rows
+abbrev pub partOn : Body → ModelPart → Triple → RampTable → ℕ → Body
+partOn b p cells ramp n =
     record {
-      voltage = t;
-      temperature = b .temperature;
-      pulldown = b .pulldown;
-      pullup = b .pullup;
-      ground = b .ground;
-      power = b .power;
-      ramp = b .ramp;
-      waveforms = b .waveforms;
-      row = b .row;
+      voltage = cond (eqb (modelPlace p) (modelPlace VoltageRange)) cells (b .voltage);
+      temperature = cond (eqb (modelPlace p) (modelPlace TemperatureRange)) (record { given = true; cells = cells }) (b .temperature);
+      pulldown = cond (eqb (modelPlace p) (modelPlace (Current Pulldown))) (withTable (b .pulldown) (b .row) n) (b .pulldown);
+      pullup = cond (eqb (modelPlace p) (modelPlace (Current Pullup))) (withTable (b .pullup) (b .row) n) (b .pullup);
+      ground = cond (eqb (modelPlace p) (modelPlace (Current GndClamp))) (withTable (b .ground) (b .row) n) (b .ground);
+      power = cond (eqb (modelPlace p) (modelPlace (Current PowerClamp))) (withTable (b .power) (b .row) n) (b .power);
+      ramp = cond (eqb (modelPlace p) (modelPlace Ramp)) ramp (b .ramp);
+      waveforms = cond (eqb (modelPlace p) (modelPlace (Waveform Rising))) (b .waveforms + 1) (b .waveforms);
+      row = cond (isTable p) (b .row + n) (b .row);
     }
 
-abbrev pub withTemperature : Body → Triple → Body
-withTemperature b t =
-    record {
-      voltage = b .voltage;
-      temperature = rangeLaid (some t);
-      pulldown = b .pulldown;
-      pullup = b .pullup;
-      ground = b .ground;
-      power = b .power;
-      ramp = b .ramp;
-      waveforms = b .waveforms;
-      row = b .row;
-    }
+-- a keyword of another section changes nothing; w is its argument and ls are the lines under it
+abbrev pub bodyStep : Body → Keyword → List ℕ → List (List ℕ) → Body
+bodyStep b k w ls =
+    byKeyword b (λ p. b) (λ o. b) (λ p. b) (λ p. partOn b p (orElse noCells (threeCells (words w))) (rampIn w ls) (length (rowsIn ls))) b (some k)
 
--- a current table of n rows
-abbrev pub withCurrent : Body → ℕ → CurrentTable → Body
-withCurrent b n Pulldown =
-    record {
-      voltage = b .voltage;
-      temperature = b .temperature;
-      pulldown = withTable (b .pulldown) (b .row) n;
-      pullup = b .pullup;
-      ground = b .ground;
-      power = b .power;
-      ramp = b .ramp;
-      waveforms = b .waveforms;
-      row = b .row + n;
-    }
-withCurrent b n Pullup =
-    record {
-      voltage = b .voltage;
-      temperature = b .temperature;
-      pulldown = b .pulldown;
-      pullup = withTable (b .pullup) (b .row) n;
-      ground = b .ground;
-      power = b .power;
-      ramp = b .ramp;
-      waveforms = b .waveforms;
-      row = b .row + n;
-    }
-withCurrent b n GndClamp =
-    record {
-      voltage = b .voltage;
-      temperature = b .temperature;
-      pulldown = b .pulldown;
-      pullup = b .pullup;
-      ground = withTable (b .ground) (b .row) n;
-      power = b .power;
-      ramp = b .ramp;
-      waveforms = b .waveforms;
-      row = b .row + n;
-    }
-withCurrent b n PowerClamp =
-    record {
-      voltage = b .voltage;
-      temperature = b .temperature;
-      pulldown = b .pulldown;
-      pullup = b .pullup;
-      ground = b .ground;
-      power = withTable (b .power) (b .row) n;
-      ramp = b .ramp;
-      waveforms = b .waveforms;
-      row = b .row + n;
-    }
+-- what tables make of the one of a kind; n is the next row's place
+unfoldable pub tableOn : Table → List TableIs → ℕ → String → Table
+tableOn u [] n key = u
+tableOn u (t ∷ ts) n key = tableOn (cond (eqs (t .key) (bytes key)) (withTable u n (length (rowsOf t))) u) ts (n + length (rowsOf t)) key
 
-abbrev pub withRamp : Body → RampTable → Body
-withRamp b r =
+-- what texts make of it all
+unfoldable pub bodyOn : Body → List Text → Body
+bodyOn b ts =
     record {
-      voltage = b .voltage;
-      temperature = b .temperature;
-      pulldown = b .pulldown;
-      pullup = b .pullup;
-      ground = b .ground;
-      power = b .power;
-      ramp = r;
-      waveforms = b .waveforms;
-      row = b .row;
+      voltage = keySays "voltage_range" (λ w ls. rangeIn w ls .cells) (b .voltage) ts;
+      temperature = keySays "temperature_range" rangeIn (b .temperature) ts;
+      pulldown = tableOn (b .pulldown) (tablesIn ts) (b .row) "pulldown";
+      pullup = tableOn (b .pullup) (tablesIn ts) (b .row) "pullup";
+      ground = tableOn (b .ground) (tablesIn ts) (b .row) "gnd_clamp";
+      power = tableOn (b .power) (tablesIn ts) (b .row) "power_clamp";
+      ramp = keySays "ramp" rampIn (b .ramp) ts;
+      waveforms = b .waveforms + length (waveformsLaid (tablesIn ts) (b .row));
+      row = b .row + length (flatMap rowsOf (tablesIn ts));
     }
-
--- a waveform of n rows
-abbrev pub withWaveform : Body → ℕ → Body
-withWaveform b n =
-    record {
-      voltage = b .voltage;
-      temperature = b .temperature;
-      pulldown = b .pulldown;
-      pullup = b .pullup;
-      ground = b .ground;
-      power = b .power;
-      ramp = b .ramp;
-      waveforms = b .waveforms + 1;
-      row = b .row + n;
-    }
-
--- a keyword, its argument w and the lines under it
-abbrev pub withPart : Body → List ℕ → List (List ℕ) → ModelPart → Body
-withPart b w ls VoltageRange = withVoltage b (tripleIs (threeCells (words w)))
-withPart b w ls TemperatureRange = withTemperature b (tripleIs (threeCells (words w)))
-withPart b w ls (Current t) = withCurrent b (length (tableRows false ls)) t
-withPart b w ls Ramp = withRamp b (rampFrom bareRamp ls)
-withPart b w ls (Waveform e) = withWaveform b (length (tableRows true ls))
-
-unfoldable pub bodyFrom : Body → List PartIs → Body
-bodyFrom b [] = b
-bodyFrom b (p ∷ ps) = bodyFrom (withPart b (p .argument) (p .lines) (p .part)) ps
 
 -- ---- bounds: every row and every waveform has a byte
 
@@ -177,10 +104,10 @@ pub record BodyFits (b : Body) (c : Cursor) : Type 0 where
   pub row : b .row < 2 ^ 63 + c .at
   pub waveforms : b .waveforms ≤ c .at
 
--- a keyword behind which c stands was taken
-pub record PartTaken (s : List ℕ) (b : Body) (c : Cursor) (w : List ℕ) (p : ModelPart) (r : Taken) : Type 0 where
-  pub body : r .body ≡ withPart b w (under (rest s c)) p
-  pub more : partsIn (rest s c) ≡ partsIn (rest s (r .next))
+-- a keyword behind which c stands was taken, w being its argument; and a place from where the same keywords follow
+pub record KeyTaken (s : List ℕ) (b : Body) (k : Keyword) (w : List ℕ) (c : Cursor) (r : Taken) : Type 0 where
+  pub body : r .body ≡ bodyStep b k w (under (rest s c))
+  pub keys : after isKeyless (rest s c) ≡ after isKeyless (rest s (r .next))
   pub placed : Placed s (r .next)
   pub rises : c .at ≤ r .next .at
   pub fits : BodyFits (r .body) (r .next)

@@ -1,20 +1,15 @@
--- A model's first lines, one after another, as they lie in its record.
+-- A model's first lines, one after another.
 use Prim.Native.Nat.{ℕ}
 use mathlib.Core.Path.{_≡_}
-use mathlib.Core.List.{List, [], _∷_}
-use mathlib.Core.Bool.{false, cond}
-use lib.ListN.{getD}
-use lib.Dec.{eqb}
-use Rattle.decimal.specs.declared.Cell.the-variants.{Number, Missing}
-use Rattle.name_table.specs.Names.{meaning}
-use Rattle.name_table.specs.declared.Found.{Found}
-use Rattle.name_table.specs.declared.Found.the-variants.{At, Nothing}
-use Rattle.cut_lines.specs.Texts.{rest}
+use mathlib.Core.List.{List}
+use mathlib.Core.Bool.{false}
+use Rattle.decimal.specs.declared.Cell.the-variants.{Missing}
+use Rattle.cut_lines.specs.Cursors.{rest}
 use Rattle.cut_lines.specs.declared.Cursor.{Cursor}
-use Rattle.line_rules.specs.Fields.{lineAt, namedWord, wordMeaning, namedCells, assignedNumber, orGiven, numberIs, tripleIs}
-use Rattle.line_rules.specs.Tables.{modelLines, modelTypes, polarities, enables}
-use Rattle.rules.specs.Model.{orNothing, isInput, orElse, defaultVinl, defaultVinh}
-use Rattle.rules.specs.Reading.{under, FirstIs}
+use Rattle.line_rules.specs.Fields.{wordLine, cellsLine, numberLine, takes, lineSays}
+use Rattle.line_rules.specs.Tables.{modelTypes, polarities, enables}
+use Rattle.rules.specs.Model.{isInput, typeIs, defaultVinl, defaultVinh}
+use Rattle.rules.specs.Reading.{under, threshold}
 use Rattle.records.specs.Stored.{noCells}
 use Rattle.records.specs.declared.ModelType.the-variants.{Terminator}
 use Rattle.records.specs.declared.Polarity.the-variants.{NoPolarity}
@@ -22,22 +17,6 @@ use Rattle.records.specs.declared.Enable.the-variants.{NoEnable}
 use Rattle.lines_under.specs.Under.{StopsAt}
 use Rattle.model_record.specs.declared.FirstLines.{FirstLines}
 use Rattle.model_record.specs.declared.FirstRead.{FirstRead}
-
-abbrev pub firstLaid : FirstIs → FirstLines
-firstLaid f =
-    record {
-      kind = orGiven (meaning (f .kind) modelTypes) Terminator;
-      input = isInput (f .kind);
-      polarity = f .polarity;
-      enable = f .enable;
-      comp = f .comp;
-      vinl = getD (f .numbers) 0 Missing;
-      vinh = getD (f .numbers) 1 Missing;
-      vmeas = getD (f .numbers) 2 Missing;
-      cref = getD (f .numbers) 3 Missing;
-      rref = getD (f .numbers) 4 Missing;
-      vref = getD (f .numbers) 5 Missing;
-    }
 
 -- before the first line
 abbrev pub bareLines : FirstLines
@@ -56,29 +35,40 @@ bareLines =
       vref = Missing;
     }
 
--- the line w, by its place in the list of `modelLines`
-abbrev pub withFirstLine : FirstLines → List ℕ → Found → FirstLines
-withFirstLine f w Nothing = f
-withFirstLine f w (At n) =
+-- what a line makes of them, and what lines do
+abbrev pub firstLine : FirstLines → List ℕ → FirstLines
+firstLine f w =
     record {
-      kind = cond (eqb n 0) (orGiven (wordMeaning modelTypes w) Terminator) (f .kind);
-      input = cond (eqb n 0) (isInput (orNothing (namedWord w))) (f .input);
-      polarity = cond (eqb n 1) (orGiven (wordMeaning polarities w) NoPolarity) (f .polarity);
-      enable = cond (eqb n 2) (orGiven (wordMeaning enables w) NoEnable) (f .enable);
-      comp = cond (eqb n 3) (tripleIs (namedCells w)) (f .comp);
-      vinl = cond (eqb n 4) (numberIs (assignedNumber w)) (f .vinl);
-      vinh = cond (eqb n 5) (numberIs (assignedNumber w)) (f .vinh);
-      vmeas = cond (eqb n 6) (numberIs (assignedNumber w)) (f .vmeas);
-      cref = cond (eqb n 7) (numberIs (assignedNumber w)) (f .cref);
-      rref = cond (eqb n 8) (numberIs (assignedNumber w)) (f .rref);
-      vref = cond (eqb n 9) (numberIs (assignedNumber w)) (f .vref);
+      kind = takes "Model_type" (wordLine modelTypes) (f .kind) w;
+      input = takes "Model_type" (typeIs isInput) (f .input) w;
+      polarity = takes "Polarity" (wordLine polarities) (f .polarity) w;
+      enable = takes "Enable" (wordLine enables) (f .enable) w;
+      comp = takes "C_comp" cellsLine (f .comp) w;
+      vinl = takes "Vinl" numberLine (f .vinl) w;
+      vinh = takes "Vinh" numberLine (f .vinh) w;
+      vmeas = takes "Vmeas" numberLine (f .vmeas) w;
+      cref = takes "Cref" numberLine (f .cref) w;
+      rref = takes "Rref" numberLine (f .rref) w;
+      vref = takes "Vref" numberLine (f .vref) w;
     }
 
-unfoldable pub firstsFrom : FirstLines → List (List ℕ) → FirstLines
-firstsFrom f [] = f
-firstsFrom f (w ∷ ws) = firstsFrom (withFirstLine f w (lineAt modelLines w)) ws
+unfoldable pub firstsOn : FirstLines → List (List ℕ) → FirstLines
+firstsOn f ls =
+    record {
+      kind = lineSays "Model_type" (wordLine modelTypes) (f .kind) ls;
+      input = lineSays "Model_type" (typeIs isInput) (f .input) ls;
+      polarity = lineSays "Polarity" (wordLine polarities) (f .polarity) ls;
+      enable = lineSays "Enable" (wordLine enables) (f .enable) ls;
+      comp = lineSays "C_comp" cellsLine (f .comp) ls;
+      vinl = lineSays "Vinl" numberLine (f .vinl) ls;
+      vinh = lineSays "Vinh" numberLine (f .vinh) ls;
+      vmeas = lineSays "Vmeas" numberLine (f .vmeas) ls;
+      cref = lineSays "Cref" numberLine (f .cref) ls;
+      rref = lineSays "Rref" numberLine (f .rref) ls;
+      vref = lineSays "Vref" numberLine (f .vref) ls;
+    }
 
--- "take Vinl 0.8 and Vinh 2.0, each where absent"
+-- with the thresholds that an input takes where they are absent
 abbrev pub defaulted : FirstLines → FirstLines
 defaulted f =
     record {
@@ -87,8 +77,8 @@ defaulted f =
       polarity = f .polarity;
       enable = f .enable;
       comp = f .comp;
-      vinl = cond (f .input) (Number (orElse (f .vinl) defaultVinl)) (f .vinl);
-      vinh = cond (f .input) (Number (orElse (f .vinh) defaultVinh)) (f .vinh);
+      vinl = threshold (f .input) defaultVinl (f .vinl);
+      vinh = threshold (f .input) defaultVinh (f .vinh);
       vmeas = f .vmeas;
       cref = f .cref;
       rref = f .rref;
@@ -96,5 +86,5 @@ defaulted f =
     }
 
 pub record FirstReadIs (s : List ℕ) (c : Cursor) (r : FirstRead) : Type 0 where
-  pub lines : r .lines ≡ firstsFrom bareLines (under (rest s c))
+  pub lines : r .lines ≡ firstsOn bareLines (under (rest s c))
   pub stops : StopsAt s c (r .next)

@@ -1,17 +1,13 @@
--- A ramp's lines, one after another, as they lie in its record.
+-- A ramp's lines, one after another.
 use Prim.Native.Nat.{ℕ}
 use mathlib.Core.Path.{_≡_}
-use mathlib.Core.List.{List, [], _∷_}
-use mathlib.Core.Bool.{true, cond}
-use lib.Dec.{eqb}
+use mathlib.Core.List.{List, []}
+use mathlib.Core.Bool.{true}
 use Rattle.decimal.specs.declared.Cell.the-variants.{Missing}
-use Rattle.name_table.specs.declared.Found.{Found}
-use Rattle.name_table.specs.declared.Found.the-variants.{At, Nothing}
-use Rattle.cut_lines.specs.Texts.{rest}
+use Rattle.cut_lines.specs.Cursors.{rest}
 use Rattle.cut_lines.specs.declared.Cursor.{Cursor}
-use Rattle.line_rules.specs.Fields.{lineAt, namedSlopes, assignedNumber, numberIs, slopesAre}
-use Rattle.line_rules.specs.Tables.{rampLines}
-use Rattle.rules.specs.Reading.{under}
+use Rattle.line_rules.specs.Fields.{slopesLine, numberLine, takes, lineSays}
+use Rattle.rules.specs.Reading.{under, rampIn}
 use Rattle.records.specs.Stored.{noSlopes}
 use Rattle.records.specs.declared.RampTable.{RampTable}
 use Rattle.lines_under.specs.Under.{StopsAt}
@@ -21,21 +17,26 @@ use Rattle.model_record.specs.declared.RampLinesRead.{RampLinesRead}
 abbrev pub bareRamp : RampTable
 bareRamp = record { given = true; rise = noSlopes; fall = noSlopes; load = Missing }
 
--- the line w, by its place in the list of `rampLines`
-abbrev pub withRampLine : RampTable → List ℕ → Found → RampTable
-withRampLine r w Nothing = r
-withRampLine r w (At n) =
+-- what a line makes of it, and what lines do
+abbrev pub rampLine : RampTable → List ℕ → RampTable
+rampLine r w =
     record {
       given = r .given;
-      rise = cond (eqb n 0) (slopesAre (namedSlopes w)) (r .rise);
-      fall = cond (eqb n 1) (slopesAre (namedSlopes w)) (r .fall);
-      load = cond (eqb n 2) (numberIs (assignedNumber w)) (r .load);
+      rise = takes "dV/dt_r" slopesLine (r .rise) w;
+      fall = takes "dV/dt_f" slopesLine (r .fall) w;
+      load = takes "R_load" numberLine (r .load) w;
     }
 
-unfoldable pub rampFrom : RampTable → List (List ℕ) → RampTable
-rampFrom r [] = r
-rampFrom r (w ∷ ws) = rampFrom (withRampLine r w (lineAt rampLines w)) ws
+unfoldable pub rampOn : RampTable → List (List ℕ) → RampTable
+rampOn r ls =
+    record {
+      given = r .given;
+      rise = lineSays "dV/dt_r" slopesLine (r .rise) ls;
+      fall = lineSays "dV/dt_f" slopesLine (r .fall) ls;
+      load = lineSays "R_load" numberLine (r .load) ls;
+    }
 
+-- the keyword's argument says nothing
 pub record RampReadIs (s : List ℕ) (c : Cursor) (r : RampLinesRead) : Type 0 where
-  pub ramp : r .ramp ≡ rampFrom bareRamp (under (rest s c))
+  pub ramp : r .ramp ≡ rampIn [] (under (rest s c))
   pub stops : StopsAt s c (r .next)

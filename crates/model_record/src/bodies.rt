@@ -1,10 +1,19 @@
 // The keywords of a model one after another: its ranges, the places of its tables' rows, its ramp, and how many waveforms it has.
 ghost use mathlib.Core.Path.{_≡_};
-ghost use Prim.Native.Nat.{_+_, _^_, _<_};
-ghost use Rattle.cut_lines.specs.Texts.{rest};
-ghost use Rattle.cut_lines.specs.Cursors.{Placed};
-ghost use Rattle.table_rows.specs.Parts.{partsIn};
-ghost use Rattle.model_record.specs.Bodies.{noTable, bareBody, withTable, withVoltage, withTemperature, withCurrent, withRamp, withWaveform, bodyFrom, PartTaken};
+ghost use Prim.Native.Nat.{ℕ, _+_, _^_, _<_};
+ghost use Rattle.laws.specs.Lists.{front};
+ghost use Rattle.laws.specs.Said.{orElse};
+ghost use Rattle.words.specs.Words.{words};
+ghost use Rattle.keywords.specs.declared.Keyword.the-variants.{InModel};
+ghost use Rattle.keywords.specs.declared.ModelPart.the-variants.{VoltageRange, TemperatureRange, Current, Ramp, Waveform};
+ghost use Rattle.cut_lines.specs.Cursors.{rest, Placed};
+ghost use Rattle.line_rules.specs.Fields.{threeCells};
+ghost use Rattle.rules.specs.Reading.{isWithin};
+ghost use Rattle.records.specs.Stored.{noCells};
+ghost use Rattle.records.specs.declared.Edge.{Edge};
+ghost use Rattle.records.specs.declared.RampTable.{RampTable};
+ghost use Rattle.records.specs.declared.Triple.{Triple};
+ghost use Rattle.model_record.specs.Bodies.{noTable, bareBody, withTable, partOn, bodyOn, KeyTaken};
 use crate::Body;
 use crate::Taken;
 use crate::ramps::no_slopes;
@@ -12,13 +21,14 @@ use crate::ramps::ramp_lines;
 use cut_lines::Cursor;
 use decimal::Cell;
 use keywords::CurrentTable;
+use keywords::Keyword;
 use keywords::ModelPart;
+use lines_under::KeyNext;
 use records::RampTable;
 use records::Range;
 use records::Span;
 use records::Table;
 use records::Triple;
-use table_rows::PartNext;
 
 fn no_table() -> Table
     ensures { λ r. ⌜ r ≡ noTable ⌝ }
@@ -71,7 +81,7 @@ fn with_table(t: Table, at: usize, count: usize) -> Table
 }
 
 fn with_voltage(b: Body, cells: Triple) -> Body
-    ensures { λ r. ⌜ r ≡ withVoltage b cells ⌝ }
+    ensures { λ r. ⌜ ((ramp : RampTable) (n : ℕ) → r ≡ partOn b VoltageRange cells ramp n) ⌝ }
 {
     let mut next = b;
     next.voltage = cells;
@@ -79,7 +89,7 @@ fn with_voltage(b: Body, cells: Triple) -> Body
 }
 
 fn with_temperature(b: Body, cells: Triple) -> Body
-    ensures { λ r. ⌜ r ≡ withTemperature b cells ⌝ }
+    ensures { λ r. ⌜ ((ramp : RampTable) (n : ℕ) → r ≡ partOn b TemperatureRange cells ramp n) ⌝ }
 {
     let mut next = b;
     let range = Range {
@@ -93,7 +103,7 @@ fn with_temperature(b: Body, cells: Triple) -> Body
 // A current table of so many rows.
 fn with_current(b: Body, count: usize, table: CurrentTable) -> Body
     requires { ⌜ b .row + count < 2 ^ 64 ⌝ }
-    ensures { λ r. ⌜ r ≡ withCurrent b count table ⌝ }
+    ensures { λ r. ⌜ ((cells : Triple) (ramp : RampTable) → r ≡ partOn b (Current table) cells ramp count) ⌝ }
 {
     let mut next = b;
     let row = b.row;
@@ -123,7 +133,7 @@ fn with_current(b: Body, count: usize, table: CurrentTable) -> Body
 }
 
 fn with_ramp(b: Body, ramp: RampTable) -> Body
-    ensures { λ r. ⌜ r ≡ withRamp b ramp ⌝ }
+    ensures { λ r. ⌜ ((cells : Triple) (n : ℕ) → r ≡ partOn b Ramp cells ramp n) ⌝ }
 {
     let mut next = b;
     next.ramp = ramp;
@@ -133,7 +143,7 @@ fn with_ramp(b: Body, ramp: RampTable) -> Body
 // A waveform of so many rows.
 fn with_waveform(b: Body, count: usize) -> Body
     requires { ⌜ (b .row + count < 2 ^ 64) × (b .waveforms < 2 ^ 63) ⌝ }
-    ensures { λ r. ⌜ r ≡ withWaveform b count ⌝ }
+    ensures { λ r. ⌜ ((e : Edge) (cells : Triple) (ramp : RampTable) → r ≡ partOn b (Waveform e) cells ramp count) ⌝ }
 {
     let mut next = b;
     let row = b.row + count;
@@ -143,28 +153,28 @@ fn with_waveform(b: Body, count: usize) -> Body
     next
 }
 
+fn cells_of(argument: &[u8]) -> Triple
+    ensures { λ t. ⌜ t ≡ orElse noCells (threeCells (words (now (argument .entry)))) ⌝ }
+{
+    line_cells::triple_is(line_cells::three_cells(argument, 0))
+}
+
 // A keyword of the model with its argument; c stands behind its line.
 fn take_part(b: Body, src: &[u8], c: Cursor, part: ModelPart, argument: &[u8]) -> Taken
     requires { ⌜ Placed (now src) c × (b .row < 2 ^ 63 + c .at) × (b .waveforms < c .at) ⌝ }
-    ensures { λ r. ⌜ PartTaken (now (src .entry)) b c (now (argument .entry)) part r ⌝ }
+    ensures { λ r. ⌜ KeyTaken (now (src .entry)) b (InModel part) (now (argument .entry)) c r ⌝ }
 {
     match part {
         ModelPart::VoltageRange => Taken {
-            body: with_voltage(
-                b,
-                line_cells::triple_is(line_cells::three_cells(argument, 0)),
-            ),
+            body: with_voltage(b, cells_of(argument)),
             next: c,
         },
         ModelPart::TemperatureRange => Taken {
-            body: with_temperature(
-                b,
-                line_cells::triple_is(line_cells::three_cells(argument, 0)),
-            ),
+            body: with_temperature(b, cells_of(argument)),
             next: c,
         },
         ModelPart::Current(table) => {
-            let counted = table_rows::count_rows(src, c, false);
+            let counted = table_rows::count_rows(src, c);
             let next = counted.next;
             Taken {
                 body: with_current(b, counted.count, table),
@@ -180,7 +190,7 @@ fn take_part(b: Body, src: &[u8], c: Cursor, part: ModelPart, argument: &[u8]) -
             }
         }
         ModelPart::Waveform(_) => {
-            let counted = table_rows::count_rows(src, c, true);
+            let counted = table_rows::count_rows(src, c);
             let next = counted.next;
             Taken {
                 body: with_waveform(b, counted.count),
@@ -190,26 +200,44 @@ fn take_part(b: Body, src: &[u8], c: Cursor, part: ModelPart, argument: &[u8]) -
     }
 }
 
-// What the keywords from a cursor on say; row is the place of the first row.
+// A keyword of another section changes nothing.
+fn take_key(b: Body, src: &[u8], c: Cursor, k: Keyword, argument: &[u8]) -> Taken
+    requires { ⌜ Placed (now src) c × (b .row < 2 ^ 63 + c .at) × (b .waveforms < c .at) ⌝ }
+    ensures { λ r. ⌜ KeyTaken (now (src .entry)) b k (now (argument .entry)) c r ⌝ }
+{
+    match k {
+        Keyword::InModel(part) => take_part(b, src, c, part, argument),
+        Keyword::IbisVer => Taken { body: b, next: c },
+        Keyword::InHeader(_) => Taken { body: b, next: c },
+        Keyword::Opens(_) => Taken { body: b, next: c },
+        Keyword::InComponent(_) => Taken { body: b, next: c },
+        Keyword::End => Taken { body: b, next: c },
+    }
+}
+
+// What the keywords from a cursor on say, up to the end of the section; row is the place of the first row.
 pub(crate) fn body_of(src: &[u8], c: Cursor, row: usize) -> Body
     requires { ⌜ Placed (now src) c × (row < 2 ^ 63) ⌝ }
-    ensures { λ r. ⌜ r ≡ bodyFrom (bareBody row) (partsIn (rest (now (src .entry)) c)) ⌝ }
+    ensures { λ r. ⌜ r ≡ bodyOn (bareBody row) (front isWithin (rest (now (src .entry)) c)) ⌝ }
 {
     let mut b = bare_body(row);
     let mut d = c;
     loop {
-        match table_rows::next_part(src, d) {
-            PartNext::Part {
-                part,
+        match lines_under::next_key(src, d) {
+            KeyNext::Key {
+                keyword,
                 start,
                 end,
                 next,
             } => {
-                let taken = take_part(b, src, next, part, &src[start..end]);
+                if lines_under::ends(keyword) {
+                    return b;
+                }
+                let taken = take_key(b, src, next, keyword, &src[start..end]);
                 b = taken.body;
                 d = taken.next;
             }
-            PartNext::NoPart => {
+            KeyNext::NoKey => {
                 return b;
             }
         }

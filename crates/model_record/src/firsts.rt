@@ -2,20 +2,20 @@
 ghost use mathlib.Core.Bool.{cond};
 ghost use mathlib.Core.Path.{_≡_};
 ghost use lib.Dec.{eqb};
-ghost use Rattle.decimal.specs.declared.Cell.the-variants.{Number};
+ghost use Rattle.laws.specs.Said.{orElse};
 ghost use Rattle.cut_lines.specs.Cursors.{Placed};
-ghost use Rattle.line_rules.specs.Fields.{namedWord, wordMeaning, namedCells, assignedNumber, orGiven, numberIs, tripleIs};
+ghost use Rattle.line_rules.specs.Fields.{wordLine, cellsLine, numberLine};
 ghost use Rattle.line_rules.specs.Tables.{modelTypes, polarities, enables};
-ghost use Rattle.rules.specs.Model.{orNothing, isInput, orElse};
-ghost use Rattle.records.specs.declared.Polarity.the-variants.{NoPolarity};
-ghost use Rattle.records.specs.declared.Enable.the-variants.{NoEnable};
-ghost use Rattle.records.specs.declared.ModelType.the-variants.{Terminator};
-ghost use Rattle.model_record.specs.Firsts.{bareLines, withFirstLine, defaulted, FirstReadIs};
+ghost use Rattle.rules.specs.Model.{isInput, typeIs};
+ghost use Rattle.rules.specs.Reading.{threshold};
+ghost use Rattle.model_record.specs.Firsts.{bareLines, firstLine, defaulted, FirstReadIs};
 use crate::FirstLines;
 use crate::FirstRead;
 use cut_lines::Cursor;
 use decimal::Cell;
+use decimal::CellRead;
 use decimal::Decimal;
+use line_rules::TripleRead;
 use lines_under::LineNext;
 use name_table::Found;
 use named_lines::TypeRead;
@@ -27,61 +27,75 @@ use records::Triple;
 // ---- one field after the line at place n
 
 fn kind_after(n: usize, w: &[u8], before: ModelType) -> ModelType
-    ensures { λ r. ⌜ r ≡ cond (eqb n 0) (orGiven (wordMeaning modelTypes (now (w .entry))) Terminator) before ⌝ }
+    ensures { λ r. ⌜ r ≡ cond (eqb n 0) (orElse before (wordLine modelTypes (now (w .entry)))) before ⌝ }
 {
     if n != 0 {
         return before;
     }
     match named_lines::type_of(w) {
         TypeRead::OfType(kind) => kind,
-        TypeRead::NoType => ModelType::Terminator,
+        TypeRead::NoType => before,
     }
 }
 
 fn input_after(n: usize, w: &[u8], before: bool) -> bool
-    ensures { λ r. ⌜ r ≡ cond (eqb n 0) (isInput (orNothing (namedWord (now (w .entry))))) before ⌝ }
+    ensures { λ r. ⌜ r ≡ cond (eqb n 0) (orElse before (typeIs isInput (now (w .entry)))) before ⌝ }
 {
     if n == 0 {
-        return line_faults::is_input(w);
+        return line_faults::is_input(w, before);
     }
     before
 }
 
 fn polarity_after(n: usize, w: &[u8], before: Polarity) -> Polarity
-    ensures { λ r. ⌜ r ≡ cond (eqb n 1) (orGiven (wordMeaning polarities (now (w .entry))) NoPolarity) before ⌝ }
+    ensures { λ r. ⌜ r ≡ cond (eqb n 1) (orElse before (wordLine polarities (now (w .entry)))) before ⌝ }
 {
-    if n == 1 {
-        return named_lines::polarity_of(w);
+    if n != 1 {
+        return before;
     }
-    before
+    match named_lines::polarity_of(w) {
+        Polarity::NoPolarity => before,
+        Polarity::Inverting => Polarity::Inverting,
+        Polarity::NonInverting => Polarity::NonInverting,
+    }
 }
 
 fn enable_after(n: usize, w: &[u8], before: Enable) -> Enable
-    ensures { λ r. ⌜ r ≡ cond (eqb n 2) (orGiven (wordMeaning enables (now (w .entry))) NoEnable) before ⌝ }
+    ensures { λ r. ⌜ r ≡ cond (eqb n 2) (orElse before (wordLine enables (now (w .entry)))) before ⌝ }
 {
-    if n == 2 {
-        return named_lines::enable_of(w);
+    if n != 2 {
+        return before;
     }
-    before
+    match named_lines::enable_of(w) {
+        Enable::NoEnable => before,
+        Enable::ActiveHigh => Enable::ActiveHigh,
+        Enable::ActiveLow => Enable::ActiveLow,
+    }
 }
 
 fn comp_after(n: usize, w: &[u8], before: Triple) -> Triple
-    ensures { λ r. ⌜ r ≡ cond (eqb n 3) (tripleIs (namedCells (now (w .entry)))) before ⌝ }
+    ensures { λ r. ⌜ r ≡ cond (eqb n 3) (orElse before (cellsLine (now (w .entry)))) before ⌝ }
 {
-    if n == 3 {
-        return line_cells::triple_is(line_faults::named_cells(w));
+    if n != 3 {
+        return before;
     }
-    before
+    match line_faults::cells_line(w) {
+        TripleRead::Cells(cells) => cells,
+        TripleRead::Flawed(_) => before,
+    }
 }
 
 // A number whose own line stands at `place`.
 pub(crate) fn number_after(place: usize, n: usize, w: &[u8], before: Cell) -> Cell
-    ensures { λ r. ⌜ r ≡ cond (eqb n place) (numberIs (assignedNumber (now (w .entry)))) before ⌝ }
+    ensures { λ r. ⌜ r ≡ cond (eqb n place) (orElse before (numberLine (now (w .entry)))) before ⌝ }
 {
-    if n == place {
-        return line_cells::number_is(named_lines::assigned_number(w));
+    if n != place {
+        return before;
     }
-    before
+    match named_lines::number_line(w) {
+        CellRead::Read(number) => number,
+        CellRead::Bad(_) => before,
+    }
 }
 
 // ---- the lines
@@ -105,9 +119,10 @@ fn bare_lines() -> FirstLines
 }
 
 // A line goes to its place.
-fn with_first_line(f: FirstLines, w: &[u8], found: Found) -> FirstLines
-    ensures { λ r. ⌜ r ≡ withFirstLine f (now (w .entry)) found ⌝ }
+fn with_first_line(f: FirstLines, w: &[u8]) -> FirstLines
+    ensures { λ r. ⌜ r ≡ firstLine f (now (w .entry)) ⌝ }
 {
+    let found = named_lines::model_line(w);
     let Found::At(n) = found else {
         return f;
     };
@@ -147,8 +162,7 @@ pub(crate) fn first_lines(src: &[u8], c: Cursor) -> FirstRead
         match lines_under::next_line(src, d) {
             LineNext::Line { start, end, next } => {
                 d = next;
-                let w = &src[start..end];
-                f = with_first_line(f, w, named_lines::model_line(w));
+                f = with_first_line(f, &src[start..end]);
             }
             LineNext::NoLine { next } => {
                 return FirstRead {
@@ -164,7 +178,7 @@ pub(crate) fn first_lines(src: &[u8], c: Cursor) -> FirstRead
 
 // A threshold, or its default on an input.
 fn threshold(input: bool, given: Cell, standard: Decimal) -> Cell
-    ensures { λ r. ⌜ r ≡ cond input (Number (orElse given standard)) given ⌝ }
+    ensures { λ r. ⌜ r ≡ threshold input standard given ⌝ }
 {
     if !input {
         return given;

@@ -2,10 +2,11 @@
 ghost use mathlib.Core.Bool.{cond};
 ghost use mathlib.Core.Path.{_≡_};
 ghost use lib.Dec.{eqb};
+ghost use Rattle.laws.specs.Said.{orElse};
 ghost use Rattle.cut_lines.specs.Cursors.{Placed};
-ghost use Rattle.line_rules.specs.Fields.{namedSlopes, slopesAre};
+ghost use Rattle.line_rules.specs.Fields.{slopesLine};
 ghost use Rattle.records.specs.Stored.{noSlopes};
-ghost use Rattle.model_record.specs.Ramps.{bareRamp, withRampLine, RampReadIs};
+ghost use Rattle.model_record.specs.Ramps.{bareRamp, rampLine, RampReadIs};
 use crate::RampLinesRead;
 use crate::firsts::number_after;
 use cut_lines::Cursor;
@@ -27,23 +28,17 @@ pub(crate) fn no_slopes() -> RampTriple
     }
 }
 
-fn slopes_are(r: RampRead) -> RampTriple
-    ensures { λ t. ⌜ t ≡ slopesAre r ⌝ }
-{
-    match r {
-        RampRead::Slopes(t) => t,
-        RampRead::Refused(_) => no_slopes(),
-    }
-}
-
 // Slopes whose own line stands at `place`, after the line at place n.
 fn slopes_after(place: usize, n: usize, w: &[u8], before: RampTriple) -> RampTriple
-    ensures { λ r. ⌜ r ≡ cond (eqb n place) (slopesAre (namedSlopes (now (w .entry)))) before ⌝ }
+    ensures { λ r. ⌜ r ≡ cond (eqb n place) (orElse before (slopesLine (now (w .entry)))) before ⌝ }
 {
-    if n == place {
-        return slopes_are(line_faults::named_slopes(w));
+    if n != place {
+        return before;
     }
-    before
+    match line_faults::slopes_line(w) {
+        RampRead::Slopes(slopes) => slopes,
+        RampRead::Refused(_) => before,
+    }
 }
 
 // Before the first line.
@@ -59,9 +54,10 @@ fn bare_ramp() -> RampTable
 }
 
 // A line goes to its place.
-fn with_ramp_line(r: RampTable, w: &[u8], found: Found) -> RampTable
-    ensures { λ t. ⌜ t ≡ withRampLine r (now (w .entry)) found ⌝ }
+fn with_ramp_line(r: RampTable, w: &[u8]) -> RampTable
+    ensures { λ t. ⌜ t ≡ rampLine r (now (w .entry)) ⌝ }
 {
+    let found = named_lines::ramp_line(w);
     let Found::At(n) = found else {
         return r;
     };
@@ -87,8 +83,7 @@ pub(crate) fn ramp_lines(src: &[u8], c: Cursor) -> RampLinesRead
         match lines_under::next_line(src, d) {
             LineNext::Line { start, end, next } => {
                 d = next;
-                let w = &src[start..end];
-                ramp = with_ramp_line(ramp, w, named_lines::ramp_line(w));
+                ramp = with_ramp_line(ramp, &src[start..end]);
             }
             LineNext::NoLine { next } => {
                 return RampLinesRead {

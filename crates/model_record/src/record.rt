@@ -1,11 +1,11 @@
 // The whole record of a model.
 ghost use mathlib.Core.Path.{_≡_};
 ghost use Prim.Native.Nat.{_^_, _<_};
+ghost use lib.ListN.{length};
 ghost use Rattle.laws.specs.Lists.{front};
-ghost use Rattle.cut_lines.specs.Texts.{rest};
-ghost use Rattle.cut_lines.specs.Cursors.{Placed};
-ghost use Rattle.rules.specs.Reading.{isWithin, modelIn};
-ghost use Rattle.layout.specs.Laid.{modelLaid};
+ghost use Rattle.cut_lines.specs.Cursors.{rest, Placed};
+ghost use Rattle.rules.specs.Reading.{isWithin, tablesIn, modelIn};
+ghost use Rattle.layout.specs.Laid.{tableAt, waveformsLaid};
 ghost use Rattle.model_record.specs.Bodies.{modelOver};
 use crate::Body;
 use crate::FirstLines;
@@ -75,7 +75,7 @@ pub fn model_of(
     start: usize,
 ) -> Model
     requires { ⌜ Placed (now src) c × (row < 2 ^ 63) ⌝ }
-    ensures { λ r. ⌜ r ≡ modelLaid section row start (modelIn (now (name .entry)) (front isWithin (rest (now (src .entry)) c))) ⌝ }
+    ensures { λ r. ⌜ r ≡ modelIn section (tableAt (tablesIn (front isWithin (rest (now (src .entry)) c))) row) (record { start = start; count = length (waveformsLaid (tablesIn (front isWithin (rest (now (src .entry)) c))) row) }) (now (name .entry)) (front isWithin (rest (now (src .entry)) c)) ⌝ }
 {
     let first = first_lines(src, c);
     let lines = first.lines;

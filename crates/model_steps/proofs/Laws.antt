@@ -1,26 +1,67 @@
--- Laws on a model's rows and tables, one for each branch.
+-- Laws on a model's rows and tables, one for each branch; and on its lines and what was given, by their names.
 use Prim.Native.Nat.{ℕ, _+_, _≤_, _<_, min}
 use mathlib.Core.Path.{_≡_, refl, sym}
+use mathlib.Core.List.{List}
 use mathlib.Core.Bool.{Bool, true, false, cond, _&&_}
 use lib.Dec.{eqb, leb}
 use borrow.Author.Tests.{le-leb, lt-leb}
+use Rattle.laws.specs.Bytes.{isBlank}
+use Rattle.laws.specs.Lists.{eqs}
+use Rattle.laws.specs.Said.{Said, says, fault, orElse}
 use Rattle.laws.proofs.Tests.{by-test, cond-yes, cond-no, and-both, and-left, and-right}
 use Rattle.decimal.specs.declared.Decimal.{Decimal}
+use Rattle.words.specs.Words.{words, grown, onto}
+use Rattle.name_table.specs.Names.{placeFrom}
+use Rattle.name_table.specs.declared.Found.the-variants.{At}
+use Rattle.records.specs.declared.Row.{Row}
+use Rattle.line_rules.specs.Fields.{lineAt, takes}
+use Rattle.line_rules.specs.Tables.{modelLines, rampLines, fixtures}
+use Rattle.line_rules.proofs.Places.{named-at}
+use Rattle.given.specs.Given.{gave}
+use Rattle.given.specs.declared.Given.{Given}
 use Rattle.rules.specs.Going.{refuse}
-use Rattle.rules.specs.Model.{withRow, rises, rowLine, tableFault}
-use Rattle.line_rules.specs.declared.RowRead.{RowRead}
-use Rattle.line_rules.specs.declared.RowRead.the-variants.{Line, Amiss}
+use Rattle.rules.specs.Model.{withRow, rises, rowLine, tableFault, modelDone}
 use Rattle.rules.specs.declared.RowsSeen.{RowsSeen}
 use Rattle.rules.specs.declared.ModelList.{ModelList}
 use Rattle.rules.specs.declared.ModelState.{ModelState}
+use Rattle.model_steps.specs.Closes.{bothGiven, isWhole, isCrossed}
 use Rattle.model_steps.specs.Rows.{onRow, rowStep, rowWent}
+
+-- ---- the first lines: a line's place says whether it has a name
+
+module _ {A : Type 0} (read : List ℕ → Said A) (before : A) (w : List ℕ) (n : ℕ) (e : lineAt modelLines w ≡ At n) where
+  pub takes-type : cond (eqb n 0) (orElse before (read w)) before ≡ takes "Model_type" read before w
+  unfolding takes placeFrom words grown onto isBlank eqs
+  takes-type = rw (named-at modelLines "Model_type" w n 0 e refl)
+
+  pub takes-vinl : cond (eqb n 4) (orElse before (read w)) before ≡ takes "Vinl" read before w
+  unfolding takes placeFrom words grown onto isBlank eqs
+  takes-vinl = rw (named-at modelLines "Vinl" w n 4 e refl)
+
+  pub takes-vinh : cond (eqb n 5) (orElse before (read w)) before ≡ takes "Vinh" read before w
+  unfolding takes placeFrom words grown onto isBlank eqs
+  takes-vinh = rw (named-at modelLines "Vinh" w n 5 e refl)
+
+-- ---- what was given, by name
+
+pub ramp-given : (g : Given) → bothGiven g ≡ (gave g rampLines "dV/dt_r" && gave g rampLines "dV/dt_f")
+unfolding gave placeFrom words grown onto isBlank eqs
+ramp-given g = refl
+
+pub fixture-given : (g : Given) → bothGiven g ≡ (gave g fixtures "R_fixture" && gave g fixtures "V_fixture")
+unfolding gave placeFrom words grown onto isBlank eqs
+fixture-given g = refl
+
+pub done-whole : (m : ModelState) → modelDone m ≡ cond (isWhole m) (cond (isCrossed m) 20 0) 9
+unfolding modelDone gave placeFrom words grown onto isBlank eqs
+done-whole m = refl
 
 -- ---- rows
 
-pub row-line : (on : RowsSeen → ModelList) (m : ModelState) (r : RowsSeen) (k : ℕ) (x : RowRead) → rowLine on m r k x ≡ rowWent on m k (rowStep r x)
+pub row-line : (on : RowsSeen → ModelList) (m : ModelState) (r : RowsSeen) (k : ℕ) (x : Said Row) → rowLine on m r k x ≡ rowWent on m k (rowStep r x)
 unfolding refuse onRow
-row-line on m r k (Amiss n) = refl
-row-line on m r k (Line l) = by-test (rises r (l .number)) (λ e. rw e) (λ e. rw e)
+row-line on m r k (fault n) = refl
+row-line on m r k (says l) = by-test (rises r (l .number)) (λ e. rw e) (λ e. rw e)
 
 pub row-seen : (r : RowsSeen) (d : Decimal) (typ h : Bool) → h ≡ cond (eqb (r .count) 0) typ (r .head) → (n : ℕ) → n ≡ min (r .count + 1) 1001
     → _≡_ {A = RowsSeen} (record { count = n; last = d; head = h; tail = typ }) (withRow r d typ)

@@ -1,8 +1,8 @@
--- The tests of `modelShut` and `modelDone`, each by itself.
+-- The tests of `modelShut` and `modelDone`, each by itself and by the places of what was given.
 use mathlib.Core.Bool.{Bool, not, _&&_, _||_}
 use Rattle.decimal.specs.Decimal.{lessThan}
 use Rattle.given.specs.Given.{has}
-use Rattle.rules.specs.Model.{defaultVinl, defaultVinh, orElse}
+use Rattle.rules.specs.Model.{defaultVinl, defaultVinh, numberOr}
 use Rattle.given.specs.declared.Given.{Given}
 use Rattle.rules.specs.declared.ModelState.{ModelState}
 
@@ -13,4 +13,4 @@ abbrev pub isWhole : ModelState → Bool
 isWhole m = has (m .first) 0 && (has (m .first) 3 && (has (m .parts) 0 && (not (m .driven) || has (m .parts) 6)))
 
 abbrev pub isCrossed : ModelState → Bool
-isCrossed m = m .input && not (lessThan (orElse (m .vinl) defaultVinl) (orElse (m .vinh) defaultVinh))
+isCrossed m = m .input && not (lessThan (numberOr defaultVinl (m .vinl)) (numberOr defaultVinh (m .vinh)))

@@ -1,11 +1,10 @@
 -- A row's step apart from the list that it goes into, and the line's step by it.
 use Prim.Native.Nat.{ℕ}
 use mathlib.Core.Bool.{cond}
+use Rattle.laws.specs.Said.{Said, says, fault}
 use Rattle.rules.specs.Going.{stop}
 use Rattle.rules.specs.Model.{isNumber, rises, withRow, withModelList}
 use Rattle.records.specs.declared.Row.{Row}
-use Rattle.line_rules.specs.declared.RowRead.{RowRead}
-use Rattle.line_rules.specs.declared.RowRead.the-variants.{Line, Amiss}
 use Rattle.rules.specs.declared.RowsSeen.{RowsSeen}
 use Rattle.rules.specs.declared.ModelList.{ModelList}
 use Rattle.rules.specs.declared.ModelState.{ModelState}
@@ -19,9 +18,9 @@ use Rattle.model_steps.specs.declared.RowStep.the-variants.{Next, NoRow}
 unfoldable pub onRow : RowsSeen → Row → RowStep
 onRow r l = cond (rises r (l .number)) (Next (withRow r (l .number) (isNumber (l .cells .typ)))) (NoRow 13)
 
-abbrev pub rowStep : RowsSeen → RowRead → RowStep
-rowStep r (Line l) = onRow r l
-rowStep r (Amiss n) = NoRow n
+abbrev pub rowStep : RowsSeen → Said Row → RowStep
+rowStep r (says l) = onRow r l
+rowStep r (fault n) = NoRow n
 
 abbrev pub rowWent : (RowsSeen → ModelList) → ModelState → ℕ → RowStep → Went
 rowWent on m k (Next s) = On (InModel (withModelList m (on s))) TableRow

@@ -2,16 +2,22 @@
 ghost use mathlib.Core.Bool.{cond};
 ghost use mathlib.Core.Path.{_≡_};
 ghost use lib.Dec.{eqb};
-ghost use Rattle.words.specs.Words.{words};
-ghost use Rattle.line_rules.specs.Fields.{firstWord, namedWord, assignedNumber, lineAt, rowOf, numberIs};
-ghost use Rattle.line_rules.specs.Tables.{modelLines, rampLines, fixtures};
-ghost use Rattle.rules.specs.Model.{orNothing, isInput, isDriven, withFirst, firstLine, rowLine, rampLine, fixtureLine, beginsLetter, waveformLine, modelLine};
-ghost use Rattle.rules.specs.declared.ModelList.the-variants.{CurrentRows, WaveformRows};
+ghost use Rattle.laws.specs.Said.{faultIn, orElse};
+ghost use Rattle.words.specs.Words.{word, words};
+ghost use Rattle.name_table.specs.declared.Found.the-variants.{At};
+ghost use Rattle.line_rules.specs.Fields.{lineAt, numberLine, rowOf};
+ghost use Rattle.line_rules.specs.Tables.{modelLines, fixtures};
+ghost use Rattle.given.specs.Given.{with};
+ghost use Rattle.rules.specs.Going.{namedLine};
+ghost use Rattle.rules.specs.Model.{isInput, isDriven, typeIs, withFirst, withModelList, rowLine, beginsLetter, waveformLine, modelLine};
+ghost use Rattle.rules.specs.declared.ModelList.the-variants.{ModelFirst, CurrentRows, RampLines, WaveformRows};
+ghost use Rattle.rules.specs.declared.Stage.the-variants.{InModel};
 use crate::RowStep;
 use crate::rows::row_step;
 use crate::state::quiet;
 use crate::state::with_list;
 use decimal::Cell;
+use decimal::CellRead;
 use given::Given;
 use name_table::Found;
 use rules::Event;
@@ -25,35 +31,39 @@ use rules::Went;
 
 // A threshold's cell after the line at place n: its own line stands at `place`.
 fn threshold(place: usize, n: usize, w: &[u8], before: Cell) -> Cell
-    ensures { λ c. ⌜ c ≡ cond (eqb n place) (numberIs (assignedNumber (now (w .entry)))) before ⌝ }
+    ensures { λ c. ⌜ c ≡ cond (eqb n place) (orElse before (numberLine (now (w .entry)))) before ⌝ }
 {
-    if n == place {
-        return line_cells::number_is(named_lines::assigned_number(w));
+    if n != place {
+        return before;
     }
-    before
+    match named_lines::number_line(w) {
+        CellRead::Read(c) => c,
+        CellRead::Bad(_) => before,
+    }
 }
 
 fn input_after(n: usize, w: &[u8], before: bool) -> bool
-    ensures { λ t. ⌜ t ≡ cond (eqb n 0) (isInput (orNothing (namedWord (now (w .entry))))) before ⌝ }
+    ensures { λ t. ⌜ t ≡ cond (eqb n 0) (orElse before (typeIs isInput (now (w .entry)))) before ⌝ }
 {
     if n == 0 {
-        return line_faults::is_input(w);
+        return line_faults::is_input(w, before);
     }
     before
 }
 
 fn driven_after(n: usize, w: &[u8], before: bool) -> bool
-    ensures { λ t. ⌜ t ≡ cond (eqb n 0) (isDriven (orNothing (namedWord (now (w .entry))))) before ⌝ }
+    ensures { λ t. ⌜ t ≡ cond (eqb n 0) (orElse before (typeIs isDriven (now (w .entry)))) before ⌝ }
 {
     if n == 0 {
-        return line_faults::is_driven(w);
+        return line_faults::is_driven(w, before);
     }
     before
 }
 
 // The line at place n is given too; the type, Vinl and Vinh are remembered for the close.
 fn with_first(m: ModelState, n: usize, w: &[u8]) -> ModelState
-    ensures { λ r. ⌜ r ≡ withFirst m n (now (w .entry)) ⌝ }
+    requires { ⌜ lineAt modelLines (now w) ≡ At n ⌝ }
+    ensures { λ r. ⌜ r ≡ withFirst m (now (w .entry)) (with (m .first) n) ⌝ }
 {
     let first = m.first;
     let vinl = m.vinl;
@@ -74,7 +84,7 @@ fn with_first(m: ModelState, n: usize, w: &[u8]) -> ModelState
 }
 
 fn first_line(m: ModelState, k: u64, w: &[u8]) -> Went
-    ensures { λ r. ⌜ r ≡ firstLine m k (now (w .entry)) (lineAt modelLines (now (w .entry))) ⌝ }
+    ensures { λ r. ⌜ r ≡ modelLine m k (now (w .entry)) ModelFirst ⌝ }
 {
     let Found::At(n) = named_lines::model_line(w) else {
         return rules::stopped(10, k);
@@ -126,7 +136,7 @@ fn point_line(m: ModelState, line: u64, given: Given, r: RowsSeen, k: u64, w: &[
 // ---- a ramp's lines, and a waveform's before its rows
 
 fn ramp_line(m: ModelState, line: u64, given: Given, k: u64, w: &[u8]) -> Went
-    ensures { λ r. ⌜ r ≡ rampLine m line given k (now (w .entry)) (lineAt rampLines (now (w .entry))) ⌝ }
+    ensures { λ r. ⌜ r ≡ modelLine m k (now (w .entry)) (RampLines line given) ⌝ }
 {
     let Found::At(n) = named_lines::ramp_line(w) else {
         return rules::stopped(10, k);
@@ -146,7 +156,7 @@ fn ramp_line(m: ModelState, line: u64, given: Given, k: u64, w: &[u8]) -> Went
 }
 
 fn fixture_line(m: ModelState, line: u64, given: Given, r: RowsSeen, k: u64, w: &[u8]) -> Went
-    ensures { λ s. ⌜ s ≡ fixtureLine m line given r k (now (w .entry)) (lineAt fixtures (now (w .entry))) ⌝ }
+    ensures { λ s. ⌜ s ≡ namedLine given (lineAt fixtures (now (w .entry))) (faultIn (numberLine (now (w .entry)))) k (λ h. InModel (withModelList m (WaveformRows line h r))) ⌝ }
 {
     let Found::At(n) = named_lines::fixture_line(w) else {
         return rules::stopped(10, k);
@@ -154,7 +164,7 @@ fn fixture_line(m: ModelState, line: u64, given: Given, r: RowsSeen, k: u64, w: 
     if given::is_given(given, n) {
         return rules::stopped(8, k);
     }
-    let fault = line_cells::number_fault(named_lines::assigned_number(w));
+    let fault = line_cells::cell_fault(named_lines::number_line(w));
     if fault != 0 {
         return rules::stopped(fault, k);
     }
@@ -168,7 +178,7 @@ fn fixture_line(m: ModelState, line: u64, given: Given, r: RowsSeen, k: u64, w: 
 
 // The first word begins with a letter.
 fn begins_letter(w: &[u8]) -> bool
-    ensures { λ t. ⌜ t ≡ beginsLetter (firstWord (words (now (w .entry)))) ⌝ }
+    ensures { λ t. ⌜ t ≡ beginsLetter (word 0 (words (now (w .entry)))) ⌝ }
 {
     let first = named_lines::first_word(w);
     let start = first.start;

@@ -1,9 +1,7 @@
 // The keywords of a model, and what is checked where a list, a table or the model closes.
 ghost use mathlib.Core.Path.{_≡_};
-ghost use Rattle.rules.specs.Going.{unless, quietly};
-ghost use Rattle.rules.specs.Model.{tablePlace, modelPlace, modelOpens, singlePart, waveformPart, modelPart, withModelList, tableFault, modelShut, defaultVinl, defaultVinh, orElse, modelDone};
-ghost use Rattle.rules.specs.declared.ModelList.the-variants.{ModelShut};
-ghost use Rattle.rules.specs.declared.Stage.the-variants.{InModel};
+ghost use Rattle.rules.specs.Going.{unless};
+ghost use Rattle.rules.specs.Model.{modelPlace, modelOpens, singlePart, waveformPart, modelPart, tableFault, closed, modelShut, defaultVinl, defaultVinh, numberOr, modelDone};
 ghost use Rattle.model_steps.specs.Closes.{bothGiven, isWhole, isCrossed};
 use crate::rows::no_rows;
 use crate::rows::table_fault;
@@ -23,16 +21,8 @@ use rules::Went;
 
 // ---- keywords
 
-fn table_place(t: CurrentTable) -> usize
-    ensures { λ r. ⌜ r ≡ tablePlace t ⌝ }
-{
-    match t {
-        CurrentTable::Pulldown => 2,
-        CurrentTable::Pullup => 3,
-        CurrentTable::GndClamp => 4,
-        CurrentTable::PowerClamp => 5,
-    }
-}
+// The place of the waveforms, which alone may stand more than once.
+const WAVEFORMS: usize = 7;
 
 fn model_place(p: ModelPart) -> usize
     ensures { λ r. ⌜ r ≡ modelPlace p ⌝ }
@@ -40,9 +30,16 @@ fn model_place(p: ModelPart) -> usize
     match p {
         ModelPart::VoltageRange => 0,
         ModelPart::TemperatureRange => 1,
-        ModelPart::Current(t) => table_place(t),
+        ModelPart::Current(t) => {
+            match t {
+                CurrentTable::Pulldown => 2,
+                CurrentTable::Pullup => 3,
+                CurrentTable::GndClamp => 4,
+                CurrentTable::PowerClamp => 5,
+            }
+        }
         ModelPart::Ramp => 6,
-        ModelPart::Waveform(_) => 7,
+        ModelPart::Waveform(_) => WAVEFORMS,
     }
 }
 
@@ -109,13 +106,10 @@ fn waveform_part(m: ModelState, k: u64, argument: &[u8], p: ModelPart) -> Went
 pub fn model_part(m: ModelState, k: u64, argument: &[u8], p: ModelPart) -> Went
     ensures { λ r. ⌜ r ≡ modelPart m k (now (argument .entry)) p ⌝ }
 {
-    match p {
-        ModelPart::VoltageRange => single_part(m, k, argument, p),
-        ModelPart::TemperatureRange => single_part(m, k, argument, p),
-        ModelPart::Current(_) => single_part(m, k, argument, p),
-        ModelPart::Ramp => single_part(m, k, argument, p),
-        ModelPart::Waveform(_) => waveform_part(m, k, argument, p),
+    if model_place(p) == WAVEFORMS {
+        return waveform_part(m, k, argument, p);
     }
+    single_part(m, k, argument, p)
 }
 
 // ---- the close of a list or a table
@@ -136,14 +130,14 @@ const MOST_ROWS: u64 = 100;
 const MOST_POINTS: u64 = 1000;
 
 fn closed(m: ModelState) -> Went
-    ensures { λ r. ⌜ r ≡ quietly (InModel (withModelList m ModelShut)) ⌝ }
+    ensures { λ r. ⌜ r ≡ closed m ⌝ }
 {
     quiet(with_list(m, ModelList::ModelShut))
 }
 
 // The table that line k opened.
 fn close_table(m: ModelState, most: u64, k: u64, rows: RowsSeen) -> Went
-    ensures { λ r. ⌜ r ≡ unless (tableFault most rows) k (quietly (InModel (withModelList m ModelShut))) ⌝ }
+    ensures { λ r. ⌜ r ≡ unless (tableFault most rows) k (closed m) ⌝ }
 {
     let fault = table_fault(most, rows);
     if fault != 0 {
@@ -178,8 +172,8 @@ pub fn model_shut(m: ModelState) -> Went
 
 // ---- the close of a model
 
-fn or_else(c: Cell, default: Decimal) -> Decimal
-    ensures { λ r. ⌜ r ≡ orElse c default ⌝ }
+fn number_or(default: Decimal, c: Cell) -> Decimal
+    ensures { λ r. ⌜ r ≡ numberOr default c ⌝ }
 {
     match c {
         Cell::Number(d) => d,
@@ -239,8 +233,8 @@ fn is_crossed(m: ModelState) -> bool
     }
     let vinl = m.vinl;
     let vinh = m.vinh;
-    let low = or_else(vinl, default_low());
-    let high = or_else(vinh, default_high());
+    let low = number_or(default_low(), vinl);
+    let high = number_or(default_high(), vinh);
     !decimal::less(low, high)
 }
 

@@ -3,26 +3,27 @@ use Prim.Native.Nat.{ℕ, zero, suc, _+_, _-_, _*_, _%_, _≤_, _<_}
 use mathlib.Core.Path.{_≡_, refl, sym, ap, _∙_}
 use mathlib.Core.List.{List, [], _∷_}
 use mathlib.Core.Bool.{Bool, true, false, cond, _&&_, _||_}
-use mathlib.Core.Option.{none, some}
+use mathlib.Core.Option.{Option, none, some}
 use native.Mathlib.Omega.{arith}
 use native.Mathlib.Numerals.{add-one}
-use lib.ListN.{length, drop, getD, set, drop-of-length-le}
+use lib.ListN.{length, drop, getD, set, replicate, drop-of-length-le, length-set, length-replicate}
 use lib.Seq.{getD-set-same, getD-set-other}
 use lib.Dec.{eqb}
 use borrow.Author.Tests.{eqb-false}
 use Rattle.laws.proofs.Lists.{from-cons}
 use Rattle.laws.proofs.Same.{eqs-eq}
 use Rattle.laws.specs.Lists.{front, eqs}
-use Rattle.laws.proofs.Tests.{by-test, by-order}
+use Rattle.laws.proofs.Tests.{by-test, by-order, impossible}
 use Rattle.rules.specs.Outline.{Entry, place, is, named, isUsed}
 use Rattle.records.specs.declared.Kind.{Kind}
 use Rattle.records.specs.declared.Kind.the-variants.{OfComponent, OfPin, OfSelector, OfChoice, OfModel}
 use Rattle.notes.specs.Noted.{orUsed, clash}
-use Rattle.note_words.specs.Store.{lineAt, nameAt, noteAt, notesTo}
+use Rattle.note_words.specs.Store.{mostNames, lineAt, nameAt, noteAt, notesTo}
 use Rattle.note_words.proofs.Laws.{note-name, note-line}
+use Rattle.name_checks.specs.declared.Clash.the-variants.{At, NoClash}
 use Rattle.name_checks.specs.declared.Meeting.{Meeting}
 use Rattle.name_checks.specs.declared.Meeting.the-variants.{Equal, Differing, Beyond}
-use Rattle.name_checks.specs.Lookup.{placeAt, entryAt, entriesTo, modelOrSelector, rivals, enclosed, meeting, meetingAt, keyFrom, keyAt, Keyed}
+use Rattle.name_checks.specs.Lookup.{placeAt, entryAt, entriesTo, modelOrSelector, rivals, enclosed, meeting, meetingAt, keyFrom, keyAt, keysTo, Keyed, clashOf}
 use Rattle.name_checks.proofs.NoteLaws.{note-kind}
 
 -- ---- a name among earlier ones, the nearest of them taken first
@@ -117,13 +118,37 @@ pub key-end : (k : ℕ) (s : List ℕ) (i : ℕ) → length s ≤ i → k ≡ ke
 unfolding keyFrom
 key-end k s i h = rw (drop-of-length-le s h) refl
 
-pub keyed-next : (s xs keys : List ℕ) (i v : ℕ) → i < length keys → v ≡ keyAt s xs i → Keyed s xs i keys → Keyed s xs (i + 1) (set keys i v)
+keyed-next : (s xs keys : List ℕ) (i v : ℕ) → i < length keys → v ≡ keyAt s xs i → Keyed s xs i keys → Keyed s xs (i + 1) (set keys i v)
 keyed-next s xs keys i v h e k j g =
     by-order i j
     (λ a.
     let z : j ≡ i = omega (arith, a, g) in
     rw z (getD-set-same keys i v 0 h ∙ e))
     (λ a. getD-set-other keys i j v 0 (λ y. omega (arith, a, y)) ∙ k j a)
+
+module _ (s xs : List ℕ) where
+  pub keys-none : replicate mostNames 0 ≡ keysTo s xs 0
+  unfolding keysTo
+  keys-none = refl
+
+  pub keys-turn : (keys : List ℕ) (i v : ℕ) → keys ≡ keysTo s xs i → v ≡ keyAt s xs i → set keys i v ≡ keysTo s xs (i + 1)
+  unfolding keysTo
+  keys-turn keys i v e f = rw (add-one i) rw e rw f refl
+
+  keys-long : (n : ℕ) → length (keysTo s xs n) ≡ mostNames
+  unfolding keysTo
+  keys-long zero = length-replicate {A = ℕ} mostNames 0
+  keys-long (suc n) = length-set (keysTo s xs n) n (keyAt s xs n) ∙ keys-long n
+
+  keys-are : (n : ℕ) → n ≤ mostNames → Keyed s xs n (keysTo s xs n)
+  keys-are zero h = λ j g. absurd (omega (arith, g))
+  keys-are (suc n) h =
+      let k = keyed-next s xs (keysTo s xs n) n (keyAt s xs n) (omega (arith, h, keys-long n)) refl (keys-are n (omega (arith, h))) in
+      let e : set (keysTo s xs n) n (keyAt s xs n) ≡ keysTo s xs (suc n) = keys-turn (keysTo s xs n) n (keyAt s xs n) refl refl ∙ ap (keysTo s xs) (add-one n) in
+      λ j g. ap (λ (l : List ℕ). getD l j 0) (sym e) ∙ k j (omega (arith, g))
+
+  pub keys-said : (n : ℕ) (keys : List ℕ) → n ≤ mostNames → keys ≡ keysTo s xs n → Keyed s xs n keys
+  keys-said n keys h e = rw e (keys-are n h)
 
 -- names whose keys differ
 pub keys-apart : (w v : List ℕ) → eqb (keyFrom 0 w) (keyFrom 0 v) ≡ false → false ≡ eqs w v
@@ -164,3 +189,13 @@ module _ (s xs : List ℕ) where
   clash-end i n h g e =
       let z : i ≡ n = omega (arith, h, g) in
       sym e ∙ ap (λ (m : ℕ). clash (entriesTo s xs m)) z
+
+-- ---- what is answered says the clash
+
+pub found-clash : (o : Option ℕ) (k : ℕ) → At k ≡ clashOf o → o ≡ some k
+found-clash (some l) k h = cc
+found-clash none k h = impossible (cc)
+
+pub no-clash : (o : Option ℕ) → NoClash ≡ clashOf o → o ≡ none
+no-clash (some l) h = impossible (cc)
+no-clash none h = refl

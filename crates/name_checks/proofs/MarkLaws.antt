@@ -11,23 +11,25 @@ use lib.Seq.{getD-set-same, getD-set-other}
 use lib.Dec.{eqb}
 use borrow.Author.Tests.{eq-eqb, ne-eqb, eqb-true, eqb-false}
 use Rattle.laws.specs.Lists.{eqs}
-use Rattle.laws.proofs.Tests.{by-test, by-order, never}
+use Rattle.laws.proofs.Tests.{by-test, by-order, cond-yes, cond-no, cond-map, never, impossible}
 use Rattle.laws.proofs.Same.{eqs-refl, eqs-eq}
 use Rattle.name_table.specs.declared.Found.{Found}
 use Rattle.name_table.specs.declared.Found.the-variants.{At, Nothing}
 use Rattle.rules.specs.Outline.{Entry, place, is, lists, isListed, firstFailing}
-use Rattle.rules.specs.Whole.{lastChecks, found, listed}
+use Rattle.rules.specs.Whole.{Outcome, refused, lastChecks}
+use Rattle.rules.specs.Last.{found, listed}
+use Rattle.records.specs.declared.Fault.{Fault}
 use Rattle.records.specs.declared.Kind.{Kind}
 use Rattle.records.specs.declared.Kind.the-variants.{OfComponent, OfPin, OfSelector, OfChoice, OfModel}
 use Rattle.notes.specs.Noted.{clash}
 use Rattle.note_words.specs.Store.{namesHeld, byKindFrom, storeLength, lineAt, noteAt, notesTo}
 use Rattle.note_words.proofs.Laws.{note-line}
 use Rattle.name_checks.specs.declared.Last.{Last}
-use Rattle.name_checks.specs.declared.Last.the-variants.{Fine, Missing, Unlisted}
-use Rattle.name_checks.specs.Lookup.{placeAt, entryAt, entriesTo, entriesFrom, Outside, modelOrSelector, enclosed, reaches, reachesAt, targetTo, missingLine, isMarked, clearedTo, Clear, withMark, marked, Marks, Marked, unmarkedLine, unmarkedFrom, Concludes}
+use Rattle.name_checks.specs.declared.Last.the-variants.{Fine, Faulty}
+use Rattle.name_checks.specs.Lookup.{placeAt, entryAt, entriesTo, entriesFrom, Outside, modelOrSelector, enclosed, reaches, reachesAt, targetTo, toldOf, missing, isMarked, clearedTo, Clear, withMark, marked, Marks, Marked, unmarked, unmarkedFrom, lastIs, Concludes}
 use Rattle.name_checks.proofs.NoteLaws.{note-kind}
 use Rattle.name_checks.proofs.OutsideLaws.{outside-refl, outside-set, outside-place, line-outside, outside-then, entries-outside}
-use Rattle.name_checks.proofs.TargetLaws.{hits-at, target-found, target-missed, found-line, one-target, target-outside, missing-outside}
+use Rattle.name_checks.proofs.TargetLaws.{hits-at, target-found, target-missed, found-told, one-target, target-outside, missing-outside}
 
 -- ---- entries in file order
 
@@ -64,28 +66,28 @@ from-none s xs n =
 
 -- ---- a name that is not marked
 
-module _ (xs : List ℕ) (i k later : ℕ) (kind : k ≡ placeAt xs i) where
-  pub unmarked-kept : (w : ℕ) → modelOrSelector k ≡ true → w ≡ getD xs (byKindFrom + i) 0 → w ≡ 1 → later ≡ unmarkedLine xs i later
-  unfolding unmarkedLine
+module _ (xs : List ℕ) (i k : ℕ) (later : Last) (kind : k ≡ placeAt xs i) where
+  pub unmarked-kept : (w : ℕ) → modelOrSelector k ≡ true → w ≡ getD xs (byKindFrom + i) 0 → w ≡ 1 → later ≡ unmarked xs i later
+  unfolding unmarked
   unmarked-kept w h e o = rw (← kind) rw h rw (← e) rw o refl
 
-  pub unmarked-told : (w : ℕ) → modelOrSelector k ≡ true → w ≡ getD xs (byKindFrom + i) 0 → (w ≡ 1 → ⊥) → lineAt xs i ≡ unmarkedLine xs i later
-  unfolding unmarkedLine
+  pub unmarked-told : (w : ℕ) → modelOrSelector k ≡ true → w ≡ getD xs (byKindFrom + i) 0 → (w ≡ 1 → ⊥) → toldOf 16 (lineAt xs i) ≡ unmarked xs i later
+  unfolding unmarked
   unmarked-told w h e o = rw (← kind) rw h rw (← e) rw (ne-eqb w 1 o) refl
 
-  pub unmarked-other : modelOrSelector k ≡ false → later ≡ unmarkedLine xs i later
-  unfolding unmarkedLine
+  pub unmarked-other : modelOrSelector k ≡ false → later ≡ unmarked xs i later
+  unfolding unmarked
   unmarked-other h = rw (← kind) rw h refl
 
 module _ (xs : List ℕ) (n : ℕ) where
-  pub unmarked-turn : (j : ℕ) → 0 < j → j ≤ n → unmarkedFrom xs (j - 1) (n - (j - 1)) ≡ unmarkedLine xs (j - 1) (unmarkedFrom xs j (n - j))
+  pub unmarked-turn : (j : ℕ) → 0 < j → j ≤ n → unmarkedFrom xs (j - 1) (n - (j - 1)) ≡ unmarked xs (j - 1) (unmarkedFrom xs j (n - j))
   unfolding unmarkedFrom
   unmarked-turn j h g =
       let e : n - (j - 1) ≡ suc (n - j) = omega (arith, h, g) in
       let f : j - 1 + 1 ≡ j = omega (arith, h) in
       rw e rw f refl
 
-  pub unmarked-none : 0 ≡ unmarkedFrom xs n (n - n)
+  pub unmarked-none : Fine ≡ unmarkedFrom xs n (n - n)
   unfolding unmarkedFrom
   unmarked-none =
       let e : n - n ≡ 0 = omega arith in
@@ -210,13 +212,13 @@ module _ (s xs : List ℕ) (n : ℕ) (unique : clash (entriesTo s xs n) ≡ none
 
 -- ---- the marks from the last name up to place i, and the first of these names that names nothing
 
-pub record Marking (s xs : List ℕ) (n i first : ℕ) (ys : List ℕ) : Type 0 where
-  pub told : first ≡ firstFailing (found (entriesFrom s xs 0 n)) (entriesFrom s xs i (n - i))
+pub record Marking (s xs : List ℕ) (n i : ℕ) (first : Last) (ys : List ℕ) : Type 0 where
+  pub told : first ≡ toldOf 15 (firstFailing (found (entriesFrom s xs 0 n)) (entriesFrom s xs i (n - i)))
   pub outside : Outside xs ys
   pub marks : Marks s xs (entriesFrom s xs i (n - i)) n ys
 
-pub marking-none : (s xs : List ℕ) (n : ℕ) → Clear xs n → Marking s xs n n 0 xs
-unfolding firstFailing
+pub marking-none : (s xs : List ℕ) (n : ℕ) → Clear xs n → Marking s xs n n Fine xs
+unfolding firstFailing toldOf
 marking-none s xs n h =
     record {
       told = rw (from-none s xs n) refl;
@@ -224,8 +226,8 @@ marking-none s xs n h =
       marks = rw (from-none s xs n) (λ j g. rw (h j g) (marked-none (entryAt s xs j) (noteAt s xs j .kind)));
     }
 
-pub marking-turn : (s xs : List ℕ) (n i first : ℕ) (ys : List ℕ) → n ≤ namesHeld → storeLength ≤ length xs → clash (entriesTo s xs n) ≡ none → Marking s xs n i first ys
-    → 0 < i → i ≤ n → (r : ℕ) (zs : List ℕ) → r ≡ missingLine s ys (i - 1) first (targetTo s ys (i - 1) n) → zs ≡ withMark ys (targetTo s ys (i - 1) n)
+pub marking-turn : (s xs : List ℕ) (n i : ℕ) (first : Last) (ys : List ℕ) → n ≤ namesHeld → storeLength ≤ length xs → clash (entriesTo s xs n) ≡ none → Marking s xs n i first ys
+    → 0 < i → i ≤ n → (r : Last) (zs : List ℕ) → r ≡ missing s ys (i - 1) first (targetTo s ys (i - 1) n) → zs ≡ withMark ys (targetTo s ys (i - 1) n)
     → Marking s xs n (i - 1) r zs
 unfolding firstFailing
 marking-turn s xs n i first ys small long unique m h g r zs e f =
@@ -235,23 +237,24 @@ marking-turn s xs n i first ys small long unique m h g r zs e f =
     let z : zs ≡ withMark ys (targetTo s xs k n) = f ∙ ap (withMark ys) t in
     record {
       told =
-          e ∙ ap (missingLine s ys k first) t ∙ missing-outside s xs ys (m .outside) k first (targetTo s xs k n) b ∙ sym (found-line s xs k n first)
-          ∙ ap (λ (l : ℕ). cond (found (entriesFrom s xs 0 n) (entryAt s xs k)) l (noteAt s xs k .line)) (m .told)
-          ∙ ap (firstFailing (found (entriesFrom s xs 0 n))) (sym (from-turn s xs i n h g));
+          e ∙ ap (missing s ys k first) t ∙ missing-outside s xs ys (m .outside) k first (targetTo s xs k n) b ∙ sym (found-told s xs k n first)
+          ∙ ap (λ (l : Last). cond (found (entriesFrom s xs 0 n) (entryAt s xs k)) l (toldOf 15 (noteAt s xs k .line))) (m .told)
+          ∙ sym (cond-map (toldOf 15) (found (entriesFrom s xs 0 n) (entryAt s xs k)) (firstFailing (found (entriesFrom s xs 0 n)) (entriesFrom s xs i (n - i))) (noteAt s xs k .line))
+          ∙ ap (λ (es : List Entry). toldOf 15 (firstFailing (found (entriesFrom s xs 0 n)) es)) (sym (from-turn s xs i n h g));
       outside = rw z (mark-outside s xs n unique small k ys (targetTo s xs k n) refl (m .outside));
       marks = rw z rw (from-turn s xs i n h g) (mark-turn s xs n unique small k (entriesFrom s xs i (n - i)) ys (omega (arith, m .outside .long, long)) (m .marks));
     }
 
-pub marking-end : (s xs : List ℕ) (n i first : ℕ) (ys : List ℕ) → Marking s xs n i first ys → i ≤ 0 → Marked s xs ys n first
+pub marking-end : (s xs : List ℕ) (n i : ℕ) (first : Last) (ys : List ℕ) → Marking s xs n i first ys → i ≤ 0 → Marked s xs ys n first
 marking-end s xs n i first ys m h =
     let z : i ≡ 0 = omega (arith, h) in
     let d : n - 0 ≡ n = omega arith in
     let e : entriesFrom s xs i (n - i) ≡ entriesFrom s xs 0 n = rw z rw d refl in
-    record { first = m .told ∙ ap (firstFailing (found (entriesFrom s xs 0 n))) e; outside = m .outside; marks = rw (← e) (m .marks) }
+    record { first = m .told ∙ ap (λ (es : List Entry). toldOf 15 (firstFailing (found (entriesFrom s xs 0 n)) es)) e; outside = m .outside; marks = rw (← e) (m .marks) }
 
 -- ---- what nobody lists
 
-listed-kind : (es : List Entry) (f : Entry) (y : Kind) (later line : ℕ) → cond (modelOrSelector (place y)) (cond (marked es f y) later line) later ≡ cond (isListed es f y) later line
+listed-kind : (es : List Entry) (f : Entry) (y : Kind) (later line : Last) → cond (modelOrSelector (place y)) (cond (marked es f y) later line) later ≡ cond (isListed es f y) later line
 unfolding modelOrSelector
 listed-kind es f OfComponent later line = refl
 listed-kind es f OfPin later line = refl
@@ -260,40 +263,53 @@ listed-kind es f OfChoice later line = refl
 listed-kind es f OfModel later line = refl
 
 module _ (s xs ys : List ℕ) (n : ℕ) (es : List Entry) (small : n ≤ namesHeld) (o : Outside xs ys) (marks : Marks s xs es n ys) where
-  unlisted-line : (j later : ℕ) → j < n → unmarkedLine ys j later ≡ cond (listed es (entryAt s xs j)) later (noteAt s xs j .line)
-  unfolding unmarkedLine
-  unlisted-line j later h =
+  unlisted-told : (j : ℕ) (later : Last) → j < n → unmarked ys j later ≡ cond (listed es (entryAt s xs j)) later (toldOf 16 (noteAt s xs j .line))
+  unfolding unmarked
+  unlisted-told j later h =
       let b : j ≤ namesHeld = omega (arith, h, small) in
       rw (outside-place xs ys j o b) rw (marks j h) rw (line-outside s xs ys o j b)
-      rw (← (note-kind s xs j)) rw (← (note-line s xs j)) (listed-kind es (entryAt s xs j) (noteAt s xs j .kind) later (noteAt s xs j .line))
+      rw (← (note-kind s xs j)) rw (← (note-line s xs j)) (listed-kind es (entryAt s xs j) (noteAt s xs j .kind) later (toldOf 16 (noteAt s xs j .line)))
 
-  unlisted-from : (j m : ℕ) → j + m ≤ n → unmarkedFrom ys j m ≡ firstFailing (listed es) (entriesFrom s xs j m)
-  unfolding unmarkedFrom entriesFrom firstFailing
+  unlisted-from : (j m : ℕ) → j + m ≤ n → unmarkedFrom ys j m ≡ toldOf 16 (firstFailing (listed es) (entriesFrom s xs j m))
+  unfolding unmarkedFrom entriesFrom firstFailing toldOf
   unlisted-from j zero h = refl
   unlisted-from j (suc m) h =
-      ap (unmarkedLine ys j) (unlisted-from (j + 1) m (omega (arith, h)))
-      ∙ unlisted-line j (firstFailing (listed es) (entriesFrom s xs (j + 1) m)) (omega (arith, h))
+      ap (unmarked ys j) (unlisted-from (j + 1) m (omega (arith, h)))
+      ∙ unlisted-told j (toldOf 16 (firstFailing (listed es) (entriesFrom s xs (j + 1) m))) (omega (arith, h))
+      ∙ sym (cond-map (toldOf 16) (listed es (entryAt s xs j)) (firstFailing (listed es) (entriesFrom s xs (j + 1) m)) (noteAt s xs j .line))
 
 -- ---- the last checks
 
-module _ (s xs ys : List ℕ) (n missing : ℕ) (m : Marked s xs ys n missing) where
-  pub concludes-missing : (missing ≡ 0 → ⊥) → Concludes (entriesTo s xs n) (Missing missing)
+-- the fault of the first that fails one test, else of the first that fails the other
+module _ (a b : ℕ) (d : Outcome) where
+  abbrev concluding : Outcome
+  concluding = cond (eqb a 0) (cond (eqb b 0) d (refused 16 b)) (refused 15 a)
+
+  first-told : (f : Fault) → toldOf 15 a ≡ Faulty f → concluding ≡ lastIs d (Faulty f)
+  unfolding toldOf
+  first-told f h =
+      by-test (eqb a 0)
+      (λ t. let z : Fine ≡ Faulty f = sym (cond-yes _ _ t) ∙ h in impossible (cc))
+      (λ t. let z : Faulty (record { number = 15; line = a }) ≡ Faulty f = sym (cond-no _ _ t) ∙ h in rw t (ap (lastIs d) z))
+
+  second-told : toldOf 15 a ≡ Fine → concluding ≡ lastIs d (toldOf 16 b)
+  unfolding toldOf
+  second-told h =
+      by-test (eqb a 0)
+      (λ t. rw t (by-test (eqb b 0) (λ u. rw u refl) (λ u. rw u refl)))
+      (λ t. let z : Faulty (record { number = 15; line = a }) ≡ Fine = sym (cond-no _ _ t) ∙ h in impossible (cc))
+
+module _ (s xs ys : List ℕ) (n : ℕ) (r : Last) (m : Marked s xs ys n r) where
+  pub concludes-missing : (f : Fault) → r ≡ Faulty f → Concludes (entriesTo s xs n) (Faulty f)
   unfolding lastChecks
-  concludes-missing h d = rw (file-order s xs n) rw (← (m .first)) rw (ne-eqb missing 0 h) refl
+  concludes-missing f h d = rw (file-order s xs n) (first-told _ (firstFailing (listed (entriesFrom s xs 0 n)) (entriesFrom s xs 0 n)) d f (sym (m .first) ∙ h))
 
-  module _ (none-missing : missing ≡ 0) (small : n ≤ namesHeld) (unlisted : ℕ) (u : unlisted ≡ unmarkedFrom ys 0 n) where
-    unlisted-first : unlisted ≡ firstFailing (listed (entriesFrom s xs 0 n)) (entriesFrom s xs 0 n)
-    unlisted-first = u ∙ unlisted-from s xs ys n (entriesFrom s xs 0 n) small (m .outside) (m .marks) 0 n (omega arith)
-
-    pub concludes-unlisted : (unlisted ≡ 0 → ⊥) → Concludes (entriesTo s xs n) (Unlisted unlisted)
-    unfolding lastChecks
-    concludes-unlisted h d =
-        rw (file-order s xs n) rw (← (m .first)) rw (eq-eqb missing 0 none-missing) rw (← unlisted-first) rw (ne-eqb unlisted 0 h) refl
-
-    pub concludes-fine : unlisted ≡ 0 → Concludes (entriesTo s xs n) Fine
-    unfolding lastChecks
-    concludes-fine h d =
-        rw (file-order s xs n) rw (← (m .first)) rw (eq-eqb missing 0 none-missing) rw (← unlisted-first) rw (eq-eqb unlisted 0 h) refl
+  pub concludes-listed : r ≡ Fine → n ≤ namesHeld → (u : Last) → u ≡ unmarkedFrom ys 0 n → Concludes (entriesTo s xs n) u
+  unfolding lastChecks
+  concludes-listed h small u e d =
+      rw (file-order s xs n)
+      (second-told _ _ d (sym (m .first) ∙ h)
+      ∙ ap (lastIs d) (sym (e ∙ unlisted-from s xs ys n (entriesFrom s xs 0 n) small (m .outside) (m .marks) 0 n (omega arith))))
 
 -- the store with the marks cleared says the same of the names
 module _ (s xs zs : List ℕ) (n : ℕ) (small : n ≤ namesHeld) (e : zs ≡ clearedTo xs n) where

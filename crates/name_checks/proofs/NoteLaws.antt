@@ -6,7 +6,7 @@ use mathlib.Core.Bool.{Bool, false}
 use native.Mathlib.Omega.{arith}
 use lib.ListN.{length, drop, getD, drop-of-length-le, length-drop}
 use lib.Seq.{take-all}
-use borrow.Author.Tests.{ne-eqb}
+use borrow.Author.Tests.{ne-eqb, lt-ltb, le-ltb, le-leb, lt-leb}
 use Rattle.laws.specs.Lists.{part, eqs}
 use Rattle.laws.proofs.Lists.{part-length}
 use Rattle.laws.proofs.Same.{eqs-apart}
@@ -14,7 +14,7 @@ use Rattle.words.specs.declared.Word.{Word}
 use Rattle.rules.specs.Outline.{place}
 use Rattle.note_words.specs.Store.{kindOf, noteAt}
 use Rattle.note_words.proofs.Laws as stored
-use Rattle.name_checks.specs.Lookup.{placeAt, Within}
+use Rattle.name_checks.specs.Lookup.{placeAt, partSaid, movedIn, Within}
 
 -- ---- the number of a kind
 
@@ -52,6 +52,27 @@ module _ (s : List ℕ) (a e : ℕ) where
   pub part-past : length s < a → part 0 0 s ≡ part a e s
   part-past h = rw (drop-of-length-le s {i = a} (omega (arith, h))) (sym (take-all (e - a) [] (omega arith)))
 
+-- where such a part is moved to
+module _ (n a e : ℕ) where
+  pub moved-turned : e < a → record { start = 0; end = 0 } ≡ movedIn n a e
+  unfolding movedIn
+  moved-turned h = rw (lt-ltb e a h) refl
+
+  module _ (order : a ≤ e) where
+    pub moved-kept : e ≤ n → record { start = a; end = e } ≡ movedIn n a e
+    unfolding movedIn
+    moved-kept h = rw (le-ltb e a order) rw (le-leb e n h) refl
+
+    pub moved-cut : n < e → a ≤ n → record { start = a; end = n } ≡ movedIn n a e
+    unfolding movedIn
+    moved-cut h k = rw (le-ltb e a order) rw (lt-leb e n h) rw (le-leb a n k) refl
+
+    pub moved-past : n < a → record { start = 0; end = 0 } ≡ movedIn n a e
+    unfolding movedIn
+    moved-past k =
+        let h : n < e = omega (arith, k, order) in
+        rw (le-ltb e a order) rw (lt-leb e n h) rw (lt-leb a n k) refl
+
 -- two parts, moved into the file
 module _ (s : List ℕ) (w v x y : Word) (p : Within s (w .start) (w .end) x) (q : Within s (v .start) (v .end) y) where
   pub within-apart : (x .end - x .start ≡ y .end - y .start → ⊥) → eqs (part (w .start) (w .end) s) (part (v .start) (v .end) s) ≡ false
@@ -65,12 +86,15 @@ module _ (s : List ℕ) (w v x y : Word) (p : Within s (w .start) (w .end) x) (q
 
 -- the parts that two notes say, by the words at a and behind it, and at b and behind it
 pub parts-said : (s xs : List ℕ) (w v : Word) (a b : ℕ)
-    → (w .start ≡ getD xs a 0) × (w .end ≡ getD xs (a + 1) 0) → (v .start ≡ getD xs b 0) × (v .end ≡ getD xs (b + 1) 0) → (t : Bool)
+    → w ≡ partSaid xs a → v ≡ partSaid xs b → (t : Bool)
     → t ≡ eqs (part (w .start) (w .end) s) (part (v .start) (v .end) s)
     → (e f : ℕ) → e ≡ a + 1 → f ≡ b + 1 → t ≡ eqs (part (getD xs a 0) (getD xs e 0) s) (part (getD xs b 0) (getD xs f 0) s)
-parts-said s xs w v a b p q t h e f x y = rw x rw y rw (← (p .0)) rw (← (p .1)) rw (← (q .0)) rw (← (q .1)) h
+parts-said s xs w v a b p q t h e f x y =
+    rw x rw y
+    (h ∙ ap (λ (z : Word). eqs (part (z .start) (z .end) s) (part (v .start) (v .end) s)) p
+    ∙ ap (λ (z : Word). eqs (part (getD xs a 0) (getD xs (a + 1) 0) s) (part (z .start) (z .end) s)) q)
 
 -- a part that a note says, moved into the file
-pub part-said : (s xs : List ℕ) (p w : Word) (a : ℕ) → (p .start ≡ getD xs a 0) × (p .end ≡ getD xs (a + 1) 0) → Within s (p .start) (p .end) w
+pub part-said : (s xs : List ℕ) (p w : Word) (a : ℕ) → p ≡ partSaid xs a → Within s (p .start) (p .end) w
     → (e : ℕ) → e ≡ a + 1 → part (w .start) (w .end) s ≡ part (getD xs a 0) (getD xs e 0) s
-part-said s xs p w a q h e x = h .same ∙ rw x rw (← (q .0)) rw (← (q .1)) refl
+part-said s xs p w a q h e x = h .same ∙ rw x (ap (λ (z : Word). part (z .start) (z .end) s) q)

@@ -2,7 +2,7 @@
 use Prim.Native.Nat.{ℕ, zero, suc, _+_, _-_, _≤_, _<_}
 use mathlib.Core.Path.{_≡_, refl, sym, ap, _∙_, subst}
 use mathlib.Core.List.{List}
-use mathlib.Core.Bool.{Bool, true, false, cond, _&&_, _||_}
+use mathlib.Core.Bool.{Bool, true, false, cond, not, _&&_, _||_}
 use mathlib.Core.Option.{Option, none, some}
 use native.Mathlib.Omega.{arith}
 use lib.Dec.{eqb}
@@ -14,13 +14,14 @@ use Rattle.name_table.specs.declared.Found.{Found}
 use Rattle.name_table.specs.declared.Found.the-variants.{At, Nothing}
 use Rattle.line_rules.specs.Fields.{needsNoModel}
 use Rattle.rules.specs.Outline.{Entry, place, is, isModelOrSelector, named, isUsed, isFound}
-use Rattle.rules.specs.Whole.{found}
+use Rattle.rules.specs.Last.{found}
 use Rattle.records.specs.declared.Kind.{Kind}
 use Rattle.records.specs.declared.Kind.the-variants.{OfComponent, OfPin, OfSelector, OfChoice, OfModel}
 use Rattle.notes.specs.Noted.{orUsed, clash}
 use Rattle.note_words.specs.Store.{namesHeld, kindAt, lineAt, nameAt, noteOf, noteAt, notesTo}
 use Rattle.note_words.proofs.Laws.{note-name, note-line}
-use Rattle.name_checks.specs.Lookup.{placeAt, modelAt, entryAt, entriesTo, entriesFrom, Outside, modelOrSelector, enclosed, reaches, reachesAt, targetTo, excused, missingLine, withMark}
+use Rattle.name_checks.specs.declared.Last.{Last}
+use Rattle.name_checks.specs.Lookup.{placeAt, modelAt, entryAt, entriesTo, entriesFrom, Outside, modelOrSelector, enclosed, reaches, reachesAt, targetTo, excused, toldOf, missing, withMark}
 use Rattle.name_checks.proofs.NoteLaws.{note-kind}
 use Rattle.name_checks.proofs.ClashLaws.{either-is, usedAt}
 use Rattle.name_checks.proofs.OutsideLaws.{outside-place, line-outside, name-outside, model-outside}
@@ -178,20 +179,20 @@ row-reaches OfSelector = refl
 row-reaches OfChoice = refl
 row-reaches OfModel = refl
 
-module _ (s xs : List ℕ) (i n later : ℕ) where
-  line-unless : (t : Found) → excused (placeAt xs i) (modelAt s xs i) ≡ true → later ≡ missingLine s xs i later t
-  line-unless (At j) h = refl
-  line-unless Nothing h = sym (cond-yes later (lineAt xs i) h)
+module _ (s xs : List ℕ) (i n : ℕ) (later : Last) where
+  told-unless : (t : Found) → excused (placeAt xs i) (modelAt s xs i) ≡ true → later ≡ missing s xs i later t
+  told-unless (At j) h = refl
+  told-unless Nothing h = sym (cond-yes later (toldOf 15 (lineAt xs i)) h)
 
-  pin-line : (t : Found) → placeAt xs i ≡ 1 → cond (needsNoModel (modelAt s xs i) || isAt t) later (lineAt xs i) ≡ missingLine s xs i later t
+  pin-told : (t : Found) → placeAt xs i ≡ 1 → cond (needsNoModel (modelAt s xs i) || isAt t) later (toldOf 15 (lineAt xs i)) ≡ missing s xs i later t
   unfolding excused
-  pin-line (At j) h = by-test (needsNoModel (modelAt s xs i)) (λ t. rw t refl) (λ t. rw t refl)
-  pin-line Nothing h = rw h rw (or-none (needsNoModel (modelAt s xs i))) refl
+  pin-told (At j) h = by-test (needsNoModel (modelAt s xs i)) (λ t. rw t refl) (λ t. rw t refl)
+  pin-told Nothing h = rw h rw (or-none (needsNoModel (modelAt s xs i))) refl
 
-  row-line : (t : Found) → placeAt xs i ≡ 3 → cond (isAt t) later (lineAt xs i) ≡ missingLine s xs i later t
+  row-told : (t : Found) → placeAt xs i ≡ 3 → cond (isAt t) later (toldOf 15 (lineAt xs i)) ≡ missing s xs i later t
   unfolding excused
-  row-line (At j) h = refl
-  row-line Nothing h = rw h refl
+  row-told (At j) h = refl
+  row-told Nothing h = rw h refl
 
   -- the number of its kind
   number : (k : Kind) → noteAt s xs i .kind ≡ k → placeAt xs i ≡ place k
@@ -200,24 +201,24 @@ module _ (s xs : List ℕ) (i n later : ℕ) where
   hits-as : (k : Kind) → noteAt s xs i .kind ≡ k → (j : ℕ) → (reaches (place k) (place (noteAt s xs j .kind)) && eqs (noteAt s xs i .names) (noteAt s xs j .name)) ≡ reachesAt s xs i j
   hits-as k e j = subst (λ (x : Kind). (reaches (place x) (place (noteAt s xs j .kind)) && eqs (noteAt s xs i .names) (noteAt s xs j .name)) ≡ reachesAt s xs i j) e (hits-at s xs i j)
 
-  found-kind : (k : Kind) → noteAt s xs i .kind ≡ k → cond (isFound (entriesFrom s xs 0 n) (entryAt s xs i) k) later (lineAt xs i) ≡ missingLine s xs i later (targetTo s xs i n)
+  found-kind : (k : Kind) → noteAt s xs i .kind ≡ k → cond (isFound (entriesFrom s xs 0 n) (entryAt s xs i) k) later (toldOf 15 (lineAt xs i)) ≡ missing s xs i later (targetTo s xs i n)
   unfolding excused enclosed
-  found-kind OfComponent e = line-unless (targetTo s xs i n) (rw (number OfComponent e) refl)
+  found-kind OfComponent e = told-unless (targetTo s xs i n) (rw (number OfComponent e) refl)
   found-kind OfPin e =
       let p = number OfPin e in
       let h : enclosed (placeAt xs i) ≡ true = rw p refl in
       let q : (j : ℕ) → (isModelOrSelector (entryAt s xs j) && eqs (noteAt s xs i .names) (noteAt s xs j .name)) ≡ reachesAt s xs i j =
       λ j. ap (λ (b : Bool). b && eqs (noteAt s xs i .names) (noteAt s xs j .name)) (pin-reaches (noteAt s xs j .kind)) ∙ hits-as OfPin e j in
-      rw (named-target s xs i isModelOrSelector q n) rw (note-names s xs i h) (pin-line (targetTo s xs i n) p)
-  found-kind OfSelector e = line-unless (targetTo s xs i n) (rw (number OfSelector e) refl)
+      rw (named-target s xs i isModelOrSelector q n) rw (note-names s xs i h) (pin-told (targetTo s xs i n) p)
+  found-kind OfSelector e = told-unless (targetTo s xs i n) (rw (number OfSelector e) refl)
   found-kind OfChoice e =
       let q : (j : ℕ) → (is OfModel (entryAt s xs j) && eqs (noteAt s xs i .names) (noteAt s xs j .name)) ≡ reachesAt s xs i j =
       λ j. ap (λ (b : Bool). b && eqs (noteAt s xs i .names) (noteAt s xs j .name)) (row-reaches (noteAt s xs j .kind)) ∙ hits-as OfChoice e j in
-      rw (named-target s xs i (is OfModel) q n) (row-line (targetTo s xs i n) (number OfChoice e))
-  found-kind OfModel e = line-unless (targetTo s xs i n) (rw (number OfModel e) refl)
+      rw (named-target s xs i (is OfModel) q n) (row-told (targetTo s xs i n) (number OfChoice e))
+  found-kind OfModel e = told-unless (targetTo s xs i n) (rw (number OfModel e) refl)
 
-  pub found-line : cond (found (entriesFrom s xs 0 n) (entryAt s xs i)) later (noteAt s xs i .line) ≡ missingLine s xs i later (targetTo s xs i n)
-  found-line = ap (cond (found (entriesFrom s xs 0 n) (entryAt s xs i)) later) (note-line s xs i) ∙ found-kind (noteAt s xs i .kind) refl
+  pub found-told : cond (found (entriesFrom s xs 0 n) (entryAt s xs i)) later (toldOf 15 (noteAt s xs i .line)) ≡ missing s xs i later (targetTo s xs i n)
+  found-told = ap (cond (found (entriesFrom s xs 0 n) (entryAt s xs i)) later) (ap (toldOf 15) (note-line s xs i)) ∙ found-kind (noteAt s xs i .kind) refl
 
 -- ---- by the tests that the code makes
 
@@ -230,31 +231,35 @@ module _ (s xs : List ℕ) (i j k l : ℕ) (kindI : k ≡ placeAt xs i) (kindJ :
   unfolding reachesAt
   reach-not h = rw (← kindI) rw (← kindJ) rw h refl
 
-module _ (s xs : List ℕ) (i k later : ℕ) (kind : k ≡ placeAt xs i) where
+module _ (s xs : List ℕ) (i k : ℕ) (kind : k ≡ placeAt xs i) where
   -- a section marks nothing
-  pub section-marks : (n : ℕ) → enclosed k ≡ false → (later ≡ missingLine s xs i later (targetTo s xs i n)) × (xs ≡ withMark xs (targetTo s xs i n))
+  pub section-marks : (later : Last) (n : ℕ) → enclosed k ≡ false → (later ≡ missing s xs i later (targetTo s xs i n)) × (xs ≡ withMark xs (targetTo s xs i n))
   unfolding excused enclosed
-  section-marks n h =
+  section-marks later n h =
       let g : enclosed (placeAt xs i) ≡ false = rw (← kind) h in
       rw (target-never s xs i g n)
       (rw (← kind) rw (or-left (eqb k 1) (eqb k 3) h) rw (or-right (eqb k 1) (eqb k 3) h) refl, refl)
 
-  pub missing-pin : (t : Bool) → k ≡ 1 → t ≡ needsNoModel (modelAt s xs i) → cond t later (lineAt xs i) ≡ missingLine s xs i later Nothing
+  pub excused-pin : (t : Bool) → k ≡ 1 → t ≡ needsNoModel (modelAt s xs i) → t ≡ excused (placeAt xs i) (modelAt s xs i)
   unfolding excused
-  missing-pin t h e = rw (← kind) rw h rw e refl
+  excused-pin t h e = rw (← kind) rw h e
 
-  pub missing-row : k ≡ 3 → lineAt xs i ≡ missingLine s xs i later Nothing
+  pub excused-other : (t : Bool) → (k ≡ 1 → ⊥) → t ≡ not (eqb k 3) → t ≡ excused (placeAt xs i) (modelAt s xs i)
   unfolding excused
-  missing-row h = rw (← kind) rw h refl
+  excused-other t h e = rw (← kind) rw (ne-eqb k 1 h) e
 
-  pub missing-section : (k ≡ 1 → ⊥) → (k ≡ 3 → ⊥) → later ≡ missingLine s xs i later Nothing
-  unfolding excused
-  missing-section h g = rw (← kind) rw (ne-eqb k 1 h) rw (ne-eqb k 3 g) refl
+-- nothing is found: by whether something must be
+module _ (s xs : List ℕ) (i : ℕ) (later : Last) (t : Bool) (e : t ≡ excused (placeAt xs i) (modelAt s xs i)) where
+  pub missing-excused : t ≡ true → later ≡ missing s xs i later Nothing
+  missing-excused h = sym (cond-yes later (toldOf 15 (lineAt xs i)) (sym e ∙ h))
+
+  pub missing-told : t ≡ false → toldOf 15 (lineAt xs i) ≡ missing s xs i later Nothing
+  missing-told h = sym (cond-no later (toldOf 15 (lineAt xs i)) (sym e ∙ h))
 
 -- what the search says, said of what is marked and told
-pub target-marks : (s xs : List ℕ) (i later n v : ℕ) (t x : Found) → t ≡ targetTo s xs i n → t ≡ x → v ≡ missingLine s xs i later x
-    → (v ≡ missingLine s xs i later (targetTo s xs i n)) × (withMark xs x ≡ withMark xs (targetTo s xs i n))
-target-marks s xs i later n v t x e f g =
+pub target-marks : (s xs : List ℕ) (i n : ℕ) (later v : Last) (t x : Found) → t ≡ targetTo s xs i n → t ≡ x → v ≡ missing s xs i later x
+    → (v ≡ missing s xs i later (targetTo s xs i n)) × (withMark xs x ≡ withMark xs (targetTo s xs i n))
+target-marks s xs i n later v t x e f g =
     let z : targetTo s xs i n ≡ x = sym e ∙ f in
     rw z (g, refl)
 
@@ -272,7 +277,7 @@ module _ (s xs ys : List ℕ) (o : Outside xs ys) where
   target-outside i (suc n) h g =
       rw (reach-outside i n h (omega (arith, g))) rw (target-outside i n h (omega (arith, g))) refl
 
-  pub missing-outside : (i later : ℕ) (t : Found) → i ≤ namesHeld → missingLine s ys i later t ≡ missingLine s xs i later t
+  pub missing-outside : (i : ℕ) (later : Last) (t : Found) → i ≤ namesHeld → missing s ys i later t ≡ missing s xs i later t
   missing-outside i later (At j) h = refl
   missing-outside i later Nothing h =
       rw (outside-place xs ys i o h) rw (model-outside s xs ys o i h) rw (line-outside s xs ys o i h) refl

@@ -4,27 +4,28 @@ use mathlib.Core.Path.{_≡_}
 use mathlib.Core.List.{List, [], _∷_, map, reverse}
 use mathlib.Core.Bool.{Bool, false, cond, not, _&&_, _||_}
 use mathlib.Core.Option.{Option, none, some}
-use lib.ListN.{length, getD, set}
-use lib.Dec.{eqb}
+use lib.ListN.{length, getD, set, replicate}
+use lib.Dec.{eqb, ltb, leb}
 use Rattle.laws.specs.Lists.{part, eqs}
 use Rattle.words.specs.declared.Word.{Word}
 use Rattle.name_table.specs.declared.Found.{Found}
 use Rattle.name_table.specs.declared.Found.the-variants as answer
 use Rattle.line_rules.specs.Fields.{needsNoModel}
 use Rattle.rules.specs.Outline.{Entry, place, is, lists, firstFailing}
-use Rattle.rules.specs.Whole.{Outcome, refused, found, lastChecks}
+use Rattle.rules.specs.Whole.{Outcome, refused, lastChecks}
+use Rattle.rules.specs.Last.{found}
 use Rattle.records.specs.Bounds.{most}
 use Rattle.records.specs.declared.Kind.{Kind}
 use Rattle.records.specs.declared.Kind.the-variants.{OfComponent, OfPin, OfSelector, OfChoice, OfModel}
 use Rattle.notes.specs.Noted.{Note, entryOf}
-use Rattle.note_words.specs.Store.{byKindFrom, listFrom, wavesFrom, storeLength, kindOf, kindAt, lineAt, nameAt, rowAt, noteAt, notesTo}
+use Rattle.note_words.specs.Store.{mostNames, byKindFrom, listFrom, wavesFrom, storeLength, kindOf, kindAt, lineAt, nameAt, rowAt, noteAt, notesTo}
 use Rattle.layout_by_notes.specs.Lies.{pick, isOf}
 use Rattle.name_checks.specs.declared.Clash.{Clash}
 use Rattle.name_checks.specs.declared.Clash.the-variants.{At, NoClash}
 use Rattle.name_checks.specs.declared.Meeting.{Meeting}
 use Rattle.name_checks.specs.declared.Meeting.the-variants.{Equal, Differing, Beyond}
 use Rattle.name_checks.specs.declared.Last.{Last}
-use Rattle.name_checks.specs.declared.Last.the-variants.{Fine, Missing, Unlisted}
+use Rattle.name_checks.specs.declared.Last.the-variants.{Fine, Faulty}
 
 -- ---- a note's words
 
@@ -48,8 +49,20 @@ unfoldable pub entriesFrom : List ℕ → List ℕ → ℕ → ℕ → List Entr
 entriesFrom s xs i zero = []
 entriesFrom s xs i (suc n) = entryAt s xs i ∷ entriesFrom s xs (i + 1) n
 
+-- the part of the file that two words of a note say
+abbrev pub partSaid : List ℕ → ℕ → Word
+partSaid xs at = record { start = getD xs at 0; end = getD xs (at + 1) 0 }
+
+-- a part from a to e, in a file of n bytes: cut at its end, and empty where it begins past it or ends before it begins
+unfoldable pub movedIn : ℕ → ℕ → ℕ → Word
+movedIn n a e =
+    cond (ltb e a) (record { start = 0; end = 0 })
+    (cond (leb e n) (record { start = a; end = e })
+    (cond (leb a n) (record { start = a; end = n }) (record { start = 0; end = 0 })))
+
 -- a part of the file that may lie outside of it, moved into it
 pub record Within (s : List ℕ) (a e : ℕ) (w : Word) : Type 0 where
+  pub is : w ≡ movedIn (length s) a e
   pub order : w .start ≤ w .end
   pub inside : w .end ≤ length s
   pub same : part (w .start) (w .end) s ≡ part a e s
@@ -88,13 +101,18 @@ keyFrom k (b ∷ bs) = keyFrom (k % 67108864 * 33 + b) bs
 abbrev pub keyAt : List ℕ → List ℕ → ℕ → ℕ
 keyAt s xs i = keyFrom 0 (nameAt s xs i)
 
+-- room for the key of every name, with the keys of the first n
+unfoldable pub keysTo : List ℕ → List ℕ → ℕ → List ℕ
+keysTo s xs zero = replicate mostNames 0
+keysTo s xs (suc n) = set (keysTo s xs n) n (keyAt s xs n)
+
 -- the keys of the first n names
 abbrev pub Keyed : List ℕ → List ℕ → ℕ → List ℕ → Type 0
 Keyed s xs n keys = (j : ℕ) → j < n → getD keys j 0 ≡ keyAt s xs j
 
-abbrev pub clashIs : Clash → Option ℕ
-clashIs (At k) = some k
-clashIs NoClash = none
+abbrev pub clashOf : Option ℕ → Clash
+clashOf (some k) = At k
+clashOf none = NoClash
 
 -- ---- what a pin or a selector row names
 
@@ -114,10 +132,14 @@ targetTo s xs i (suc n) = cond (reachesAt s xs i n) (answer.At n) (targetTo s xs
 unfoldable pub excused : ℕ → List ℕ → Bool
 excused k w = cond (eqb k (place OfPin)) (needsNoModel w) (not (eqb k (place OfChoice)))
 
--- the line of the name at place i where it names nothing, else that of the later ones
-abbrev pub missingLine : List ℕ → List ℕ → ℕ → ℕ → Found → ℕ
-missingLine s xs i later (answer.At j) = later
-missingLine s xs i later answer.Nothing = cond (excused (placeAt xs i) (modelAt s xs i)) later (lineAt xs i)
+-- a fault and the line it is told at, or 0 where there is none
+unfoldable pub toldOf : ℕ → ℕ → Last
+toldOf number line = cond (eqb line 0) Fine (Faulty (record { number = number; line = line }))
+
+-- the fault of the name at place i where it names nothing, else that of the later ones
+abbrev pub missing : List ℕ → List ℕ → ℕ → Last → Found → Last
+missing s xs i later (answer.At j) = later
+missing s xs i later answer.Nothing = cond (excused (placeAt xs i) (modelAt s xs i)) later (toldOf 15 (lineAt xs i))
 
 -- ---- marks of what is listed: a word a name, where later the names lie by kind
 
@@ -148,25 +170,24 @@ marked es f OfModel = lists (is OfPin) (f .name) es || lists (is OfChoice) (f .n
 abbrev pub Marks : List ℕ → List ℕ → List Entry → ℕ → List ℕ → Type 0
 Marks s xs es n ys = (j : ℕ) → j < n → isMarked ys j ≡ marked es (entryAt s xs j) (noteAt s xs j .kind)
 
--- all pins and selector rows have marked what they name, and r is the line of the first that names nothing, or 0
-pub record Marked (s xs ys : List ℕ) (n r : ℕ) : Type 0 where
-  pub first : r ≡ firstFailing (found (entriesFrom s xs 0 n)) (entriesFrom s xs 0 n)
+-- all pins and selector rows have marked what they name, and r is the fault of the first that names nothing
+pub record Marked (s xs ys : List ℕ) (n : ℕ) (r : Last) : Type 0 where
+  pub first : r ≡ toldOf 15 (firstFailing (found (entriesFrom s xs 0 n)) (entriesFrom s xs 0 n))
   pub outside : Outside xs ys
   pub marks : Marks s xs (entriesFrom s xs 0 n) n ys
 
--- the line of the name at place j where it is a model's or a selector's and not marked, else that of the later ones
-unfoldable pub unmarkedLine : List ℕ → ℕ → ℕ → ℕ
-unmarkedLine xs j later = cond (modelOrSelector (placeAt xs j)) (cond (isMarked xs j) later (lineAt xs j)) later
+-- the fault of the name at place j where it is a model's or a selector's and not marked, else that of the later ones
+unfoldable pub unmarked : List ℕ → ℕ → Last → Last
+unmarked xs j later = cond (modelOrSelector (placeAt xs j)) (cond (isMarked xs j) later (toldOf 16 (lineAt xs j))) later
 
--- the first such line of n names from place j on, or 0
-unfoldable pub unmarkedFrom : List ℕ → ℕ → ℕ → ℕ
-unmarkedFrom xs j zero = 0
-unmarkedFrom xs j (suc n) = unmarkedLine xs j (unmarkedFrom xs (j + 1) n)
+-- the first such fault of n names from place j on
+unfoldable pub unmarkedFrom : List ℕ → ℕ → ℕ → Last
+unmarkedFrom xs j zero = Fine
+unmarkedFrom xs j (suc n) = unmarked xs j (unmarkedFrom xs (j + 1) n)
 
 abbrev pub lastIs : Outcome → Last → Outcome
 lastIs done Fine = done
-lastIs done (Missing k) = refused 15 k
-lastIs done (Unlisted k) = refused 16 k
+lastIs done (Faulty f) = refused (f .number) (f .line)
 
 -- the last checks of entries that are given the latest first
 abbrev pub Concludes : List Entry → Last → Type 0

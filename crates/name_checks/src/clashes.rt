@@ -5,7 +5,7 @@ ghost use lib.Dec.{eqb};
 ghost use Rattle.laws.specs.Lists.{eqs};
 ghost use Rattle.notes.specs.Noted.{clash};
 ghost use Rattle.note_words.specs.Store.{namesHeld, mostNames, nameAt};
-ghost use Rattle.name_checks.specs.Lookup.{modelOrSelector, rivals, enclosed, meetingAt, keyAt, entriesTo, clashIs};
+ghost use Rattle.name_checks.specs.Lookup.{modelOrSelector, rivals, enclosed, meetingAt, keyAt, entriesTo, clashOf};
 use crate::Clash;
 use crate::Meeting;
 use crate::places::keys_of;
@@ -83,7 +83,7 @@ fn meet(src: &[u8], notes: &[u32], i: usize, j: usize, alike: bool) -> Meeting
 // The first name that an earlier one equals, by its line.
 pub fn first_clash(src: &[u8], notes: &[u32], n: usize) -> Clash
     requires { ⌜ n ≤ mostNames ⌝ }
-    ensures { λ r. ⌜ clashIs r ≡ clash (entriesTo (now (src .entry)) (now (notes .entry)) n) ⌝ }
+    ensures { λ r. ⌜ r ≡ clashOf (clash (entriesTo (now (src .entry)) (now (notes .entry)) n)) ⌝ }
 {
     let keys = keys_of(src, notes, n);
     let mut i = 0;

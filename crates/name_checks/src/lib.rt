@@ -6,6 +6,7 @@ pub mod marking; // marking.rt: names not found, and what nobody lists
 
 pub use clashes::first_clash;
 pub use marking::last_fault;
+use records::Fault;
 pub use sorting::sort_by_kind;
 
 // The line of the first name that is used twice.
@@ -21,9 +22,8 @@ pub enum Meeting {
     Beyond,
 }
 
-// The first name that is not found, else the first section that nobody lists, by their lines.
+// What the last checks say: fine, or the first name that is not found (15), else the first section that nobody lists (16).
 pub enum Last {
     Fine,
-    Missing(u64),
-    Unlisted(u64),
+    Faulty(Fault),
 }

@@ -6,7 +6,7 @@ ghost use lib.ListN.{length};
 ghost use Rattle.name_table.specs.declared.Found.the-variants.{Nothing};
 ghost use Rattle.notes.specs.Noted.{clash};
 ghost use Rattle.note_words.specs.Store.{namesHeld, storeLength};
-ghost use Rattle.name_checks.specs.Lookup.{reaches, reachesAt, targetTo, missingLine, clearedTo, Clear, withMark, entriesTo, Outside, Marked, unmarkedLine, unmarkedFrom, Concludes};
+ghost use Rattle.name_checks.specs.Lookup.{reaches, reachesAt, targetTo, excused, modelAt, placeAt, toldOf, missing, clearedTo, Clear, withMark, entriesTo, Outside, Marked, unmarked, unmarkedFrom, Concludes};
 use crate::Last;
 use crate::clashes::is_enclosed;
 use crate::clashes::model_or_selector;
@@ -24,6 +24,7 @@ use note_words::OF_PIN;
 use note_words::OF_SELECTOR;
 use note_words::ROW_MODEL;
 use note_words::WORDS_PER_NAME;
+use records::Fault;
 
 // A pin names a model or a selector, a selector row a model.
 fn may_name(k: usize, l: usize) -> bool
@@ -67,31 +68,35 @@ fn find_target(src: &[u8], notes: &[u32], n: usize, i: usize) -> Found
     Found::Nothing
 }
 
-// What the name at place i gives that names nothing: its line, or the later one's where it need not.
-fn missing_line(src: &[u8], notes: &[u32], i: usize, later: u64) -> u64
+// A fault is told at its line; where there is no line there is none.
+fn told(f: Fault) -> Last
+    ensures { λ r. ⌜ r ≡ toldOf (f .number) (f .line) ⌝ }
+{
+    if f.line == 0 {
+        return Last::Fine;
+    }
+    Last::Faulty(f)
+}
+
+// Nothing need be found: of a section, and of a pin that needs no model.
+fn is_excused(src: &[u8], notes: &[u32], i: usize) -> bool
     requires { ⌜ i ≤ namesHeld ⌝ }
-    ensures { λ r. ⌜ r ≡ missingLine (now (src .entry)) (now (notes .entry)) i later Nothing ⌝ }
+    ensures { λ r. ⌜ r ≡ excused (placeAt (now (notes .entry)) i) (modelAt (now (src .entry)) (now (notes .entry)) i) ⌝ }
 {
     let k = kind_at(notes, i);
     if k == OF_PIN {
         let w = within(src, part_at(notes, WORDS_PER_NAME * i + ROW_MODEL));
         let a = w.start;
         let e = w.end;
-        if named_lines::needs_no_model(&src[a..e]) {
-            return later;
-        }
-        return line_at(notes, i);
+        return named_lines::needs_no_model(&src[a..e]);
     }
-    if k == OF_CHOICE {
-        return line_at(notes, i);
-    }
-    later
+    k != OF_CHOICE
 }
 
-// Marks what the name at place i names. The line of the first from there on that names nothing, given that of the later ones.
-fn mark_target(src: &[u8], notes: &mut [u32], n: usize, i: usize, later: u64) -> u64
+// Marks what the name at place i names. The fault of the first from there on that names nothing, given that of the later ones.
+fn mark_target(src: &[u8], notes: &mut [u32], n: usize, i: usize, later: Last) -> Last
     requires { ⌜ (n ≤ namesHeld) × (i < n) × (storeLength ≤ length (now notes)) ⌝ }
-    ensures { λ r. ⌜ r ≡ missingLine (now (src .entry)) (now (notes .entry)) i later (targetTo (now (src .entry)) (now (notes .entry)) i n) ⌝ }
+    ensures { λ r. ⌜ r ≡ missing (now (src .entry)) (now (notes .entry)) i later (targetTo (now (src .entry)) (now (notes .entry)) i n) ⌝ }
     ensures { λ r. ⌜ now (notes .exit) ≡ withMark (now (notes .entry)) (targetTo (now (src .entry)) (now (notes .entry)) i n) ⌝ }
 {
     if !is_enclosed(kind_at(notes, i)) {
@@ -99,7 +104,13 @@ fn mark_target(src: &[u8], notes: &mut [u32], n: usize, i: usize, later: u64) ->
     }
     let target = find_target(src, notes, n, i);
     let Found::At(j) = target else {
-        return missing_line(src, notes, i, later);
+        if is_excused(src, notes, i) {
+            return later;
+        }
+        return told(Fault {
+            number: 15,
+            line: line_at(notes, i),
+        });
     };
     notes[BY_KIND_FROM + j] = 1;
     later
@@ -116,14 +127,14 @@ fn clear_marks(notes: &mut [u32], n: usize)
     }
 }
 
-// From the last name up to the first: each marks what it names. The line of the first that names nothing, or 0.
-fn mark_targets(src: &[u8], notes: &mut [u32], n: usize) -> u64
+// From the last name up to the first: each marks what it names. The fault of the first that names nothing.
+fn mark_targets(src: &[u8], notes: &mut [u32], n: usize) -> Last
     requires { ⌜ (n ≤ namesHeld) × (storeLength ≤ length (now notes)) ⌝ }
     requires { ⌜ clash (entriesTo (now src) (now notes) n) ≡ none ⌝ }
     requires { ⌜ Clear (now notes) n ⌝ }
     ensures { λ r. ⌜ Marked (now (src .entry)) (now (notes .entry)) (now (notes .exit)) n r ⌝ }
 {
-    let mut first: u64 = 0;
+    let mut first = Last::Fine;
     let mut i = n;
     while 0 < i {
         i -= 1;
@@ -132,30 +143,33 @@ fn mark_targets(src: &[u8], notes: &mut [u32], n: usize) -> u64
     first
 }
 
-// The line of the name at place j where it is a model's or a selector's and not marked, else that of the later ones.
-fn unmarked_line(notes: &[u32], j: usize, later: u64) -> u64
+// The fault of the name at place j where it is a model's or a selector's and not marked, else that of the later ones.
+fn unlisted_at(notes: &[u32], j: usize, later: Last) -> Last
     requires { ⌜ j ≤ namesHeld ⌝ }
-    ensures { λ r. ⌜ r ≡ unmarkedLine (now (notes .entry)) j later ⌝ }
+    ensures { λ r. ⌜ r ≡ unmarked (now (notes .entry)) j later ⌝ }
 {
     if model_or_selector(kind_at(notes, j)) {
         if note_words::word(notes, BY_KIND_FROM + j) == 1 {
             return later;
         }
-        return line_at(notes, j);
+        return told(Fault {
+            number: 16,
+            line: line_at(notes, j),
+        });
     }
     later
 }
 
-// The line of the first model or selector that is not marked, or 0.
-fn first_unmarked(notes: &[u32], n: usize) -> u64
+// The fault of the first model or selector that is not marked.
+fn first_unlisted(notes: &[u32], n: usize) -> Last
     requires { ⌜ n ≤ namesHeld ⌝ }
     ensures { λ r. ⌜ r ≡ unmarkedFrom (now (notes .entry)) 0 n ⌝ }
 {
-    let mut first: u64 = 0;
+    let mut first = Last::Fine;
     let mut j = n;
     while 0 < j {
         j -= 1;
-        first = unmarked_line(notes, j, first);
+        first = unlisted_at(notes, j, first);
     }
     first
 }
@@ -169,12 +183,8 @@ pub fn last_fault(src: &[u8], notes: &mut [u32], n: usize) -> Last
 {
     clear_marks(notes, n);
     let missing = mark_targets(src, notes, n);
-    if missing != 0 {
-        return Last::Missing(missing);
+    match missing {
+        Last::Fine => first_unlisted(notes, n),
+        Last::Faulty(f) => Last::Faulty(f),
     }
-    let unlisted = first_unmarked(notes, n);
-    if unlisted != 0 {
-        return Last::Unlisted(unlisted);
-    }
-    Last::Fine
 }

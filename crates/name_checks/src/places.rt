@@ -1,10 +1,9 @@
 // A note's words: its kind by number, its line, and where its names lie.
 ghost use mathlib.Core.Path.{_≡_};
-ghost use Prim.Native.Nat.{_+_, _≤_, _<_};
-ghost use lib.ListN.{getD};
+ghost use Prim.Native.Nat.{_≤_, _<_};
 ghost use Rattle.laws.specs.Lists.{part, eqs};
 ghost use Rattle.note_words.specs.Store.{namesHeld, mostNames, byKindFrom, lineAt};
-ghost use Rattle.name_checks.specs.Lookup.{placeAt, Within, keyFrom, keyAt, Keyed};
+ghost use Rattle.name_checks.specs.Lookup.{placeAt, partSaid, Within, keyFrom, keyAt, keysTo};
 use note_words::LINE;
 use note_words::MOST_NAMES;
 use note_words::NAME;
@@ -33,8 +32,7 @@ pub fn line_at(notes: &[u32], i: usize) -> u64
 // The part of the file that a note's words at + 0 and at + 1 say, as they stand.
 pub fn part_at(notes: &[u32], at: usize) -> Word
     requires { ⌜ at ≤ byKindFrom ⌝ }
-    ensures { λ r. ⌜ r .start ≡ getD (now (notes .entry)) at 0 ⌝ }
-    ensures { λ r. ⌜ r .end ≡ getD (now (notes .entry)) (at + 1) 0 ⌝ }
+    ensures { λ r. ⌜ r ≡ partSaid (now (notes .entry)) at ⌝ }
 {
     Word {
         start: note_words::word(notes, at),
@@ -87,10 +85,10 @@ fn key_at(src: &[u8], notes: &[u32], i: usize) -> u32
     name_key(&src[a..e])
 }
 
-// The keys of the first n names.
+// The keys of the first n names; zeros behind them.
 pub fn keys_of(src: &[u8], notes: &[u32], n: usize) -> [u32; MOST_NAMES]
     requires { ⌜ n ≤ mostNames ⌝ }
-    ensures { λ r. ⌜ Keyed (now (src .entry)) (now (notes .entry)) n r ⌝ }
+    ensures { λ r. ⌜ r ≡ keysTo (now (src .entry)) (now (notes .entry)) n ⌝ }
 {
     let mut keys = [0u32; MOST_NAMES];
     let mut i = 0;

@@ -9,7 +9,8 @@ use native.Mathlib.Omega.{arith}
 use lib.ListN.{length}
 use Rattle.laws.specs.Lists.{eqs}
 use Rattle.laws.proofs.Tests.{by-test, cond-yes, cond-no}
-use Rattle.name_table.specs.Names.{Entry, namesOf, meaning, placeFrom, meaningAt, meaningOf}
+use Rattle.name_table.specs.Names.{Entry, meaning, placeFrom}
+use Rattle.name_table.specs.Places.{namesOf, meaningAt, meaningOf}
 use Rattle.name_table.specs.declared.Found.{Found}
 use Rattle.name_table.specs.declared.Found.the-variants.{At, Nothing}
 

@@ -1,2 +1,3 @@
 -- A name looked up in a table of names.
 pub mod Names
+pub mod Places

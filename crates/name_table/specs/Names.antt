@@ -1,7 +1,7 @@
 -- Tables of names, each with what it means, and looking a name up in one. The whole name counts, never a part of it.
 use Prim.Native.Nat.{ℕ, _+_}
 use Prim.Native.String.{String}
-use mathlib.Core.List.{List, [], _∷_, map}
+use mathlib.Core.List.{List, [], _∷_}
 use mathlib.Core.Bool.{cond}
 use mathlib.Core.Option.{Option, none, some}
 use Rattle.laws.specs.Bytes.{bytes}
@@ -22,24 +22,7 @@ unfoldable pub meaning : {A : Type 0} → List ℕ → List (Entry A) → Option
 meaning w [] = none
 meaning w (e ∷ es) = cond (eqs w (e .name)) (some (e .means)) (meaning w es)
 
--- the names of a table
-abbrev pub nameOf : {A : Type 0} → Entry A → List ℕ
-nameOf e = e .name
-
-unfoldable pub namesOf : {A : Type 0} → List (Entry A) → List (List ℕ)
-namesOf es = map nameOf es
-
 -- the place of a name among names, counted from k on
 unfoldable pub placeFrom : ℕ → List ℕ → List (List ℕ) → Found
 placeFrom k w [] = Nothing
 placeFrom k w (n ∷ ns) = cond (eqs w n) (At k) (placeFrom (k + 1) w ns)
-
--- what stands at a place of a table
-unfoldable pub meaningAt : {A : Type 0} → List (Entry A) → ℕ → Option A
-meaningAt [] k = none
-meaningAt (e ∷ es) ℕ.zero = some (e .means)
-meaningAt (e ∷ es) (ℕ.suc k) = meaningAt es k
-
-unfoldable pub meaningOf : {A : Type 0} → List (Entry A) → Found → Option A
-meaningOf es Nothing = none
-meaningOf es (At k) = meaningAt es k

@@ -2,6 +2,7 @@
 use Prim.Native.Nat.{ℕ}
 use mathlib.Core.List.{List}
 use mathlib.Core.Option.{Option, none, some}
+use Rattle.laws.specs.Said.{Said, says, fault}
 use Rattle.name_table.specs.Names.{placeFrom}
 use Rattle.name_table.specs.declared.Found.{Found}
 use Rattle.name_table.specs.declared.Found.the-variants.{Nothing}
@@ -21,17 +22,19 @@ abbrev pub placeIn : Option (List ℕ) → List (List ℕ) → Found
 placeIn none ns = Nothing
 placeIn (some w) ns = placeFrom 0 w ns
 
-abbrev pub asLocation : Option Location → LocationRead
-asLocation none = NoLocation
-asLocation (some l) = Located l
+-- the answer that says this: a word that is none of its table's is 10
+
+abbrev pub locationRead : Said Location → LocationRead
+locationRead (says l) = Located l
+locationRead (fault n) = NoLocation
+
+abbrev pub typeRead : Said ModelType → TypeRead
+typeRead (says t) = OfType t
+typeRead (fault n) = NoType
 
 abbrev pub locationFault : LocationRead → ℕ
 locationFault (Located l) = 0
 locationFault NoLocation = 10
-
-abbrev pub asType : Option ModelType → TypeRead
-asType none = NoType
-asType (some t) = OfType t
 
 abbrev pub typeFault : TypeRead → ℕ
 typeFault (OfType t) = 0

@@ -3,12 +3,13 @@ ghost use mathlib.Core.Path.{_≡_};
 ghost use Prim.Native.Nat.{_+_, _≤_};
 ghost use lib.ListN.{length, drop};
 ghost use Rattle.laws.specs.Lists.{front};
+ghost use Rattle.decimal.specs.Answers.{cellRead};
 ghost use Rattle.words.specs.Words.{words};
 ghost use Rattle.name_table.specs.Names.{placeFrom};
-ghost use Rattle.line_rules.specs.Fields.{nameOf, isNameAlone, namedWord, soleNumber, assignedNumber};
-ghost use Rattle.named_lines.specs.Places.{isNameByte, onlyWord, FirstWordIs, NameIs, WordIs};
+ghost use Rattle.line_rules.specs.Fields.{nameOf, numberLine};
+ghost use Rattle.named_lines.specs.Places.{isNameByte, isNameAlone, onlyWord, namedWord, soleNumber, FirstWordIs, NameIs, WordIs};
 use crate::WordRead;
-use decimal::NumberRead;
+use decimal::CellRead;
 use name_table::Found;
 use words::Word;
 
@@ -111,28 +112,28 @@ pub fn named_word(w: &[u8]) -> WordRead
 }
 
 // The number that stands from a place on, one word with nothing behind it.
-fn sole_number(w: &[u8], at: usize) -> NumberRead
+fn sole_number(w: &[u8], at: usize) -> CellRead
     requires { ⌜ at ≤ length (now w) ⌝ }
-    ensures { λ r. ⌜ r ≡ soleNumber (words (drop at (now (w .entry)))) ⌝ }
+    ensures { λ r. ⌜ r ≡ cellRead (soleNumber (words (drop at (now (w .entry))))) ⌝ }
 {
     match only_word(w, at) {
-        WordRead::One { start, end } => decimal::number_of(&w[start..end]),
-        WordRead::NoWord => NumberRead::Wrong(10),
+        WordRead::One { start, end } => decimal::given_cell(&w[start..end]),
+        WordRead::NoWord => CellRead::Bad(10),
     }
 }
 
 // The number of a line of name, `=` and number.
-pub fn assigned_number(w: &[u8]) -> NumberRead
-    ensures { λ r. ⌜ r ≡ assignedNumber (now (w .entry)) ⌝ }
+pub fn number_line(w: &[u8]) -> CellRead
+    ensures { λ r. ⌜ r ≡ cellRead (numberLine (now (w .entry))) ⌝ }
 {
     let name = name_of(w);
     let end = name.end;
     let at = words::skip_blanks(w, end);
     if w.len() <= at {
-        return NumberRead::Wrong(10);
+        return CellRead::Bad(10);
     }
     if w[at] != b'=' {
-        return NumberRead::Wrong(10);
+        return CellRead::Bad(10);
     }
     sole_number(w, at + 1)
 }

@@ -1,12 +1,14 @@
 // A line's name, and the word behind a name, looked up in document 01's lists. A list stands in one byte string, a blank between.
 ghost use mathlib.Core.Path.{_≡_};
 ghost use Rattle.words.specs.Words.{words};
-ghost use Rattle.name_table.specs.Names.{meaningOf};
-ghost use Rattle.line_rules.specs.Fields.{lineAt, namedWord, wordMeaning, orGiven};
+ghost use Rattle.name_table.specs.Places.{meaningOf};
+ghost use Rattle.line_rules.specs.Fields.{lineAt, wordLine};
 ghost use Rattle.line_rules.specs.Tables.{componentLines, packageLines, modelLines, rampLines, fixtures, locations, modelTypes, polarities, enables};
 ghost use Rattle.records.specs.declared.Polarity.the-variants.{NoPolarity};
 ghost use Rattle.records.specs.declared.Enable.the-variants.{NoEnable};
-ghost use Rattle.named_lines.specs.Views.{placeIn, asLocation, asType};
+ghost use Rattle.named_lines.specs.Views.{placeIn, locationRead, typeRead};
+ghost use Rattle.named_lines.specs.Places.{namedWord};
+ghost use Rattle.laws.specs.Said.{orElse, orFault};
 use crate::LocationRead;
 use crate::TypeRead;
 use crate::WordRead;
@@ -70,7 +72,7 @@ fn word_in(w: &[u8], table: &[u8]) -> Found
 }
 
 fn location_at(found: Found) -> LocationRead
-    ensures { λ r. ⌜ r ≡ asLocation (meaningOf locations found) ⌝ }
+    ensures { λ r. ⌜ r ≡ locationRead (orFault 10 (meaningOf locations found)) ⌝ }
 {
     let Found::At(k) = found else {
         return LocationRead::NoLocation;
@@ -84,13 +86,13 @@ fn location_at(found: Found) -> LocationRead
 
 // The word of Si_location and Timing_location.
 pub fn location_of(w: &[u8]) -> LocationRead
-    ensures { λ r. ⌜ r ≡ asLocation (wordMeaning locations (now (w .entry))) ⌝ }
+    ensures { λ r. ⌜ r ≡ locationRead (wordLine locations (now (w .entry))) ⌝ }
 {
     location_at(word_in(w, b"Pin Die"))
 }
 
 fn type_at(found: Found) -> TypeRead
-    ensures { λ r. ⌜ r ≡ asType (meaningOf modelTypes found) ⌝ }
+    ensures { λ r. ⌜ r ≡ typeRead (orFault 10 (meaningOf modelTypes found)) ⌝ }
 {
     let Found::At(k) = found else {
         return TypeRead::NoType;
@@ -117,7 +119,7 @@ fn type_at(found: Found) -> TypeRead
 
 // The word of Model_type.
 pub fn type_of(w: &[u8]) -> TypeRead
-    ensures { λ r. ⌜ r ≡ asType (wordMeaning modelTypes (now (w .entry))) ⌝ }
+    ensures { λ r. ⌜ r ≡ typeRead (wordLine modelTypes (now (w .entry))) ⌝ }
 {
     let names =
         b"Input Output I/O 3-state Open_drain I/O_open_drain Open_sink I/O_open_sink Open_source I/O_open_source Input_ECL Output_ECL I/O_ECL 3-state_ECL Terminator";
@@ -125,7 +127,7 @@ pub fn type_of(w: &[u8]) -> TypeRead
 }
 
 fn polarity_at(found: Found) -> Polarity
-    ensures { λ r. ⌜ r ≡ orGiven (meaningOf polarities found) NoPolarity ⌝ }
+    ensures { λ r. ⌜ r ≡ orElse NoPolarity (orFault 10 (meaningOf polarities found)) ⌝ }
 {
     let Found::At(k) = found else {
         return Polarity::NoPolarity;
@@ -139,13 +141,13 @@ fn polarity_at(found: Found) -> Polarity
 
 // The word of Polarity.
 pub fn polarity_of(w: &[u8]) -> Polarity
-    ensures { λ r. ⌜ r ≡ orGiven (wordMeaning polarities (now (w .entry))) NoPolarity ⌝ }
+    ensures { λ r. ⌜ r ≡ orElse NoPolarity (wordLine polarities (now (w .entry))) ⌝ }
 {
     polarity_at(word_in(w, b"Inverting Non-Inverting"))
 }
 
 fn enable_at(found: Found) -> Enable
-    ensures { λ r. ⌜ r ≡ orGiven (meaningOf enables found) NoEnable ⌝ }
+    ensures { λ r. ⌜ r ≡ orElse NoEnable (orFault 10 (meaningOf enables found)) ⌝ }
 {
     let Found::At(k) = found else {
         return Enable::NoEnable;
@@ -159,7 +161,7 @@ fn enable_at(found: Found) -> Enable
 
 // The word of Enable.
 pub fn enable_of(w: &[u8]) -> Enable
-    ensures { λ r. ⌜ r ≡ orGiven (wordMeaning enables (now (w .entry))) NoEnable ⌝ }
+    ensures { λ r. ⌜ r ≡ orElse NoEnable (wordLine enables (now (w .entry))) ⌝ }
 {
     enable_at(word_in(w, b"Active-High Active-Low"))
 }

@@ -6,7 +6,7 @@ use mathlib.Core.Bool.{true, false, cond}
 use native.Mathlib.Omega.{arith}
 use native.Mathlib.Numerals.{add-one}
 use lib.ListN.{length, drop, getD, set, length-set, drop-of-length-le}
-use Rattle.cut_lines.specs.Texts.{rest}
+use Rattle.cut_lines.specs.Cursors.{rest}
 use Rattle.records.specs.declared.Counts.{Counts}
 use Rattle.laws.proofs.Tests.{by-test, cond-yes, cond-no}
 use Rattle.records.specs.declared.Kind.{Kind}

@@ -1,29 +1,27 @@
 -- Names may be compared when the lines are read up to the first fault: a name used twice stands on an earlier line, or comes first on the same.
-use Prim.Native.Nat.{ℕ, _+_}
+use Prim.Native.Nat.{ℕ, _+_, min}
 use mathlib.Core.Path.{_≡_, refl, sym, ap, _∙_}
 use mathlib.Core.List.{List, [], _∷_, map}
 use mathlib.Core.Bool.{true, false, cond}
 use mathlib.Core.Option.{none, some}
 use lib.Dec.{eqb, leb}
 use Rattle.laws.proofs.Tests.{by-test}
-use Rattle.keywords.specs.Form.{argument}
-use Rattle.keywords.specs.declared.Section.{Section}
 use Rattle.keywords.specs.declared.Section.the-variants.{Component, Selector, Model}
 use Rattle.cut_lines.specs.Texts.{Text}
-use Rattle.rules.specs.Steps.{onText}
+use Rattle.rules.specs.Steps.{isEnded, onText}
 use Rattle.rules.specs.Outline.{Entry, place, is, count, isUsed}
-use Rattle.rules.specs.Whole.{bound, waveformBound, Held, Outcome, admit, admitEntry, sectionEntry, textOf, lineOf, ranOut, afterAdmission, afterStep, runs}
+use Rattle.rules.specs.Whole.{bound, Held, Outcome, passed, refused, admit, admitEntry, textOf, lineOf, afterAdmission, afterStep, runs}
+use Rattle.records.specs.Bounds.{mostWaveforms}
 use Rattle.records.specs.declared.Kind.{Kind}
 use Rattle.records.specs.declared.Kind.the-variants.{OfComponent, OfPin, OfSelector, OfChoice, OfModel}
 use Rattle.records.specs.declared.Lengths.{Lengths}
 use Rattle.rules.specs.declared.Stage.{Stage}
-use Rattle.rules.specs.declared.Stage.the-variants.{BeforeVersion, InHeader, InComponent, InSelector, InModel, AfterEnd}
 use Rattle.rules.specs.declared.Event.{Event}
 use Rattle.rules.specs.declared.Event.the-variants.{Quiet, Opened, PinRow, ChoiceRow, WaveformOpened, TableRow, Ended}
 use Rattle.rules.specs.declared.Went.{Went}
 use Rattle.rules.specs.declared.Went.the-variants.{On, Stop}
 use Rattle.records.specs.declared.Counts.{Counts}
-use Rattle.notes.specs.Noted.{used, oneMore, moreWaveforms, moreRows, Note, entryOf, Log, heldOf, sectionNote, withNote, logged, Finish, outOfLines, afterLogged, afterWent, runLog, clash, settled}
+use Rattle.notes.specs.Noted.{used, oneMore, moreWaveforms, moreRows, Note, entryOf, Log, heldOf, withNote, logged, Finish, outOfLines, afterLogged, afterWent, runLog, clash, settled}
 
 abbrev pub entries : Log → List Entry
 entries g = map entryOf (g .notes)
@@ -122,18 +120,13 @@ module _ (l : Lengths) (past : ℕ) where
   keeps-event g t ts go ih PinRow = keeps-note g _ go ih
   keeps-event g t ts go ih ChoiceRow = keeps-note g _ go ih
   keeps-event g t ts go ih WaveformOpened = λ k h.
-      by-test (leb (waveformBound l) (g .counts .waveforms)) (λ u. rw u h) (λ u. rw u (ih _ k h))
+      by-test (leb (min mostWaveforms (l .waveforms)) (g .counts .waveforms)) (λ u. rw u h) (λ u. rw u (ih _ k h))
   keeps-event g t ts go ih TableRow = λ k h. by-test (leb (l .rows) (g .counts .rows)) (λ u. rw u h) (λ u. rw u (ih _ k h))
   keeps-event g t ts go ih (Ended true) = λ k h. by-test (eqb (g .counts .components) 0) (λ u. rw u h) (λ u. rw u (ih g k h))
   keeps-event g t ts go ih (Ended false) = λ k h. by-test (eqb (g .counts .components) 0) (λ u. rw u h) (λ u. rw u h)
 
   keeps-out : (s : Stage) (g : Log) → Keeps g (outOfLines past g s)
-  keeps-out BeforeVersion g k h = h
-  keeps-out (InHeader s) g k h = h
-  keeps-out (InComponent s) g k h = h
-  keeps-out (InSelector s) g k h = h
-  keeps-out (InModel s) g k h = h
-  keeps-out AfterEnd g k h = h
+  keeps-out s g k h = by-test (isEnded s) (λ u. rw u h) (λ u. rw u h)
 
   keeps-went : (g : Log) (t : Text) (ts : List Text) → KeepsFrom ts → (w : Went) → Keeps g (afterWent l g t ts (λ (u : Stage) (h : Log). runLog l past u h ts) w)
   keeps-went g t ts ih (On u e) = keeps-event g t ts (λ (h : Log). runLog l past u h ts) (ih u) e
@@ -165,7 +158,7 @@ module _ (l : Lengths) (past : ℕ) where
 
   settles-note : (g : Log) (n : Note) (go : Held → Outcome) (og : Log → Finish)
       → ((h : Log) → Keeps h (og h)) → ((h : Log) → Counted h → clash (entries h) ≡ none → Settles h (go (heldOf h)) (og h))
-      → Counted g → clash (entries g) ≡ none → Settles g (afterAdmission go (admitEntry l (heldOf g) (entryOf n))) (afterLogged og (withNote l g n))
+      → Counted g → clash (entries g) ≡ none → Settles g (afterAdmission (n .line) go (admitEntry l (heldOf g) (entryOf n))) (afterLogged og (withNote l g n))
   unfolding withNote admitEntry
   settles-note g n go og kept ih c none-yet =
       by-test (isUsed (n .kind) (n .name) (entries g))
@@ -176,20 +169,17 @@ module _ (l : Lengths) (past : ℕ) where
       (λ t. rw u rw (sym (c (n .kind))) rw t rw (clash-none (entryOf n) (entries g) none-yet u) refl)
       (λ t. rw u rw (sym (c (n .kind))) rw t (ap go (held-grown g n) ∙ ih (grown g n) (counted-one g n c) (clash-none (entryOf n) (entries g) none-yet u))))
 
-  opened-is : (g : Log) (t : Text) (ts : List Text) (o : Section) → entryOf (sectionNote (g .counts) (lineOf t) (argument (textOf t)) ts o) ≡ sectionEntry (lineOf t) (argument (textOf t)) o
-  opened-is g t ts Component = refl
-  opened-is g t ts Selector = refl
-  opened-is g t ts Model = refl
-
   settles-event : (g : Log) (t : Text) (ts : List Text) (go : Held → Outcome) (og : Log → Finish)
       → ((h : Log) → Keeps h (og h)) → ((h : Log) → Counted h → clash (entries h) ≡ none → Settles h (go (heldOf h)) (og h))
-      → Counted g → clash (entries g) ≡ none → (e : Event) → Settles g (afterAdmission go (admit l (heldOf g) (lineOf t) (textOf t) e)) (afterLogged og (logged l g t ts e))
+      → Counted g → clash (entries g) ≡ none → (e : Event) → Settles g (afterAdmission (lineOf t) go (admit l (heldOf g) (lineOf t) (textOf t) e)) (afterLogged og (logged l g t ts e))
   settles-event g t ts go og kept ih c n Quiet = ih g c n
-  settles-event g t ts go og kept ih c n (Opened o) = rw (sym (opened-is g t ts o)) (settles-note g _ go og kept ih c n)
+  settles-event g t ts go og kept ih c n (Opened Component) = settles-note g _ go og kept ih c n
+  settles-event g t ts go og kept ih c n (Opened Selector) = settles-note g _ go og kept ih c n
+  settles-event g t ts go og kept ih c n (Opened Model) = settles-note g _ go og kept ih c n
   settles-event g t ts go og kept ih c n PinRow = settles-note g _ go og kept ih c n
   settles-event g t ts go og kept ih c n ChoiceRow = settles-note g _ go og kept ih c n
   settles-event g t ts go og kept ih c n WaveformOpened =
-      by-test (leb (waveformBound l) (g .counts .waveforms)) (λ u. rw u rw n refl)
+      by-test (leb (min mostWaveforms (l .waveforms)) (g .counts .waveforms)) (λ u. rw u rw n refl)
       (λ u. rw u (ih (record { notes = g .notes; waves = record { from = t ∷ ts; row = g .counts .rows } ∷ g .waves; counts = moreWaveforms (g .counts) }) (λ k. waveform-used (g .counts) k ∙ c k) n))
   settles-event g t ts go og kept ih c n TableRow =
       by-test (leb (l .rows) (g .counts .rows)) (λ u. rw u rw n refl)
@@ -199,13 +189,9 @@ module _ (l : Lengths) (past : ℕ) where
   settles-event g t ts go og kept ih c n (Ended false) =
       by-test (eqb (g .counts .components) 0) (λ u. rw (sym (c OfComponent)) rw u rw n refl) (λ u. rw (sym (c OfComponent)) rw u rw n refl)
 
-  settles-out : (s : Stage) (g : Log) → clash (entries g) ≡ none → Settles g (ranOut past (heldOf g) s) (outOfLines past g s)
-  settles-out BeforeVersion g n = rw n refl
-  settles-out (InHeader s) g n = rw n refl
-  settles-out (InComponent s) g n = rw n refl
-  settles-out (InSelector s) g n = rw n refl
-  settles-out (InModel s) g n = rw n refl
-  settles-out AfterEnd g n = rw n refl
+  settles-out : (s : Stage) (g : Log) → clash (entries g) ≡ none
+      → Settles g (cond (isEnded s) (passed (heldOf g)) (refused 19 past)) (outOfLines past g s)
+  settles-out s g n = by-test (isEnded s) (λ u. rw (u, n)) (λ u. rw (u, n))
 
   settles-went : (g : Log) (t : Text) (ts : List Text) → SettlesFrom ts → Counted g → clash (entries g) ≡ none → (w : Went)
       → Settles g (afterStep l (heldOf g) t (λ (u : Stage) (h : Held). runs l past u h ts) w) (afterWent l g t ts (λ (u : Stage) (h : Log). runLog l past u h ts) w)

@@ -1,24 +1,23 @@
 -- What is noted of a file while its lines are read: names, where sections and rows stand, and how much of each table is used.
-use Prim.Native.Nat.{ℕ, _+_}
+use Prim.Native.Nat.{ℕ, _+_, min}
 use mathlib.Core.List.{List, [], _∷_, map}
 use mathlib.Core.Bool.{Bool, true, false, cond}
 use mathlib.Core.Option.{Option, none, some}
 use lib.Dec.{eqb, leb}
-use Rattle.words.specs.Words.{words}
+use Rattle.words.specs.Words.{word, words}
 use Rattle.records.specs.declared.Fault.{Fault}
 use Rattle.keywords.specs.Form.{argument}
 use Rattle.keywords.specs.declared.Section.{Section}
 use Rattle.keywords.specs.declared.Section.the-variants.{Component, Selector, Model}
 use Rattle.cut_lines.specs.Texts.{Text}
-use Rattle.line_rules.specs.Fields.{firstWord}
-use Rattle.rules.specs.Steps.{onText}
+use Rattle.rules.specs.Steps.{isEnded, onText}
 use Rattle.rules.specs.Outline.{Entry, isUsed}
-use Rattle.rules.specs.Whole.{bound, waveformBound, Held, thirdWord, textOf, lineOf, Outcome, passed, refused}
+use Rattle.rules.specs.Whole.{bound, Held, textOf, lineOf, Outcome, passed, refused}
+use Rattle.records.specs.Bounds.{mostWaveforms}
 use Rattle.records.specs.declared.Kind.{Kind}
 use Rattle.records.specs.declared.Kind.the-variants.{OfComponent, OfPin, OfSelector, OfChoice, OfModel}
 use Rattle.records.specs.declared.Lengths.{Lengths}
 use Rattle.rules.specs.declared.Stage.{Stage}
-use Rattle.rules.specs.declared.Stage.the-variants.{BeforeVersion, InHeader, InComponent, InSelector, InModel, AfterEnd}
 use Rattle.rules.specs.declared.Event.{Event}
 use Rattle.rules.specs.declared.Event.the-variants.{Quiet, Opened, PinRow, ChoiceRow, WaveformOpened, TableRow, Ended}
 use Rattle.rules.specs.declared.Went.{Went}
@@ -96,12 +95,13 @@ abbrev pub sectionNote : Counts → ℕ → List ℕ → List Text → Section �
 sectionNote c k w ts Component =
     record { kind = OfComponent; line = k; name = w; names = []; text = []; behind = ts; section = sections c; start = c .pins; row = 0 }
 sectionNote c k w ts Selector =
-    record { kind = OfSelector; line = k; name = firstWord (words w); names = []; text = []; behind = ts; section = sections c; start = c .choices; row = 0 }
+    record { kind = OfSelector; line = k; name = word 0 (words w); names = []; text = []; behind = ts; section = sections c; start = c .choices; row = 0 }
 sectionNote c k w ts Model =
-    record { kind = OfModel; line = k; name = firstWord (words w); names = []; text = []; behind = ts; section = sections c; start = c .waveforms; row = c .rows }
+    record { kind = OfModel; line = k; name = word 0 (words w); names = []; text = []; behind = ts; section = sections c; start = c .waveforms; row = c .rows }
 
-abbrev pub rowNote : Kind → ℕ → List ℕ → List ℕ → Note
-rowNote x k w m = record { kind = x; line = k; name = firstWord (words w); names = m; text = w; behind = []; section = 0; start = 0; row = 0 }
+-- of a row, which names the model of its word n
+abbrev pub rowNote : Kind → ℕ → ℕ → List ℕ → Note
+rowNote x k n w = record { kind = x; line = k; name = word 0 (words w); names = word n (words w); text = w; behind = []; section = 0; start = 0; row = 0 }
 
 -- ---- a line's event is logged, or there is no room: a name is noted before its table is found full
 
@@ -118,10 +118,10 @@ withNote l g n =
 abbrev pub logged : Lengths → Log → Text → List Text → Event → Logged
 logged l g t ts Quiet = going g
 logged l g t ts (Opened o) = withNote l g (sectionNote (g .counts) (lineOf t) (argument (textOf t)) ts o)
-logged l g t ts PinRow = withNote l g (rowNote OfPin (lineOf t) (textOf t) (thirdWord (words (textOf t))))
-logged l g t ts ChoiceRow = withNote l g (rowNote OfChoice (lineOf t) (textOf t) (firstWord (words (textOf t))))
+logged l g t ts PinRow = withNote l g (rowNote OfPin (lineOf t) 2 (textOf t))
+logged l g t ts ChoiceRow = withNote l g (rowNote OfChoice (lineOf t) 0 (textOf t))
 logged l g t ts WaveformOpened =
-    cond (leb (waveformBound l) (g .counts .waveforms)) (full 17 (lineOf t) g)
+    cond (leb (min mostWaveforms (l .waveforms)) (g .counts .waveforms)) (full 17 (lineOf t) g)
     (going (record { notes = g .notes; waves = record { from = t ∷ ts; row = g .counts .rows } ∷ g .waves; counts = moreWaveforms (g .counts) }))
 logged l g t ts TableRow =
     cond (leb (l .rows) (g .counts .rows)) (full 18 (lineOf t) g)
@@ -142,13 +142,9 @@ whole g = record { fault = none; log = g }
 abbrev pub broken : ℕ → ℕ → Log → Finish
 broken n k g = record { fault = some (record { number = n; line = k }); log = g }
 
+-- "A file that runs out gives 19"
 abbrev pub outOfLines : ℕ → Log → Stage → Finish
-outOfLines past g BeforeVersion = broken 19 past g
-outOfLines past g (InHeader s) = broken 19 past g
-outOfLines past g (InComponent s) = broken 19 past g
-outOfLines past g (InSelector s) = broken 19 past g
-outOfLines past g (InModel s) = broken 19 past g
-outOfLines past g AfterEnd = whole g
+outOfLines past g s = cond (isEnded s) (whole g) (broken 19 past g)
 
 abbrev pub afterLogged : (Log → Finish) → Logged → Finish
 afterLogged go (going g) = go g

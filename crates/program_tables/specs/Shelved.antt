@@ -2,14 +2,13 @@
 use Prim.Native.Nat.{ℕ}
 use mathlib.Core.Bool.{false}
 use mathlib.Core.List.{List, []}
-use mathlib.Core.Option.{none}
 use lib.ListN.{replicate}
 use Rattle.decimal.specs.declared.Cell.the-variants.{Missing}
 use Rattle.records.specs.Bounds.{most, mostWaveforms}
 use Rattle.records.specs.declared.Kind.the-variants.{OfComponent, OfPin, OfSelector, OfChoice, OfModel}
 use Rattle.records.specs.declared.Edge.the-variants.{Rising}
 use Rattle.records.specs.Stored.{noCells, nameLaid, wordsLaid}
-use Rattle.layout.specs.Laid.{rangeLaid, rampLaid}
+use Rattle.rules.specs.Reading.{noRange, noRamp}
 use Rattle.records.specs.declared.Location.the-variants.{AtPin}
 use Rattle.records.specs.declared.Polarity.the-variants.{NoPolarity}
 use Rattle.records.specs.declared.Enable.the-variants.{NoEnable}
@@ -62,12 +61,12 @@ blankModel =
       rref = Missing;
       vref = Missing;
       voltage = noCells;
-      temperature = rangeLaid none;
+      temperature = noRange;
       pulldown = noTable;
       pullup = noTable;
       ground = noTable;
       power = noTable;
-      ramp = rampLaid none;
+      ramp = noRamp;
       waveforms = noSpan;
     }
 

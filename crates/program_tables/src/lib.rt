@@ -25,8 +25,7 @@ use records::Span;
 use records::Table;
 use records::Waveform;
 ghost use mathlib.Core.Path.{_≡_};
-ghost use mathlib.Core.Option.{none};
-ghost use Rattle.layout.specs.Laid.{rampLaid};
+ghost use Rattle.rules.specs.Reading.{noRamp};
 ghost use Rattle.program_tables.specs.Shelved.{blankComponent, blankPin, blankSelector, blankChoice, blankModel, blankWaveform, blankComponents, blankPins, blankSelectors, blankChoices, blankModels, blankWaveforms, blankRows, shelfOf, Loaded};
 
 // The answer, and the tables behind it. Of a refused file the tables hold blank records.
@@ -44,7 +43,7 @@ pub struct Shelf {
 // ---- blank records
 
 fn no_ramp() -> RampTable
-    ensures { λ r. ⌜ r ≡ rampLaid none ⌝ }
+    ensures { λ r. ⌜ r ≡ noRamp ⌝ }
 {
     let slopes = RampTriple {
         typ: RampCell::Absent,

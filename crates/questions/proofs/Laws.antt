@@ -13,7 +13,7 @@ use borrow.Author.Tests.{lt-ltb, le-ltb}
 use Rattle.laws.proofs.Tests.{by-order}
 use Rattle.laws.proofs.Lists.{from-cons}
 use Rattle.laws.proofs.Same.{map-same}
-use Rattle.decimal.specs.Decimal.{cellIn}
+use Rattle.decimal.specs.Answers.{cellIn}
 use Rattle.decimal.specs.declared.Cell.{Cell}
 use Rattle.name_table.specs.declared.Found.{Found}
 use Rattle.name_table.specs.declared.Found.the-variants.{At, Nothing}

@@ -7,7 +7,8 @@ use native.Mathlib.Omega.{arith}
 use lib.ListN.{length, take, drop, getD, replicate}
 use lib.Seq.{take-all, take-append-seam}
 use Rattle.laws.specs.Lists.{eqs}
-use Rattle.decimal.specs.Decimal.{wordOf, cellIn}
+use Rattle.decimal.specs.Decimal.{wordOf}
+use Rattle.decimal.specs.Answers.{cellIn}
 use Rattle.decimal.specs.declared.Cell.{Cell}
 use Rattle.decimal.specs.declared.Cell.the-variants.{Number}
 use Rattle.decimal.proofs.Cells.{kept}

@@ -5,7 +5,7 @@ use mathlib.Core.Bool.{Bool, true, false, not, cond, _&&_}
 use lib.Dec.{ltb, eqb}
 use lib.ListN.{take, drop}
 use Rattle.laws.specs.Lists.{eqs}
-use Rattle.decimal.specs.Decimal.{cellIn}
+use Rattle.decimal.specs.Answers.{cellIn}
 use Rattle.decimal.specs.Fine.{Fine, FineCell}
 use Rattle.decimal.specs.declared.Cell.{Cell}
 use Rattle.decimal.specs.declared.Cell.the-variants.{Number, Missing}

@@ -7,7 +7,7 @@ use native.Mathlib.Nat.{le-refl}
 use lib.ListN.{length, replicate, length-replicate}
 use Rattle.table_walks.specs.Filled.{filledTo}
 use Rattle.rules.specs.Reading.{fileIn}
-use Rattle.layout.specs.Laid.{laid}
+use Rattle.layout.specs.Laid.{tables, laid, countsOf}
 use Rattle.records.specs.Stored.{stored, over}
 use Rattle.rules.specs.Whole.{Outcome, passed, refused, outcome, textsOf}
 use Rattle.records.specs.declared.Lengths.{Lengths}
@@ -20,12 +20,11 @@ use Rattle.records.specs.declared.Waveform.{Waveform}
 use Rattle.records.specs.declared.Counts.{Counts}
 use Rattle.notes.specs.Noted.{nothingUsed}
 use Rattle.note_words.specs.Store.{storeLength}
-use Rattle.layout_by_notes.specs.Lies.{countsOf}
 use Rattle.from_notes.specs.Made.{componentAt, pinAt, selectorAt, choiceAt, modelAt, waveformAt, rowsAt}
 use Rattle.file_answer.specs.Answered.{answerFor, answerOf}
 use Rattle.file_answer.specs.Sorted.{Sorted, SortedFor, Outlines}
 use Rattle.records.specs.declared.Answer.{Answer}
-use Rattle.reader.specs.Promise.{lent, lengthsIn, left, Read}
+use Rattle.reader.specs.Promise.{lengthsIn, left, Read}
 use Rattle.reader.specs.Filling.{rowsFit, rowsFilled, blankNotes}
 use Rattle.reader.proofs.Tables.{file, fit, over-filled, components-made, pins-made, selectors-made, choices-made, models-made, waveforms-made, rows-made, rows-fit}
 
@@ -44,7 +43,7 @@ none-filled s ns rs = refl
 
 module _ (s : List ℕ) (cs : List Component) (ps : List Pin) (ss : List Selector) (hs : List Choice) (ms : List Model) (ws : List Waveform) (rs : List ℕ) where
   abbrev l : Lengths
-  l = lengthsIn (lent cs ps ss hs ms ws rs)
+  l = lengthsIn (tables cs ps ss hs ms ws rs)
 
   -- ---- an accepted file
 

@@ -6,7 +6,7 @@ use native.Mathlib.Omega.{arith}
 use lib.ListN.{length, drop, length-append, length-map, length-reverse}
 use Rattle.table_walks.specs.Filled.{filledTo}
 use Rattle.rules.specs.Reading.{fileIn}
-use Rattle.layout.specs.Laid.{Laid, laid}
+use Rattle.layout.specs.Laid.{Laid, laid, countsOf}
 use Rattle.records.specs.Stored.{stored, rowWords, over}
 use Rattle.rules.specs.Whole.{Outcome, passed, refused, outcome, textsOf}
 use Rattle.records.specs.declared.Lengths.{Lengths}
@@ -15,7 +15,7 @@ use Rattle.records.specs.declared.Kind.the-variants.{OfComponent, OfPin, OfSele
 use Rattle.notes.specs.Noted.{Note}
 use Rattle.records.specs.declared.Counts.{Counts}
 use Rattle.note_words.specs.Store.{waveAt}
-use Rattle.layout_by_notes.specs.Lies.{noted, componentNoted, pinNoted, selectorNoted, choiceNoted, modelNoted, waveNoted, rowsNoted, countsOf, Lies, Fits}
+use Rattle.layout_by_notes.specs.Lies.{noted, componentNoted, pinNoted, selectorNoted, choiceNoted, modelNoted, waveNoted, rowsNoted, Lies, Fits}
 use Rattle.layout_by_notes.proofs.Lists.{flat-append}
 use Rattle.layout_by_notes.proofs.Tables.{lies, fits}
 use Rattle.from_notes.specs.Made.{noteBy, componentAt, pinAt, selectorAt, choiceAt, modelAt, waveformAt, rowsAt}

@@ -4,7 +4,7 @@ use mathlib.Core.Path.{_≡_}
 use mathlib.Core.List.{List}
 use lib.ListN.{length}
 use Rattle.rules.specs.Reading.{fileIn}
-use Rattle.layout.specs.Laid.{Laid, laid}
+use Rattle.layout.specs.Laid.{Tables, tables, Laid, laid}
 use Rattle.records.specs.Stored.{stored, over}
 use Rattle.rules.specs.Whole.{Outcome, passed, refused, outcome, textsOf}
 use Rattle.records.specs.declared.Lengths.{Lengths}
@@ -17,15 +17,9 @@ use Rattle.records.specs.declared.Waveform.{Waveform}
 use Rattle.file_answer.specs.Answered.{answerOf}
 use Rattle.records.specs.declared.Answer.{Answer}
 
--- the lent tables, with all that lies in them
-pub record Lent : Type 0 where
-  pub components : List Component
-  pub pins : List Pin
-  pub selectors : List Selector
-  pub choices : List Choice
-  pub models : List Model
-  pub waveforms : List Waveform
-  pub rows : List ℕ
+-- the lent tables, with all that lies in them; of the rows, four words each
+abbrev pub Lent : Type 0
+Lent = Tables ℕ
 
 -- of the row store, as many rows are lent as whole groups of four words
 abbrev pub lengthsOf : ℕ → ℕ → ℕ → ℕ → ℕ → ℕ → ℕ → Lengths
@@ -38,15 +32,8 @@ lengthsIn t =
 -- an accepted file is laid over what the tables held; "after a fault, the lent tables hold what they held before"
 abbrev pub left : Outcome → Laid → Lent → Lent
 left (passed h) a t =
-    record {
-      components = over (t .components) (a .components);
-      pins = over (t .pins) (a .pins);
-      selectors = over (t .selectors) (a .selectors);
-      choices = over (t .choices) (a .choices);
-      models = over (t .models) (a .models);
-      waveforms = over (t .waveforms) (a .waveforms);
-      rows = over (t .rows) (stored (a .rows));
-    }
+    tables (over (t .components) (a .components)) (over (t .pins) (a .pins)) (over (t .selectors) (a .selectors)) (over (t .choices) (a .choices))
+    (over (t .models) (a .models)) (over (t .waveforms) (a .waveforms)) (over (t .rows) (stored (a .rows)))
 left (refused n k) a t = t
 
 -- file s is read into tables t: r is answered, and the tables then are u
@@ -54,10 +41,7 @@ pub record Reads (s : List ℕ) (t : Lent) (r : Answer) (u : Lent) : Type 0 wher
   pub answer : r ≡ answerOf (lengthsIn t) s
   pub tables : u ≡ left (outcome (lengthsIn t) s) (laid (fileIn (textsOf s))) t
 
-abbrev pub lent : List Component → List Pin → List Selector → List Choice → List Model → List Waveform → List ℕ → Lent
-lent cs ps ss hs ms ws rs = record { components = cs; pins = ps; selectors = ss; choices = hs; models = ms; waveforms = ws; rows = rs }
-
 -- the same, the tables one by one: as they were lent, and as they are left
 abbrev pub Read : List ℕ → List Component → List Pin → List Selector → List Choice → List Model → List Waveform → List ℕ
     → Answer → List Component → List Pin → List Selector → List Choice → List Model → List Waveform → List ℕ → Type 0
-Read s cs ps ss hs ms ws rs r cs′ ps′ ss′ hs′ ms′ ws′ rs′ = Reads s (lent cs ps ss hs ms ws rs) r (lent cs′ ps′ ss′ hs′ ms′ ws′ rs′)
+Read s cs ps ss hs ms ws rs r cs′ ps′ ss′ hs′ ms′ ws′ rs′ = Reads s (tables cs ps ss hs ms ws rs) r (tables cs′ ps′ ss′ hs′ ms′ ws′ rs′)

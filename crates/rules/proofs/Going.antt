@@ -4,7 +4,7 @@ use mathlib.Core.Path.{_≡_, sym, ap, _∙_}
 use mathlib.Core.Bool.{Bool, true, false}
 use borrow.Author.Tests.{eq-eqb, ne-eqb}
 use Rattle.laws.proofs.Tests.{cond-yes, cond-no}
-use Rattle.rules.specs.Going.{stop, unless, refuse, firstOf}
+use Rattle.rules.specs.Going.{stop, unless, refuse}
 use Rattle.rules.specs.declared.Went.{Went}
 
 module _ {t : Bool} (n k : ℕ) (went : Went) where
@@ -25,12 +25,3 @@ module _ {r n : ℕ} (k : ℕ) (went : Went) (e : r ≡ n) where
   pub clean : r ≡ 0 → went ≡ unless n k went
   unfolding unless
   clean h = sym (cond-yes went (stop n k) (eq-eqb n 0 (sym e ∙ h)))
-
-module _ {r n : ℕ} (m : ℕ) (e : r ≡ n) where
-  pub first-fault : (r ≡ 0 → ⊥) → r ≡ firstOf n m
-  unfolding firstOf
-  first-fault h = e ∙ sym (cond-no m n (ne-eqb n 0 (λ q. h (e ∙ q))))
-
-  pub second-fault : r ≡ 0 → m ≡ firstOf n m
-  unfolding firstOf
-  second-fault h = sym (cond-yes m n (eq-eqb n 0 (sym e ∙ h)))

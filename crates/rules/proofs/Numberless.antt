@@ -1,69 +1,90 @@
 -- No line's number is read: what is read of texts is read of the same texts numbered anew.
 use Prim.Native.Nat.{ℕ}
+use Prim.Native.String.{String}
 use mathlib.Core.Path.{_≡_, refl, ap, _∙_}
-use mathlib.Core.List.{List, [], _∷_, map}
+use mathlib.Core.List.{List, [], _∷_, _++_, map}
+use mathlib.Core.Bool.{cond}
+use Rattle.laws.specs.Bytes.{bytes}
 use Rattle.laws.specs.Lists.{front}
 use Rattle.laws.proofs.Fronts.{front-map}
+use Rattle.words.specs.Words.{words}
 use Rattle.keywords.specs.Form.{argument}
+use Rattle.records.specs.declared.Span.{Span}
+use Rattle.records.specs.declared.Table.{Table}
 use Rattle.cut_lines.specs.Texts.{Text, plain, change}
 use Rattle.cut_lines.proofs.Renumbered.{textAt}
-use Rattle.rules.specs.Reading.{isLine, plainLines, under, keyAt, ComponentIs, onComponentKey, withComponentKeys, componentIn, choiceIn, ModelIs, onModelKey, withModelKeys, modelIn, isWithin}
+use Rattle.line_rules.specs.Fields.{isBracketed, oneOf}
+use Rattle.line_rules.specs.Tables.{tableKeywords}
+use Rattle.rules.specs.Component.{pinIn}
+use Rattle.rules.specs.Reading.{keyName, isKey, argumentAt, under, linesUnder, keySays, pinsIn, componentIn, choiceIn, choicesIn, modelIn, TableIs, tablesIn, isWithin}
 
 abbrev pub Numberless : {A : Type 0} → (List Text → A) → Type 0
 Numberless g = (f : ℕ → ℕ) (ts : List Text) → g (map (textAt f) ts) ≡ g ts
 
-module _ (f : ℕ → ℕ) where
-  within-at : (t : Text) → isWithin (textAt f t) ≡ isWithin t
-  within-at (plain k w) = refl
-  within-at (change k n) = refl
+within-at : (f : ℕ → ℕ) (t : Text) → isWithin (textAt f t) ≡ isWithin t
+within-at f (plain k w) = refl
+within-at f (change k n) = refl
 
-  line-at : (t : Text) → isLine (textAt f t) ≡ isLine t
-  line-at (plain k w) = refl
-  line-at (change k n) = refl
+pub under-numberless : Numberless under
+unfolding under
+under-numberless f [] = refl
+under-numberless f (plain k w ∷ ts) = ap (λ (ws : List (List ℕ)). cond (isBracketed w) [] (w ∷ ws)) (under-numberless f ts)
+under-numberless f (change k n ∷ ts) = under-numberless f ts
 
-  lines-at : (ts : List Text) → plainLines (map (textAt f) ts) ≡ plainLines ts
-  unfolding plainLines
-  lines-at [] = refl
-  lines-at (plain k w ∷ ts) = ap (λ (ws : List (List ℕ)). w ∷ ws) (lines-at ts)
-  lines-at (change k n ∷ ts) = lines-at ts
+lines-numberless : (name : String) → Numberless (linesUnder name)
+unfolding linesUnder
+lines-numberless name f [] = refl
+lines-numberless name f (plain k w ∷ ts) = rw (under-numberless f ts, lines-numberless name f ts)
+lines-numberless name f (change k n ∷ ts) = rw (under-numberless f ts, lines-numberless name f ts)
 
-  pub under-at : (ts : List Text) → under (map (textAt f) ts) ≡ under ts
-  unfolding under
-  under-at ts = ap plainLines (front-map isLine isLine (textAt f) line-at ts) ∙ lines-at (front isLine ts)
+says-numberless : {A : Type 0} (name : String) (read : List ℕ → List (List ℕ) → A) (before : A) → Numberless (keySays name read before)
+unfolding keySays
+says-numberless name read before f [] = refl
+says-numberless name read before f (plain k w ∷ ts) =
+    says-numberless name read _ f ts
+    ∙ ap (λ ls. keySays name read (cond (isKey name (plain k w)) (read (argument w) ls) before) ts) (under-numberless f ts)
+says-numberless name read before f (change k n ∷ ts) =
+    says-numberless name read _ f ts ∙ ap (λ ls. keySays name read (cond (isKey name (change k n)) (read [] ls) before) ts) (under-numberless f ts)
 
-  keys-at : (c : ComponentIs) (ts : List Text) → withComponentKeys c (map (textAt f) ts) ≡ withComponentKeys c ts
-  unfolding withComponentKeys
-  keys-at c [] = refl
-  keys-at c (plain k w ∷ ts) =
-      keys-at (onComponentKey c (argument w) (under (map (textAt f) ts)) (keyAt (plain k w))) ts
-      ∙ ap (λ (ls : List (List ℕ)). withComponentKeys (onComponentKey c (argument w) ls (keyAt (plain k w))) ts) (under-at ts)
-  keys-at c (change k n ∷ ts) = keys-at c ts
-
-  component-at : (n : List ℕ) (ts : List Text) → componentIn n (map (textAt f) ts) ≡ componentIn n ts
-  unfolding componentIn
-  component-at n ts = rw (under-at ts) (keys-at _ ts)
-
-  model-keys-at : (m : ModelIs) (ts : List Text) → withModelKeys m (map (textAt f) ts) ≡ withModelKeys m ts
-  unfolding withModelKeys
-  model-keys-at m [] = refl
-  model-keys-at m (plain k w ∷ ts) =
-      model-keys-at (onModelKey m (argument w) (under (map (textAt f) ts)) (keyAt (plain k w))) ts
-      ∙ ap (λ (ls : List (List ℕ)). withModelKeys (onModelKey m (argument w) ls (keyAt (plain k w))) ts) (under-at ts)
-  model-keys-at m (change k n ∷ ts) = model-keys-at m ts
-
-  pub model-at : (n : List ℕ) (ts : List Text) → modelIn n (map (textAt f) ts) ≡ modelIn n ts
-  unfolding modelIn
-  model-at n ts = rw (under-at ts) (model-keys-at _ ts)
+tables-numberless : Numberless tablesIn
+unfolding tablesIn
+tables-numberless f [] = refl
+tables-numberless f (plain k w ∷ ts) = rw (under-numberless f ts, tables-numberless f ts)
+tables-numberless f (change k n ∷ ts) = rw (under-numberless f ts, tables-numberless f ts)
 
 -- the texts of a section, up to the next one
 within : {A : Type 0} (g : List Text → A) → Numberless g → Numberless (λ (ts : List Text). g (front isWithin ts))
 within g n f ts = ap g (front-map isWithin isWithin (textAt f) (within-at f) ts) ∙ n f (front isWithin ts)
 
-pub component-numberless : (n : List ℕ) → Numberless (λ (ts : List Text). componentIn n (front isWithin ts))
-component-numberless n = within (componentIn n) (λ f ts. component-at f n ts)
+component-at : (n : ℕ) (pins : Span) (name : List ℕ) → Numberless (componentIn n pins name)
+unfolding componentIn
+component-at n pins name f ts =
+    rw (under-numberless f ts, says-numberless "manufacturer" _ _ f ts, lines-numberless "package" f ts)
 
-pub choices-numberless : Numberless (λ (ts : List Text). map choiceIn (under (front isWithin ts)))
-choices-numberless = within (λ (ts : List Text). map choiceIn (under ts)) (λ f ts. ap (map choiceIn) (under-at f ts))
+model-at : (n : ℕ) (table : String → Table) (waveforms : Span) (name : List ℕ) → Numberless (modelIn n table waveforms name)
+unfolding modelIn
+model-at n table waveforms name f ts =
+    rw (under-numberless f ts, says-numberless "voltage_range" _ _ f ts, says-numberless "temperature_range" _ _ f ts, says-numberless "ramp" _ _ f ts)
 
-pub model-numberless : (n : List ℕ) → Numberless (λ (ts : List Text). modelIn n (front isWithin ts))
-model-numberless n = within (modelIn n) (λ f ts. model-at f n ts)
+pins-at : Numberless pinsIn
+unfolding pinsIn
+pins-at f ts = ap (map pinIn) (lines-numberless "pin" f ts)
+
+choices-at : Numberless choicesIn
+unfolding choicesIn
+choices-at f ts = ap (map choiceIn) (under-numberless f ts)
+
+pub component-numberless : (n : ℕ) (pins : Span) (name : List ℕ) → Numberless (λ (ts : List Text). componentIn n pins name (front isWithin ts))
+component-numberless n pins name = within (componentIn n pins name) (component-at n pins name)
+
+pub pins-numberless : Numberless (λ (ts : List Text). pinsIn (front isWithin ts))
+pins-numberless = within pinsIn pins-at
+
+pub choices-numberless : Numberless (λ (ts : List Text). choicesIn (front isWithin ts))
+choices-numberless = within choicesIn choices-at
+
+pub model-numberless : (n : ℕ) (table : String → Table) (waveforms : Span) (name : List ℕ) → Numberless (λ (ts : List Text). modelIn n table waveforms name (front isWithin ts))
+model-numberless n table waveforms name = within (modelIn n table waveforms name) (model-at n table waveforms name)
+
+pub tables-within-numberless : Numberless (λ (ts : List Text). tablesIn (front isWithin ts))
+tables-within-numberless = within tablesIn tables-numberless

@@ -1,19 +1,18 @@
 -- Document 01, "Sections": the header.
 use Prim.Native.Nat.{ℕ}
 use mathlib.Core.List.{List}
-use mathlib.Core.Bool.{Bool, true, false, cond, not, _&&_}
+use mathlib.Core.Bool.{Bool, false, cond, not, _&&_}
 use lib.ListN.{length}
-use lib.Dec.{eqb}
+use lib.Dec.{eqb, leb}
 use Rattle.laws.specs.Bytes.{bytes}
 use Rattle.laws.specs.Lists.{eqs}
 use Rattle.words.specs.Words.{words}
 use Rattle.keywords.specs.declared.HeaderPart.{HeaderPart}
 use Rattle.keywords.specs.declared.HeaderPart.the-variants.{FileName, FileRev, FreeText}
-use Rattle.keywords.specs.declared.HeaderText.{HeaderText}
 use Rattle.keywords.specs.declared.HeaderText.the-variants.{Date, Source, Notes, Disclaimer, Copyright}
 use Rattle.line_rules.specs.Fields.{isFileName, oneWord}
-use Rattle.given.specs.Given.{noneGiven, has, with}
-use Rattle.rules.specs.Going.{stop, refuse, unless, quietly}
+use Rattle.given.specs.Given.{noneGiven, has}
+use Rattle.rules.specs.Going.{stop, refuse, quietly, once}
 use Rattle.rules.specs.declared.HeaderState.{HeaderState}
 use Rattle.rules.specs.declared.Stage.the-variants.{InHeader}
 use Rattle.rules.specs.declared.Went.{Went}
@@ -24,17 +23,14 @@ version k argument =
     refuse (not (eqs argument (bytes "5.0"))) 10 k (quietly (InHeader (record { line = k; text = false; parts = noneGiven })))
 
 -- "Then, in any order, each at most once, [File Name] .., [File Rev] .., and the five text keywords"
-abbrev pub textPlace : HeaderText → ℕ
-textPlace Date = 2
-textPlace Source = 3
-textPlace Notes = 4
-textPlace Disclaimer = 5
-textPlace Copyright = 6
-
 abbrev pub headerPlace : HeaderPart → ℕ
 headerPlace FileName = 0
 headerPlace FileRev = 1
-headerPlace (FreeText t) = textPlace t
+headerPlace (FreeText Date) = 2
+headerPlace (FreeText Source) = 3
+headerPlace (FreeText Notes) = 4
+headerPlace (FreeText Disclaimer) = 5
+headerPlace (FreeText Copyright) = 6
 
 -- "(one word ..)", "(not empty)"
 abbrev pub headerFault : List ℕ → HeaderPart → ℕ
@@ -42,17 +38,10 @@ headerFault argument FileName = cond (oneWord isFileName (words argument)) 0 10
 headerFault argument FileRev = cond (eqb (length argument) 0) 10 0
 headerFault argument (FreeText t) = 0
 
--- "whose text runs to the next keyword"
-abbrev pub isText : HeaderPart → Bool
-isText FileName = false
-isText FileRev = false
-isText (FreeText t) = true
-
+-- of the five texts, from place 2 on, the "text runs to the next keyword"
 unfoldable pub headerPart : HeaderState → ℕ → List ℕ → HeaderPart → Went
 headerPart h k argument p =
-    refuse (has (h .parts) (headerPlace p)) 8 k
-    (unless (headerFault argument p) k
-    (quietly (InHeader (record { line = h .line; text = isText p; parts = with (h .parts) (headerPlace p) }))))
+    once (h .parts) (headerPlace p) (headerFault argument p) k (λ g. InHeader (record { line = h .line; text = leb 2 (headerPlace p); parts = g }))
 
 -- a line that is no keyword line: part of a text, or without a place
 unfoldable pub headerLine : HeaderState → ℕ → Went
@@ -64,4 +53,4 @@ headerShut h = quietly (InHeader (record { line = h .line; text = false; parts =
 
 -- "both required"; "a missing header keyword is told at [IBIS Ver]"
 unfoldable pub headerDone : HeaderState → ℕ
-headerDone h = cond (has (h .parts) 0 && has (h .parts) 1) 0 9
+headerDone h = cond (has (h .parts) (headerPlace FileName) && has (h .parts) (headerPlace FileRev)) 0 9

@@ -9,3 +9,5 @@ pub mod Outline
 pub mod Whole
 pub mod Reading
 pub mod Same
+pub mod Keys
+pub mod Last

@@ -2,8 +2,8 @@
 use Prim.Native.Nat.{ℕ}
 use mathlib.Core.List.{List}
 use mathlib.Core.Bool.{true, false, not}
-use Rattle.words.specs.Words.{words}
-use Rattle.line_rules.specs.Fields.{isModelName, firstWord}
+use Rattle.words.specs.Words.{word, words}
+use Rattle.line_rules.specs.Fields.{isModelName}
 use Rattle.rules.specs.Going.{refuse, quietly}
 use Rattle.rules.specs.declared.SelectorState.{SelectorState}
 use Rattle.rules.specs.declared.Stage.the-variants.{InSelector}
@@ -11,13 +11,10 @@ use Rattle.rules.specs.declared.Event.the-variants.{ChoiceRow}
 use Rattle.rules.specs.declared.Went.{Went}
 use Rattle.rules.specs.declared.Went.the-variants.{On}
 
-abbrev pub newSelector : ℕ → SelectorState
-newSelector k = record { line = k; any = false }
-
 -- "rows of a model name (1 to 40) and a free description, maybe empty"
 unfoldable pub selectorLine : SelectorState → ℕ → List ℕ → Went
 selectorLine s k w =
-    refuse (not (isModelName (firstWord (words w)))) 10 k (On (InSelector (record { line = s .line; any = true })) ChoiceRow)
+    refuse (not (isModelName (word 0 (words w)))) 10 k (On (InSelector (record { line = s .line; any = true })) ChoiceRow)
 
 -- "at least one": the rows are a list, which any keyword line closes
 unfoldable pub selectorShut : SelectorState → Went

@@ -1,7 +1,8 @@
 -- Document 01, "Faults", the order at a line: first what it closes, inner table before section, then the line itself.
 use Prim.Native.Nat.{ℕ}
 use mathlib.Core.List.{List}
-use mathlib.Core.Bool.{cond, not}
+use mathlib.Core.Bool.{Bool, true, false, cond, not}
+use mathlib.Core.Option.{Option, none, some}
 use lib.ListN.{length}
 use lib.Dec.{eqb}
 use Rattle.words.specs.Words.{words}
@@ -14,15 +15,16 @@ use Rattle.keywords.specs.declared.Section.the-variants.{Component, Selector, M
 use Rattle.keywords.specs.declared.HeaderPart.{HeaderPart}
 use Rattle.keywords.specs.declared.ComponentPart.{ComponentPart}
 use Rattle.keywords.specs.declared.ModelPart.{ModelPart}
-use Rattle.keywords.specs.declared.KeyRead.{KeyRead}
-use Rattle.keywords.specs.declared.KeyRead.the-variants.{Known, Unknown, Malformed}
+use Rattle.laws.specs.Said.{Said, says, fault}
 use Rattle.cut_lines.specs.Texts.{Text, plain, change}
 use Rattle.line_rules.specs.Fields.{isSized, isModelName, isBracketed, oneWord}
 use Rattle.rules.specs.Going.{stop, unless, refuse, andThen, quietly}
 use Rattle.rules.specs.Header.{version, headerPart, headerLine, headerShut, headerDone}
-use Rattle.rules.specs.Component.{newComponent, componentPart, componentLine, componentShut, componentDone}
-use Rattle.rules.specs.Selector.{newSelector, selectorLine, selectorShut}
+use Rattle.rules.specs.Component.{componentPart, componentLine, componentShut, componentDone}
+use Rattle.rules.specs.Selector.{selectorLine, selectorShut}
 use Rattle.rules.specs.Model.{newModel, modelPart, modelLine, modelShut, modelDone}
+use Rattle.given.specs.Given.{noneGiven}
+use Rattle.rules.specs.declared.ComponentList.the-variants.{ComponentFirst}
 use Rattle.rules.specs.declared.HeaderState.{HeaderState}
 use Rattle.rules.specs.declared.ComponentState.{ComponentState}
 use Rattle.rules.specs.declared.SelectorState.{SelectorState}
@@ -42,77 +44,74 @@ byStage before header component selector model after (InSelector s) = selector s
 byStage before header component selector model after (InModel m) = model m
 byStage before header component selector model after AfterEnd = after
 
--- ---- what a line closes
+-- the header, the component or the model that is open
+abbrev pub headerOf : Stage → Option HeaderState
+headerOf s = byStage none some (λ c. none) (λ l. none) (λ m. none) none s
 
--- "Every keyword line but [Comment Char], even a faulty one, closes the table or list above it"
-abbrev pub shut : Stage → Went
-shut BeforeVersion = quietly BeforeVersion
-shut (InHeader h) = headerShut h
-shut (InComponent c) = componentShut c (c .list)
-shut (InSelector s) = selectorShut s
-shut (InModel m) = modelShut m (m .list)
-shut AfterEnd = quietly AfterEnd
+abbrev pub componentOf : Stage → Option ComponentState
+componentOf s = byStage none (λ h. none) some (λ l. none) (λ m. none) none s
 
--- "only well formed section keywords and [End] close a section or the header"
-abbrev pub done : Stage → Went
-done BeforeVersion = quietly BeforeVersion
-done (InHeader h) = unless (headerDone h) (h .line) (quietly (InHeader h))
-done (InComponent c) = unless (componentDone c) (c .line) (quietly (InComponent c))
-done (InSelector s) = quietly (InSelector s)
-done (InModel m) = unless (modelDone m) (m .line) (quietly (InModel m))
-done AfterEnd = quietly AfterEnd
+abbrev pub modelOf : Stage → Option ModelState
+modelOf s = byStage none (λ h. none) (λ c. none) (λ l. none) some none s
+
+-- before [IBIS Ver]; after [End]
+abbrev pub isBefore : Stage → Bool
+isBefore s = byStage true (λ h. false) (λ c. false) (λ l. false) (λ m. false) false s
+
+abbrev pub isEnded : Stage → Bool
+isEnded s = byStage false (λ h. false) (λ c. false) (λ l. false) (λ m. false) true s
+
+-- ---- what line k closes
+
+-- "Every keyword line but [Comment Char], even a faulty one, closes the table or list above it"; "After [End], any line left after cutting
+-- is 7, before its other checks"
+abbrev pub shut : ℕ → Stage → Went
+shut k BeforeVersion = quietly BeforeVersion
+shut k (InHeader h) = headerShut h
+shut k (InComponent c) = componentShut c (c .list)
+shut k (InSelector s) = selectorShut s
+shut k (InModel m) = modelShut m (m .list)
+shut k AfterEnd = stop 7 k
+
+-- "only well formed section keywords and [End] close a section or the header"; "Before [IBIS Ver] nothing is open": any line "is 7, [End] too"
+abbrev pub done : ℕ → Stage → Went
+done k BeforeVersion = stop 7 k
+done k (InHeader h) = unless (headerDone h) (h .line) (quietly (InHeader h))
+done k (InComponent c) = unless (componentDone c) (c .line) (quietly (InComponent c))
+done k (InSelector s) = quietly (InSelector s)
+done k (InModel m) = unless (modelDone m) (m .line) (quietly (InModel m))
+done k AfterEnd = stop 7 k
 
 -- ---- the keywords
 
--- a section opens: "[Component] name, 1 to 40 characters, inner blanks allowed"; the others "one word, 1 to 40"
+-- a section opens: "[Component] name, 1 to 40 characters, inner blanks allowed"; the others "(one word, 1 to 40)"
 abbrev pub opened : ℕ → List ℕ → Section → Went
-opened k w Component = refuse (not (isSized 40 w)) 10 k (On (InComponent (newComponent k)) (Opened Component))
-opened k w Selector = refuse (not (oneWord isModelName (words w))) 10 k (On (InSelector (newSelector k)) (Opened Selector))
+opened k w Component = refuse (not (isSized 40 w)) 10 k (On (InComponent (record { line = k; first = noneGiven; parts = noneGiven; list = ComponentFirst })) (Opened Component))
+opened k w Selector = refuse (not (oneWord isModelName (words w))) 10 k (On (InSelector (record { line = k; any = false })) (Opened Selector))
 opened k w Model = refuse (not (oneWord isModelName (words w))) 10 k (On (InModel (newModel k)) (Opened Model))
 
--- "A second [IBIS Ver] is 8 in the header, 7 later"
-abbrev pub secondVersion : Stage → ℕ → Went
-secondVersion s k = byStage (stop 7 k) (λ h. stop 8 k) (λ c. stop 7 k) (λ l. stop 7 k) (λ m. stop 7 k) (stop 7 k) s
+-- has its place there alone: else 7
+abbrev pub within : {A : Type 0} → ℕ → Option A → (A → Went) → Went
+within k none go = stop 7 k
+within k (some a) go = go a
 
--- a keyword has its place in its own section alone
-abbrev pub inHeader : Stage → ℕ → List ℕ → HeaderPart → Went
-inHeader s k w p = byStage (stop 7 k) (λ h. headerPart h k w p) (λ c. stop 7 k) (λ l. stop 7 k) (λ m. stop 7 k) (stop 7 k) s
-
-abbrev pub inComponent : Stage → ℕ → List ℕ → ComponentPart → Went
-inComponent s k w p = byStage (stop 7 k) (λ h. stop 7 k) (λ c. componentPart c k w p) (λ l. stop 7 k) (λ m. stop 7 k) (stop 7 k) s
-
-abbrev pub inModel : Stage → ℕ → List ℕ → ModelPart → Went
-inModel s k w p = byStage (stop 7 k) (λ h. stop 7 k) (λ c. stop 7 k) (λ l. stop 7 k) (λ m. modelPart m k w p) (stop 7 k) s
+-- "[IBIS Ver] is the first keyword"; "A second [IBIS Ver] is 8 in the header, 7 later"
+unfoldable pub onVersion : Stage → ℕ → List ℕ → Went
+onVersion s k w = cond (isBefore s) (version k w) (within k (headerOf s) (λ h. stop 8 k))
 
 -- [End] takes no argument; that there is no component comes before that, so the fault is left to whoever counts
 abbrev pub onKeyword : Stage → ℕ → List ℕ → Keyword → Went
-onKeyword s k w key.IbisVer = secondVersion s k
-onKeyword s k w (key.InHeader p) = inHeader s k w p
-onKeyword s k w (key.Opens o) = andThen (done s) (λ (t : Stage). opened k w o)
-onKeyword s k w (key.InComponent p) = inComponent s k w p
-onKeyword s k w (key.InModel p) = inModel s k w p
-onKeyword s k w key.End = andThen (done s) (λ (t : Stage). On AfterEnd (Ended (eqb (length w) 0)))
+onKeyword s k w key.IbisVer = onVersion s k w
+onKeyword s k w (key.InHeader p) = within k (headerOf s) (λ h. headerPart h k w p)
+onKeyword s k w (key.Opens o) = andThen (done k s) (λ (t : Stage). opened k w o)
+onKeyword s k w (key.InComponent p) = within k (componentOf s) (λ c. componentPart c k w p)
+onKeyword s k w (key.InModel p) = within k (modelOf s) (λ m. modelPart m k w p)
+onKeyword s k w key.End = andThen (done k s) (λ (t : Stage). On AfterEnd (Ended (eqb (length w) 0)))
 
 -- 5, 6, then the keyword
-abbrev pub keyed : Stage → ℕ → List ℕ → KeyRead → Went
-keyed s k w Malformed = stop 5 k
-keyed s k w Unknown = stop 6 k
-keyed s k w (Known key at) = onKeyword s k (argument w) key
-
--- ---- before [IBIS Ver]: "any other line left there that passes 5 and 6 is 7, [End] too"
-
-abbrev pub firstKeyword : ℕ → List ℕ → Keyword → Went
-firstKeyword k w key.IbisVer = version k w
-firstKeyword k w (key.InHeader p) = stop 7 k
-firstKeyword k w (key.Opens o) = stop 7 k
-firstKeyword k w (key.InComponent p) = stop 7 k
-firstKeyword k w (key.InModel p) = stop 7 k
-firstKeyword k w key.End = stop 7 k
-
-abbrev pub firstKeyed : ℕ → List ℕ → KeyRead → Went
-firstKeyed k w Malformed = stop 5 k
-firstKeyed k w Unknown = stop 6 k
-firstKeyed k w (Known key at) = firstKeyword k (argument w) key
+abbrev pub keyed : Stage → ℕ → List ℕ → Said Keyword → Went
+keyed s k w (fault n) = stop n k
+keyed s k w (says key) = onKeyword s k (argument w) key
 
 -- ---- a line that is no keyword line
 
@@ -124,28 +123,19 @@ onLine (InSelector s) k w = selectorLine s k w
 onLine (InModel m) k w = modelLine m k w (m .list)
 onLine AfterEnd k w = stop 7 k
 
--- ---- a line that cutting leaves: "A line whose first character is `[` .. is a keyword line"
+-- ---- a line that cutting leaves: "A line whose first character is `[`, with no blank before it, is a keyword line"
 
-unfoldable pub onBegun : Stage → ℕ → List ℕ → Went
-onBegun s k w = cond (isBracketed w) (andThen (shut s) (λ (t : Stage). keyed t k w (keyOf w))) (onLine s k w)
+unfoldable pub onPlain : Stage → ℕ → List ℕ → Went
+onPlain s k w = cond (isBracketed w) (andThen (shut k s) (λ (t : Stage). keyed t k w (keyOf w))) (onLine s k w)
 
-abbrev pub onPlain : Stage → ℕ → List ℕ → Went
-onPlain BeforeVersion k w = cond (isBracketed w) (firstKeyed k w (keyOf w)) (stop 7 k)
-onPlain (InHeader h) k w = onBegun (InHeader h) k w
-onPlain (InComponent c) k w = onBegun (InComponent c) k w
-onPlain (InSelector s) k w = onBegun (InSelector s) k w
-onPlain (InModel m) k w = onBegun (InModel m) k w
-onPlain AfterEnd k w = stop 7 k
+-- ---- a [Comment Char] line: it "may stand anywhere between [IBIS Ver] and [End], and closes nothing"; n is its fault, 5 or 10, or 0 for none
 
--- ---- a [Comment Char] line: "may stand anywhere between [IBIS Ver] and [End], and closes nothing"; n is its fault, 0 for none
-
-abbrev pub onChange : Stage → ℕ → ℕ → Went
-onChange BeforeVersion k n = stop (cond (eqb n 5) 5 7) k
-onChange (InHeader h) k n = unless n k (quietly (InHeader h))
-onChange (InComponent c) k n = unless n k (quietly (InComponent c))
-onChange (InSelector s) k n = unless n k (quietly (InSelector s))
-onChange (InModel m) k n = unless n k (quietly (InModel m))
-onChange AfterEnd k n = stop 7 k
+unfoldable pub onChange : Stage → ℕ → ℕ → Went
+onChange s k n =
+    refuse (isEnded s) 7 k
+    (refuse (eqb n 5) 5 k
+    (refuse (isBefore s) 7 k
+    (unless n k (quietly s))))
 
 abbrev pub onText : Stage → Text → Went
 onText s (plain k w) = onPlain s k w

@@ -2,10 +2,11 @@
 use Prim.Native.Nat.{ℕ, _+_, min}
 use Prim.Native.Char.{code}
 use mathlib.Core.List.{List, [], _∷_, reverse}
-use mathlib.Core.Bool.{Bool, cond}
+use mathlib.Core.Bool.{cond}
 use lib.ListN.{length}
 use lib.Dec.{eqb, leb}
-use Rattle.words.specs.Words.{words}
+use Rattle.laws.specs.Said.{Said, says, fault}
+use Rattle.words.specs.Words.{word, words}
 use Rattle.lines.specs.Lines.{linesOf, bytesFault}
 use Rattle.lines.specs.declared.Bytes.{Bytes}
 use Rattle.lines.specs.declared.Bytes.the-variants.{Clean, Faulty}
@@ -13,8 +14,7 @@ use Rattle.keywords.specs.Form.{argument}
 use Rattle.keywords.specs.declared.Section.{Section}
 use Rattle.keywords.specs.declared.Section.the-variants.{Component, Selector, Model}
 use Rattle.cut_lines.specs.Texts.{Text, plain, change, textsFrom}
-use Rattle.line_rules.specs.Fields.{firstWord, otherWords}
-use Rattle.rules.specs.Steps.{byStage, onText}
+use Rattle.rules.specs.Steps.{isEnded, onText}
 use Rattle.rules.specs.Outline.{Entry, is, count, isUsed, isFound, isListed, firstFailing}
 use Rattle.records.specs.Bounds.{most, mostWaveforms}
 use Rattle.records.specs.declared.Kind.{Kind}
@@ -36,9 +36,6 @@ bound l OfSelector = min (most OfSelector) (l .selectors)
 bound l OfChoice = min (most OfChoice) (l .choices)
 bound l OfModel = min (most OfModel) (l .models)
 
-abbrev pub waveformBound : Lengths → ℕ
-waveformBound l = min mostWaveforms (l .waveforms)
-
 -- ---- what the file holds so far: what is named, the latest first; how many waveforms and rows
 
 pub record Held : Type 0 where
@@ -49,47 +46,38 @@ pub record Held : Type 0 where
 abbrev pub nothingHeld : Held
 nothingHeld = record { entries = []; waveforms = 0; rows = 0 }
 
-pub data Admission : Type 0 where
-  admitted : Held → Admission
-  denied : ℕ → ℕ → Admission
-
 -- 14, then 17
-unfoldable pub admitEntry : Lengths → Held → Entry → Admission
+unfoldable pub admitEntry : Lengths → Held → Entry → Said Held
 admitEntry l h e =
-    cond (isUsed (e .kind) (e .name) (h .entries)) (denied 14 (e .line))
-    (cond (leb (bound l (e .kind)) (count (is (e .kind)) (h .entries))) (denied 17 (e .line))
-    (admitted (record { entries = e ∷ h .entries; waveforms = h .waveforms; rows = h .rows })))
+    cond (isUsed (e .kind) (e .name) (h .entries)) (fault 14)
+    (cond (leb (bound l (e .kind)) (count (is (e .kind)) (h .entries))) (fault 17)
+    (says (record { entries = e ∷ h .entries; waveforms = h .waveforms; rows = h .rows })))
 
 -- the entry of a section's keyword line, w being its argument
 abbrev pub sectionEntry : ℕ → List ℕ → Section → Entry
 sectionEntry k w Component = record { kind = OfComponent; line = k; name = w; names = [] }
-sectionEntry k w Selector = record { kind = OfSelector; line = k; name = firstWord (words w); names = [] }
-sectionEntry k w Model = record { kind = OfModel; line = k; name = firstWord (words w); names = [] }
+sectionEntry k w Selector = record { kind = OfSelector; line = k; name = word 0 (words w); names = [] }
+sectionEntry k w Model = record { kind = OfModel; line = k; name = word 0 (words w); names = [] }
 
-unfoldable pub thirdWord : List (List ℕ) → List ℕ
-thirdWord ws = firstWord (otherWords (otherWords ws))
-
-abbrev pub pinEntry : ℕ → List ℕ → Entry
-pinEntry k w = record { kind = OfPin; line = k; name = firstWord (words w); names = thirdWord (words w) }
-
-abbrev pub choiceEntry : ℕ → List ℕ → Entry
-choiceEntry k w = record { kind = OfChoice; line = k; name = firstWord (words w); names = firstWord (words w) }
+-- the entry of a row, which names the model of its word n
+abbrev pub rowEntry : Kind → ℕ → ℕ → List ℕ → Entry
+rowEntry x k n w = record { kind = x; line = k; name = word 0 (words w); names = word n (words w) }
 
 -- line k, whose text is w, adds to the file; at [End] first "no component" (9), then its own 10
-abbrev pub admit : Lengths → Held → ℕ → List ℕ → Event → Admission
-admit l h k w Quiet = admitted h
+abbrev pub admit : Lengths → Held → ℕ → List ℕ → Event → Said Held
+admit l h k w Quiet = says h
 admit l h k w (Opened s) = admitEntry l h (sectionEntry k (argument w) s)
-admit l h k w PinRow = admitEntry l h (pinEntry k w)
-admit l h k w ChoiceRow = admitEntry l h (choiceEntry k w)
+admit l h k w PinRow = admitEntry l h (rowEntry OfPin k 2 w)
+admit l h k w ChoiceRow = admitEntry l h (rowEntry OfChoice k 0 w)
 admit l h k w WaveformOpened =
-    cond (leb (waveformBound l) (h .waveforms)) (denied 17 k)
-    (admitted (record { entries = h .entries; waveforms = h .waveforms + 1; rows = h .rows }))
+    cond (leb (min mostWaveforms (l .waveforms)) (h .waveforms)) (fault 17)
+    (says (record { entries = h .entries; waveforms = h .waveforms + 1; rows = h .rows }))
 admit l h k w TableRow =
-    cond (leb (l .rows) (h .rows)) (denied 18 k)
-    (admitted (record { entries = h .entries; waveforms = h .waveforms; rows = h .rows + 1 }))
+    cond (leb (l .rows) (h .rows)) (fault 18)
+    (says (record { entries = h .entries; waveforms = h .waveforms; rows = h .rows + 1 }))
 admit l h k w (Ended alone) =
-    cond (eqb (count (is OfComponent) (h .entries)) 0) (denied 9 k)
-    (cond alone (admitted h) (denied 10 k))
+    cond (eqb (count (is OfComponent) (h .entries)) 0) (fault 9)
+    (cond alone (says h) (fault 10))
 
 -- ---- lines from the top
 
@@ -105,37 +93,27 @@ abbrev pub lineOf : Text → ℕ
 lineOf (plain k w) = k
 lineOf (change k n) = k
 
--- "A file that runs out gives 19 before anything it would close"
-abbrev pub ranOut : ℕ → Held → Stage → Outcome
-ranOut past h s =
-    byStage (refused 19 past) (λ e. refused 19 past) (λ c. refused 19 past) (λ l. refused 19 past) (λ m. refused 19 past) (passed h) s
-
-abbrev pub afterAdmission : (Held → Outcome) → Admission → Outcome
-afterAdmission go (admitted h) = go h
-afterAdmission go (denied n k) = refused n k
+-- a line's own fault is told there
+abbrev pub afterAdmission : ℕ → (Held → Outcome) → Said Held → Outcome
+afterAdmission k go (says h) = go h
+afterAdmission k go (fault n) = refused n k
 
 abbrev pub afterStep : Lengths → Held → Text → (Stage → Held → Outcome) → Went → Outcome
-afterStep l h t go (On s e) = afterAdmission (go s) (admit l h (lineOf t) (textOf t) e)
+afterStep l h t go (On s e) = afterAdmission (lineOf t) (go s) (admit l h (lineOf t) (textOf t) e)
 afterStep l h t go (Stop f) = refused (f .number) (f .line)
 
--- past is the number of the line after the last
+-- past is the number of the line after the last: "A file that runs out gives 19 before anything it would close"
 unfoldable pub runs : Lengths → ℕ → Stage → Held → List Text → Outcome
-runs l past s h [] = ranOut past h s
+runs l past s h [] = cond (isEnded s) (passed h) (refused 19 past)
 runs l past s h (t ∷ ts) = afterStep l h t (λ (u : Stage) (g : Held). runs l past u g ts) (onText s t)
 
 -- ---- "Last, 15 over all pin and selector rows, then 16 over sections, each from the top of the file"
 
-abbrev pub found : List Entry → Entry → Bool
-found all e = isFound all e (e .kind)
-
-abbrev pub listed : List Entry → Entry → Bool
-listed all e = isListed all e (e .kind)
-
 unfoldable pub lastChecks : List Entry → Outcome → Outcome
 lastChecks es done =
-    cond (eqb (firstFailing (found es) es) 0)
-    (cond (eqb (firstFailing (listed es) es) 0) done (refused 16 (firstFailing (listed es) es)))
-    (refused 15 (firstFailing (found es) es))
+    let missing = firstFailing (λ e. isFound es e (e .kind)) es in
+    let unlisted = firstFailing (λ e. isListed es e (e .kind)) es in
+    cond (eqb missing 0) (cond (eqb unlisted 0) done (refused 16 unlisted)) (refused 15 missing)
 
 abbrev pub concluded : Outcome → Outcome
 concluded (passed h) = lastChecks (reverse (h .entries)) (passed h)

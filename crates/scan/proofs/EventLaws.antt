@@ -1,21 +1,20 @@
 -- Laws of `specs/Events.antt`: the log with one thing more is the store with its words written.
-use Prim.Native.Nat.{ℕ, _+_, _*_, _≤_, _<_}
+use Prim.Native.Nat.{ℕ, _+_, _*_, _≤_, _<_, min}
 use mathlib.Core.Path.{_≡_, refl, sym, ap, _∙_}
 use mathlib.Core.List.{List, []}
 use mathlib.Core.Bool.{Bool, true, false, cond}
 use native.Mathlib.Omega.{arith}
-use lib.ListN.{length}
-use lib.Seq.{sets}
+use lib.ListN.{length, drop}
+use lib.Seq.{sets, getD-drop}
 use lib.Dec.{leb}
 use borrow.Author.Tests.{le-leb, lt-leb, eq-eqb, ne-eqb}
 use Rattle.laws.specs.Lists.{part}
 use Rattle.laws.proofs.Tests.{by-test, cond-yes, cond-no}
-use Rattle.words.specs.Words.{words}
+use Rattle.words.specs.Words.{word, words}
 use Rattle.words.specs.declared.Word.{Word}
-use Rattle.cut_lines.specs.Texts.{rest}
-use Rattle.line_rules.specs.Fields.{firstWord, otherWords}
-use Rattle.rules.specs.Whole.{bound, waveformBound, thirdWord}
-use Rattle.records.specs.Bounds.{most}
+use Rattle.cut_lines.specs.Cursors.{rest}
+use Rattle.rules.specs.Whole.{bound}
+use Rattle.records.specs.Bounds.{most, mostWaveforms}
 use Rattle.records.specs.declared.Kind.{Kind}
 use Rattle.records.specs.declared.Kind.the-variants.{OfComponent, OfPin, OfSelector, OfChoice, OfModel}
 use Rattle.rules.specs.declared.Event.the-variants.{WaveformOpened, TableRow, Ended}
@@ -88,37 +87,39 @@ module _ (s xs : List ℕ) (l : Lengths) (t : Tally) (p : Spot) (ready : Ready s
       rw (written, counts, is, sym text, ready .text .line)
       (name-told s xs (wordsOfSection y) l t (sectionFrom s k y) (ready .within) refl (section-said s xs (t .names) name-fits k y of kinds))
 
-  pub told-row : (k : Kind) (n : ℕ) (name model : Word) (m : List ℕ) {x : RowNote} {ys : List ℕ} {r : Told} → x ≡ rowIn n p name model → kindOf n ≡ k → isSection k ≡ false
-      → part (name .start) (name .end) s ≡ firstWord (words (part (p .start) (p .end) s)) → part (model .start) (model .end) s ≡ m
+  pub told-row : (k : Kind) (n : ℕ) (name model : Word) (m : ℕ) {x : RowNote} {ys : List ℕ} {r : Told} → x ≡ rowIn n p name model → kindOf n ≡ k → isSection k ≡ false
+      → part (name .start) (name .end) s ≡ word 0 (words (part (p .start) (p .end) s)) → part (model .start) (model .end) s ≡ word m (words (part (p .start) (p .end) s))
       → ys ≡ sets xs (wordsPerName * t .names) (wordsOfRow x) → r ≡ counted l t k
-      → withNote l (logOf s xs t) (rowNote k (p .line) (part (p .start) (p .end) s) m) ≡ toldIs s ys (p .line) r
+      → withNote l (logOf s xs t) (rowNote k (p .line) m (part (p .start) (p .end) s)) ≡ toldIs s ys (p .line) r
   told-row k n name model m is of kinds named says written counts =
       let y = rowIn n p name model in
       rw (written, counts, is, sym named, sym says)
       (name-told s xs (wordsOfRow y) l t (rowFrom s k y) (ready .within) refl (row-said s xs (t .names) name-fits k y of kinds))
 
-pub third-in : (s : List ℕ) (a e : ℕ) (x y z : Word) → FirstIn s a e x → FirstIn s (x .end) e y → FirstIn s (y .end) e z → part (z .start) (z .end) s ≡ thirdWord (words (part a e s))
-unfolding thirdWord
-third-in s a e x y z f g h = h .text ∙ ap firstWord (g .others ∙ ap otherWords (f .others))
+pub third-in : (s : List ℕ) (a e : ℕ) (x y z : Word) → FirstIn s a e x → FirstIn s (x .end) e y → FirstIn s (y .end) e z → part (z .start) (z .end) s ≡ word 2 (words (part a e s))
+unfolding word
+third-in s a e x y z f g h =
+    let ws : List (List ℕ) = words (part a e s) in
+    h .text ∙ ap (word 0) (g .others ∙ ap (drop 1) (f .others)) ∙ getD-drop 1 (drop 1 ws) 0 [] ∙ getD-drop 1 ws 1 []
 
 -- ---- waveforms
 
 module _ (s xs : List ℕ) (l : Lengths) (t : Tally) (p : Spot) (ready : Ready s xs t p) where
-  pub waveform-full : waveformBound l ≤ t .counts .waveforms → loggedAt l s xs t p WaveformOpened ≡ full 17 (p .line) (logOf s xs t)
+  pub waveform-full : min mostWaveforms (l .waveforms) ≤ t .counts .waveforms → loggedAt l s xs t p WaveformOpened ≡ full 17 (p .line) (logOf s xs t)
   unfolding logIn
-  waveform-full h = rw (le-leb (waveformBound l) (t .counts .waveforms) h) refl
+  waveform-full h = rw (le-leb (min mostWaveforms (l .waveforms)) (t .counts .waveforms) h) refl
 
-  pub waveform-going : t .counts .waveforms < waveformBound l
+  pub waveform-going : t .counts .waveforms < min mostWaveforms (l .waveforms)
       → loggedAt l s xs t p WaveformOpened
       ≡ going (logOf s (sets xs (wavesFrom + wordsPerWave * t .counts .waveforms) (waveWords (p .start) (p .line) (p .next .comment) (t .counts .rows))) (record { names = t .names; counts = moreWaveforms (t .counts) }))
   unfolding logIn
   waveform-going h =
       let n : t .names ≤ namesHeld = names-small t (ready .within) in
-      rw (lt-leb (waveformBound l) (t .counts .waveforms) h)
+      rw (lt-leb (min mostWaveforms (l .waveforms)) (t .counts .waveforms) h)
       rw (log-wave s xs (t .names) (t .counts .waveforms) (p .start) (p .line) (p .next .comment) (t .counts .rows) (moreWaveforms (t .counts)) (omega (arith, n)) (omega (arith, h, ready .store)) refl)
       rw (ready .text .here) refl
 
-  pub kept-waveform : t .counts .waveforms < waveformBound l → Kept t (record { names = t .names; counts = moreWaveforms (t .counts) })
+  pub kept-waveform : t .counts .waveforms < min mostWaveforms (l .waveforms) → Kept t (record { names = t .names; counts = moreWaveforms (t .counts) })
   kept-waveform h =
       let w : Within t = ready .within in
       record { within = record { names = w .names; components = w .components; pins = w .pins; selectors = w .selectors; choices = w .choices; models = w .models; waveforms = omega (arith, h) }; rows = omega arith }

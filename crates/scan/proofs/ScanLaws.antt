@@ -2,23 +2,23 @@
 use Prim.Native.Nat.{ℕ, _+_, _≤_}
 use mathlib.Core.Path.{_≡_, refl, sym, ap, _∙_, subst}
 use mathlib.Core.List.{List, [], _∷_}
-use mathlib.Core.Bool.{true, false, cond}
+use mathlib.Core.Bool.{Bool, true, false, cond}
 use native.Mathlib.Omega.{arith}
 use lib.Dec.{eqb}
 use lib.ListN.{length}
 use Rattle.laws.specs.Lists.{part}
-use Rattle.laws.proofs.Tests.{by-test, impossible}
+use Rattle.laws.proofs.Tests.{by-test, cond-yes, cond-no, impossible}
 use Rattle.records.specs.declared.Fault.{Fault}
-use Rattle.cut_lines.specs.Texts.{rest, past, firstCursor}
-use Rattle.cut_lines.specs.Cursors.{Placed, Goes, TextIs, ChangeIs, OutIs}
+use Rattle.cut_lines.specs.Cursors.{rest, past, firstCursor, Placed, Goes, TextIs, ChangeIs, OutIs}
 use Rattle.cut_lines.specs.declared.Cursor.{Cursor}
-use Rattle.rules.specs.Going.{unless}
-use Rattle.rules.specs.Steps.{onPlain, onChange}
+use Rattle.rules.specs.Going.{stop, unless, refuse, quietly}
+use Rattle.rules.specs.Steps.{isBefore, isEnded, onPlain, onChange}
 use Rattle.records.specs.declared.Lengths.{Lengths}
 use Rattle.rules.specs.declared.Stage.{Stage}
-use Rattle.rules.specs.declared.Stage.the-variants.{BeforeVersion, InHeader, InComponent, InSelector, InModel, AfterEnd}
+use Rattle.rules.specs.declared.Stage.the-variants.{BeforeVersion}
 use Rattle.rules.specs.declared.Event.{Event}
 use Rattle.rules.specs.declared.Event.the-variants.{Quiet}
+use Rattle.rules.specs.declared.Went.{Went}
 use Rattle.rules.specs.declared.Went.the-variants.{On, Stop}
 use Rattle.notes.specs.Noted.{Finish, going, full, broken, outOfLines, runLog, emptyLog, nothingUsed}
 use Rattle.note_words.specs.Store.{logIn, notesTo, wavesTo, storeLength}
@@ -48,24 +48,32 @@ module _ (l : Lengths) (n : ℕ) (s xs ys : List ℕ) (g : Stage) (t : Tally) (p
 
 -- ---- a [Comment Char] line adds nothing
 
-quiet-unless : (n k : ℕ) (s u : Stage) (e : Event) → unless n k (On s Quiet) ≡ On u e → e ≡ Quiet
-unfolding unless
-quiet-unless n k s u e =
-    by-test (eqb n 0)
-    (λ t. rw t (λ (h : On s Quiet ≡ On u e). cc))
-    (λ t. rw t (λ (h : Stop (record { number = n; line = k }) ≡ On u e). impossible (cc)))
+stop-on : {X : Type 0} (n k : ℕ) (u : Stage) (e : Event) → stop n k ≡ On u e → X
+stop-on n k u e h = impossible (cc)
 
-quiet-change : (g : Stage) (k n : ℕ) (u : Stage) (e : Event) → onChange g k n ≡ On u e → e ≡ Quiet
-quiet-change BeforeVersion k n u e h = impossible (cc)
-quiet-change (InHeader x) k n u e h = quiet-unless n k _ u e h
-quiet-change (InComponent x) k n u e h = quiet-unless n k _ u e h
-quiet-change (InSelector x) k n u e h = quiet-unless n k _ u e h
-quiet-change (InModel x) k n u e h = quiet-unless n k _ u e h
-quiet-change AfterEnd k n u e h = impossible (cc)
+module _ (u : Stage) (e : Event) where
+  quiet-refuse : (t : Bool) (n k : ℕ) (went : Went) → (went ≡ On u e → e ≡ Quiet) → refuse t n k went ≡ On u e → e ≡ Quiet
+  unfolding refuse
+  quiet-refuse t n k went q h = by-test t (λ b. stop-on n k u e (sym (cond-yes _ _ b) ∙ h)) (λ b. q (sym (cond-no _ _ b) ∙ h))
+
+  quiet-unless : (n k : ℕ) (s : Stage) → unless n k (quietly s) ≡ On u e → e ≡ Quiet
+  unfolding unless
+  quiet-unless n k s h =
+      by-test (eqb n 0)
+      (λ b. let z : On s Quiet ≡ On u e = sym (cond-yes _ _ b) ∙ h in cc)
+      (λ b. stop-on n k u e (sym (cond-no _ _ b) ∙ h))
+
+  quiet-change : (g : Stage) (k n : ℕ) → onChange g k n ≡ On u e → e ≡ Quiet
+  unfolding onChange
+  quiet-change g k n =
+      quiet-refuse (isEnded g) 7 k _
+      (quiet-refuse (eqb n 5) 5 k _
+      (quiet-refuse (isBefore g) 7 k _
+      (quiet-unless n k g)))
 
 module _ (l : Lengths) (n : ℕ) (s xs : List ℕ) (g : Stage) (t : Tally) (k f : ℕ) (c : Cursor) where
   pub change-on : (u : Stage) (e : Event) → onChange g k f ≡ On u e → changeStep l n s xs g t k f c ≡ runLog l n u (logOf s xs t) (rest s c)
-  change-on u e h = rw h rw (quiet-change g k f u e h) refl
+  change-on u e h = rw h rw (quiet-change u e g k f h) refl
 
   pub change-stop : (x : Fault) → onChange g k f ≡ Stop x → changeStep l n s xs g t k f c ≡ finishIs s xs (record { ending = Broken x; tally = t })
   change-stop x h = rw h refl

@@ -7,8 +7,8 @@ use lib.ListN.{length}
 use lib.Dec.{leb}
 use Rattle.laws.specs.Lists.{part}
 use Rattle.words.specs.declared.Word.{Word}
-use Rattle.cut_lines.specs.Texts.{plain, rest}
-use Rattle.cut_lines.specs.Cursors.{TextIs}
+use Rattle.cut_lines.specs.Texts.{plain}
+use Rattle.cut_lines.specs.Cursors.{rest, TextIs}
 use Rattle.cut_lines.specs.declared.Cursor.{Cursor}
 use Rattle.rules.specs.declared.Event.{Event}
 use Rattle.rules.specs.Whole.{bound}

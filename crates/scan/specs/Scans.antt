@@ -6,8 +6,8 @@ use mathlib.Core.Option.{Option, none, some}
 use lib.ListN.{length}
 use Rattle.laws.specs.Lists.{part}
 use Rattle.records.specs.declared.Fault.{Fault}
-use Rattle.cut_lines.specs.Texts.{plain, change, rest, past}
-use Rattle.cut_lines.specs.Cursors.{Placed}
+use Rattle.cut_lines.specs.Texts.{plain, change}
+use Rattle.cut_lines.specs.Cursors.{rest, past, Placed}
 use Rattle.cut_lines.specs.declared.Cursor.{Cursor}
 use Rattle.rules.specs.Steps.{onPlain, onChange}
 use Rattle.records.specs.declared.Lengths.{Lengths}

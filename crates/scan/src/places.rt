@@ -9,7 +9,7 @@ pub fn first_in(src: &[u8], a: usize, e: usize) -> Word
     requires { ⌜ (a ≤ e) × (e ≤ length (now src)) ⌝ }
     ensures { λ r. ⌜ FirstIn (now (src .entry)) a e r ⌝ }
 {
-    let w = named_lines::first_word(&src[a..e]);
+    let w = words::word_at(&src[a..e], 0);
     Word {
         start: a + w.start,
         end: a + w.end,

@@ -3,7 +3,7 @@ ghost use mathlib.Core.Path.{_≡_};
 ghost use mathlib.Core.List.{List};
 ghost use Prim.Native.Nat.{ℕ, _≤_};
 ghost use lib.ListN.{length};
-ghost use Rattle.cut_lines.specs.Texts.{rest, past, firstCursor};
+ghost use Rattle.cut_lines.specs.Cursors.{rest, past, firstCursor};
 ghost use Rattle.cut_lines.specs.declared.Cursor.{Cursor};
 ghost use Rattle.rules.specs.declared.Stage.the-variants.{BeforeVersion};
 ghost use Rattle.records.specs.declared.Lengths.{Lengths};

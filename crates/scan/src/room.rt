@@ -1,7 +1,8 @@
 // How much of each table is used, and how much may be.
 ghost use mathlib.Core.Path.{_≡_};
 ghost use Prim.Native.Nat.{_<_, _^_, min};
-ghost use Rattle.rules.specs.Whole.{bound, waveformBound};
+ghost use Rattle.rules.specs.Whole.{bound};
+ghost use Rattle.records.specs.Bounds.{mostWaveforms};
 ghost use Rattle.notes.specs.Noted.{nothingUsed, used, oneMore};
 use crate::Tally;
 use records::Counts;
@@ -36,7 +37,7 @@ pub fn bound_of(l: Lengths, k: Kind) -> usize
 }
 
 pub fn waveform_bound(l: Lengths) -> usize
-    ensures { λ r. ⌜ r ≡ waveformBound l ⌝ }
+    ensures { λ r. ⌜ r ≡ min mostWaveforms (l .waveforms) ⌝ }
 {
     lesser(MOST_WAVEFORMS, l.waveforms)
 }

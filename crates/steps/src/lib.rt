@@ -2,13 +2,16 @@
 ghost use mathlib.Core.Path.{_≡_};
 ghost use lib.Dec.{eqb};
 ghost use lib.ListN.{length};
+ghost use Rattle.keywords.specs.Carried.{keyOf};
 ghost use Rattle.rules.specs.Going.{unless, andThen, quietly};
-ghost use Rattle.rules.specs.Steps.{shut, done, opened, secondVersion, inHeader, inComponent, inModel, onKeyword, keyed, firstKeyword, firstKeyed, onLine, onBegun, onPlain, onChange};
+ghost use Rattle.rules.specs.Header.{headerPart};
+ghost use Rattle.rules.specs.Component.{componentPart};
+ghost use Rattle.rules.specs.Model.{modelPart};
+ghost use Rattle.rules.specs.Steps.{headerOf, componentOf, modelOf, isBefore, isEnded, shut, done, opened, within, onVersion, onKeyword, keyed, onLine, onPlain, onChange};
 ghost use Rattle.rules.specs.declared.Stage.{Stage};
 ghost use Rattle.rules.specs.declared.Stage.the-variants.{AfterEnd};
 ghost use Rattle.rules.specs.declared.Event.the-variants.{Ended};
 ghost use Rattle.rules.specs.declared.Went.the-variants.{On};
-ghost use Rattle.keywords.specs.Carried.{keyOf};
 use keywords::ComponentPart;
 use keywords::HeaderPart;
 use keywords::KeyRead;
@@ -36,9 +39,36 @@ fn quiet_unless(n: u8, k: u64, s: Stage) -> Went
     rules::stopped(n, k)
 }
 
-// Closes the table or list above a keyword line.
-fn shut_list(s: Stage) -> Went
-    ensures { λ r. ⌜ r ≡ shut s ⌝ }
+// Before [IBIS Ver]; after [End].
+fn is_before(s: Stage) -> bool
+    ensures { λ r. ⌜ r ≡ isBefore s ⌝ }
+{
+    match s {
+        Stage::BeforeVersion => true,
+        Stage::InHeader(_) => false,
+        Stage::InComponent(_) => false,
+        Stage::InSelector(_) => false,
+        Stage::InModel(_) => false,
+        Stage::AfterEnd => false,
+    }
+}
+
+fn is_ended(s: Stage) -> bool
+    ensures { λ r. ⌜ r ≡ isEnded s ⌝ }
+{
+    match s {
+        Stage::BeforeVersion => false,
+        Stage::InHeader(_) => false,
+        Stage::InComponent(_) => false,
+        Stage::InSelector(_) => false,
+        Stage::InModel(_) => false,
+        Stage::AfterEnd => true,
+    }
+}
+
+// Closes the table or list above the keyword line k.
+fn shut_list(k: u64, s: Stage) -> Went
+    ensures { λ r. ⌜ r ≡ shut k s ⌝ }
 {
     match s {
         Stage::BeforeVersion => quiet(Stage::BeforeVersion),
@@ -46,16 +76,16 @@ fn shut_list(s: Stage) -> Went
         Stage::InComponent(c) => component_steps::component_shut(c),
         Stage::InSelector(c) => component_steps::selector_shut(c),
         Stage::InModel(m) => model_steps::model_shut(m),
-        Stage::AfterEnd => quiet(Stage::AfterEnd),
+        Stage::AfterEnd => rules::stopped(7, k),
     }
 }
 
-// Closes the section or the header.
-fn close_section(s: Stage) -> Went
-    ensures { λ r. ⌜ r ≡ done s ⌝ }
+// Closes the section or the header above line k.
+fn close_section(k: u64, s: Stage) -> Went
+    ensures { λ r. ⌜ r ≡ done k s ⌝ }
 {
     match s {
-        Stage::BeforeVersion => quiet(Stage::BeforeVersion),
+        Stage::BeforeVersion => rules::stopped(7, k),
         Stage::InHeader(h) => {
             let line = h.line;
             quiet_unless(header_steps::header_done(h), line, Stage::InHeader(h))
@@ -73,7 +103,7 @@ fn close_section(s: Stage) -> Went
             let line = m.line;
             quiet_unless(model_steps::model_done(m), line, Stage::InModel(m))
         }
-        Stage::AfterEnd => quiet(Stage::AfterEnd),
+        Stage::AfterEnd => rules::stopped(7, k),
     }
 }
 
@@ -115,75 +145,62 @@ fn open_section(k: u64, argument: &[u8], o: Section) -> Went
     }
 }
 
-// A second [IBIS Ver].
-fn version_again(s: Stage, k: u64) -> Went
-    ensures { λ r. ⌜ r ≡ secondVersion s k ⌝ }
+// [IBIS Ver], the first or a second one.
+fn version_key(s: Stage, k: u64, argument: &[u8]) -> Went
+    ensures { λ r. ⌜ r ≡ onVersion s k (now (argument .entry)) ⌝ }
 {
-    match s {
-        Stage::BeforeVersion => rules::stopped(7, k),
-        Stage::InHeader(_) => rules::stopped(8, k),
-        Stage::InComponent(_) => rules::stopped(7, k),
-        Stage::InSelector(_) => rules::stopped(7, k),
-        Stage::InModel(_) => rules::stopped(7, k),
-        Stage::AfterEnd => rules::stopped(7, k),
+    if is_before(s) {
+        return header_steps::open_header(k, argument);
     }
+    let Stage::InHeader(_) = s else {
+        return rules::stopped(7, k);
+    };
+    rules::stopped(8, k)
 }
 
 // A keyword of the header, of a component and of a model: each has its place in its own section alone.
 fn header_key(s: Stage, k: u64, argument: &[u8], p: HeaderPart) -> Went
-    ensures { λ r. ⌜ r ≡ inHeader s k (now (argument .entry)) p ⌝ }
+    ensures { λ r. ⌜ r ≡ within k (headerOf s) (λ h. headerPart h k (now (argument .entry)) p) ⌝ }
 {
-    match s {
-        Stage::BeforeVersion => rules::stopped(7, k),
-        Stage::InHeader(h) => header_steps::header_part(h, k, argument, p),
-        Stage::InComponent(_) => rules::stopped(7, k),
-        Stage::InSelector(_) => rules::stopped(7, k),
-        Stage::InModel(_) => rules::stopped(7, k),
-        Stage::AfterEnd => rules::stopped(7, k),
-    }
+    let Stage::InHeader(h) = s else {
+        return rules::stopped(7, k);
+    };
+    header_steps::header_part(h, k, argument, p)
 }
 
 fn component_key(s: Stage, k: u64, argument: &[u8], p: ComponentPart) -> Went
-    ensures { λ r. ⌜ r ≡ inComponent s k (now (argument .entry)) p ⌝ }
+    ensures { λ r. ⌜ r ≡ within k (componentOf s) (λ c. componentPart c k (now (argument .entry)) p) ⌝ }
 {
-    match s {
-        Stage::BeforeVersion => rules::stopped(7, k),
-        Stage::InHeader(_) => rules::stopped(7, k),
-        Stage::InComponent(c) => component_steps::component_part(c, k, argument, p),
-        Stage::InSelector(_) => rules::stopped(7, k),
-        Stage::InModel(_) => rules::stopped(7, k),
-        Stage::AfterEnd => rules::stopped(7, k),
-    }
+    let Stage::InComponent(c) = s else {
+        return rules::stopped(7, k);
+    };
+    component_steps::component_part(c, k, argument, p)
 }
 
 fn model_key(s: Stage, k: u64, argument: &[u8], p: ModelPart) -> Went
-    ensures { λ r. ⌜ r ≡ inModel s k (now (argument .entry)) p ⌝ }
+    ensures { λ r. ⌜ r ≡ within k (modelOf s) (λ m. modelPart m k (now (argument .entry)) p) ⌝ }
 {
-    match s {
-        Stage::BeforeVersion => rules::stopped(7, k),
-        Stage::InHeader(_) => rules::stopped(7, k),
-        Stage::InComponent(_) => rules::stopped(7, k),
-        Stage::InSelector(_) => rules::stopped(7, k),
-        Stage::InModel(m) => model_steps::model_part(m, k, argument, p),
-        Stage::AfterEnd => rules::stopped(7, k),
-    }
+    let Stage::InModel(m) = s else {
+        return rules::stopped(7, k);
+    };
+    model_steps::model_part(m, k, argument, p)
 }
 
 // A section closes, and another opens.
 fn section_key(s: Stage, k: u64, argument: &[u8], o: Section) -> Went
-    ensures { λ r. ⌜ r ≡ andThen (done s) (λ (t : Stage). opened k (now (argument .entry)) o) ⌝ }
+    ensures { λ r. ⌜ r ≡ andThen (done k s) (λ (t : Stage). opened k (now (argument .entry)) o) ⌝ }
 {
-    match close_section(s) {
+    match close_section(k, s) {
         Went::On(_, _) => open_section(k, argument, o),
         Went::Stop(f) => Went::Stop(f),
     }
 }
 
 // The last section closes, and the file ends.
-fn end_key(s: Stage, argument: &[u8]) -> Went
-    ensures { λ r. ⌜ r ≡ andThen (done s) (λ (t : Stage). On AfterEnd (Ended (eqb (length (now (argument .entry))) 0))) ⌝ }
+fn end_key(s: Stage, k: u64, argument: &[u8]) -> Went
+    ensures { λ r. ⌜ r ≡ andThen (done k s) (λ (t : Stage). On AfterEnd (Ended (eqb (length (now (argument .entry))) 0))) ⌝ }
 {
-    match close_section(s) {
+    match close_section(k, s) {
         Went::On(_, _) => Went::On(Stage::AfterEnd, Event::Ended(argument.len() == 0)),
         Went::Stop(fault) => Went::Stop(fault),
     }
@@ -193,12 +210,12 @@ fn on_keyword(s: Stage, k: u64, argument: &[u8], key: Keyword) -> Went
     ensures { λ r. ⌜ r ≡ onKeyword s k (now (argument .entry)) key ⌝ }
 {
     match key {
-        Keyword::IbisVer => version_again(s, k),
+        Keyword::IbisVer => version_key(s, k, argument),
         Keyword::InHeader(p) => header_key(s, k, argument, p),
         Keyword::Opens(o) => section_key(s, k, argument, o),
         Keyword::InComponent(p) => component_key(s, k, argument, p),
         Keyword::InModel(p) => model_key(s, k, argument, p),
-        Keyword::End => end_key(s, argument),
+        Keyword::End => end_key(s, k, argument),
     }
 }
 
@@ -208,30 +225,6 @@ fn keyword_line(s: Stage, k: u64, w: &[u8]) -> Went
 {
     match keywords::key_of(w) {
         KeyRead::Known { keyword, argument } => on_keyword(s, k, &w[argument..], keyword),
-        KeyRead::Unknown => rules::stopped(6, k),
-        KeyRead::Malformed => rules::stopped(5, k),
-    }
-}
-
-fn first_key(k: u64, argument: &[u8], key: Keyword) -> Went
-    ensures { λ r. ⌜ r ≡ firstKeyword k (now (argument .entry)) key ⌝ }
-{
-    match key {
-        Keyword::IbisVer => header_steps::open_header(k, argument),
-        Keyword::InHeader(_) => rules::stopped(7, k),
-        Keyword::Opens(_) => rules::stopped(7, k),
-        Keyword::InComponent(_) => rules::stopped(7, k),
-        Keyword::InModel(_) => rules::stopped(7, k),
-        Keyword::End => rules::stopped(7, k),
-    }
-}
-
-// A keyword line before [IBIS Ver].
-fn first_keyword_line(k: u64, w: &[u8]) -> Went
-    ensures { λ r. ⌜ r ≡ firstKeyed k (now (w .entry)) (keyOf (now (w .entry))) ⌝ }
-{
-    match keywords::key_of(w) {
-        KeyRead::Known { keyword, argument } => first_key(k, &w[argument..], keyword),
         KeyRead::Unknown => rules::stopped(6, k),
         KeyRead::Malformed => rules::stopped(5, k),
     }
@@ -251,36 +244,16 @@ fn on_line(s: Stage, k: u64, w: &[u8]) -> Went
     }
 }
 
-// A line between [IBIS Ver] and [End].
-fn on_begun(s: Stage, k: u64, w: &[u8]) -> Went
-    ensures { λ r. ⌜ r ≡ onBegun s k (now (w .entry)) ⌝ }
-{
-    if !named_lines::bracketed(w) {
-        return on_line(s, k, w);
-    }
-    match shut_list(s) {
-        Went::On(t, _) => keyword_line(t, k, w),
-        Went::Stop(fault) => Went::Stop(fault),
-    }
-}
-
 // A line that cutting leaves.
 pub fn on_plain(s: Stage, k: u64, w: &[u8]) -> Went
     ensures { λ r. ⌜ r ≡ onPlain s k (now (w .entry)) ⌝ }
 {
-    match s {
-        Stage::BeforeVersion => {
-            if named_lines::bracketed(w) {
-                first_keyword_line(k, w)
-            } else {
-                rules::stopped(7, k)
-            }
-        }
-        Stage::InHeader(_) => on_begun(s, k, w),
-        Stage::InComponent(_) => on_begun(s, k, w),
-        Stage::InSelector(_) => on_begun(s, k, w),
-        Stage::InModel(_) => on_begun(s, k, w),
-        Stage::AfterEnd => rules::stopped(7, k),
+    if !named_lines::bracketed(w) {
+        return on_line(s, k, w);
+    }
+    match shut_list(k, s) {
+        Went::On(t, _) => keyword_line(t, k, w),
+        Went::Stop(fault) => Went::Stop(fault),
     }
 }
 
@@ -288,18 +261,14 @@ pub fn on_plain(s: Stage, k: u64, w: &[u8]) -> Went
 pub fn on_change(s: Stage, k: u64, n: u8) -> Went
     ensures { λ r. ⌜ r ≡ onChange s k n ⌝ }
 {
-    match s {
-        Stage::BeforeVersion => {
-            if n == 5 {
-                rules::stopped(5, k)
-            } else {
-                rules::stopped(7, k)
-            }
-        }
-        Stage::InHeader(_) => quiet_unless(n, k, s),
-        Stage::InComponent(_) => quiet_unless(n, k, s),
-        Stage::InSelector(_) => quiet_unless(n, k, s),
-        Stage::InModel(_) => quiet_unless(n, k, s),
-        Stage::AfterEnd => rules::stopped(7, k),
+    if is_ended(s) {
+        return rules::stopped(7, k);
     }
+    if n == 5 {
+        return rules::stopped(5, k);
+    }
+    if is_before(s) {
+        return rules::stopped(7, k);
+    }
+    quiet_unless(n, k, s)
 }

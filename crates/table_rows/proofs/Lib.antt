@@ -1,5 +1,4 @@
 -- Laws on what is written into the row store, on rows, on a waveform's record and on a model's keywords.
-pub mod Places
 pub mod Stores
 pub mod RowLaws
 pub mod RowWalks

@@ -2,7 +2,6 @@
 use Prim.Native.Nat.{ℕ, _+_, _-_, _≤_}
 use mathlib.Core.Path.{_≡_, refl, sym, ap, _∙_}
 use mathlib.Core.List.{List, [], _++_, append-assoc}
-use mathlib.Core.Bool.{Bool}
 use native.Mathlib.Omega.{arith}
 use lib.ListN.{length, length-append}
 use borrow.Rule.Slice.PartMut.{putMid, midOf}
@@ -11,15 +10,18 @@ use Rattle.cut_lines.specs.Cursors.{Placed}
 use Rattle.cut_lines.specs.declared.Cursor.{Cursor}
 use Rattle.records.specs.Stored.{rowWords, stored, over}
 use Rattle.records.specs.declared.Row.{Row}
+use Rattle.words.specs.Words.{words}
+use Rattle.line_rules.specs.Fields.{rowOf}
+use Rattle.line_rules.specs.Answers.{rowRead}
 use Rattle.line_rules.specs.declared.RowRead.{RowRead}
 use Rattle.line_rules.specs.declared.RowRead.the-variants.{Line, Amiss}
 use Rattle.lines_under.specs.Under.{LineNextIs}
 use Rattle.lines_under.specs.declared.LineNext.{LineNext}
 use Rattle.lines_under.specs.declared.LineNext.the-variants as next
 use Rattle.lines_under.proofs.Folds.{Gathers, gathers-start, gathers-line, gathers-end}
-use Rattle.table_rows.specs.Rows.{rowIn, rowsAt, FillIs}
+use Rattle.table_rows.specs.Rows.{rowsAt, FillIs}
 use Rattle.table_rows.proofs.Stores.{over-none, over-length, over-rest}
-use Rattle.table_rows.proofs.RowLaws.{row-fold, worded, words-fold}
+use Rattle.table_rows.proofs.RowLaws.{row-is, no-row-is, row-fold, worded, words-fold}
 
 -- ---- words over the row store
 
@@ -52,36 +54,35 @@ module _ {before now : List ℕ} {used : ℕ} {written all : List ℕ} (p : Lies
 
 -- ---- a table's rows
 
-pub record Fills (named : Bool) (s : List ℕ) (c d : Cursor) (before now : List ℕ) (used : ℕ) : Type 0 where
+pub record Fills (s : List ℕ) (c d : Cursor) (before now : List ℕ) (used : ℕ) : Type 0 where
   pub written : List ℕ
-  pub gathers : Gathers (row-fold words-fold named) s c d [] written
+  pub gathers : Gathers (row-fold words-fold) s c d [] written
   pub lies : Lies before now used written
 
-pub fills-start : (named : Bool) (s : List ℕ) (c : Cursor) (before : List ℕ) → Placed s c → Fills named s c c before before 0
-fills-start named s c before h =
-    record { written = []; gathers = gathers-start (row-fold words-fold named) s c [] h; lies = lies-start before }
+pub fills-start : (s : List ℕ) (c : Cursor) (before : List ℕ) → Placed s c → Fills s c c before before 0
+fills-start s c before h = record { written = []; gathers = gathers-start (row-fold words-fold) s c [] h; lies = lies-start before }
 
-module _ {named : Bool} {s : List ℕ} {c d : Cursor} {before now : List ℕ} {used : ℕ} (p : Fills named s c d before now used) where
-  pub fills-length : length (stored (rowsAt named s c)) ≤ length before → length now ≡ length before
-  fills-length h = lies-length (p .lies) h (stored (rowsAt named s d)) (p .gathers .same)
+module _ {s : List ℕ} {c d : Cursor} {before now : List ℕ} {used : ℕ} (p : Fills s c d before now used) where
+  pub fills-length : length (stored (rowsAt s c)) ≤ length before → length now ≡ length before
+  fills-length h = lies-length (p .lies) h (stored (rowsAt s d)) (p .gathers .same)
 
-  module _ {r : LineNext} {a e : ℕ} {n : Cursor} (q : r ≡ next.Line a e n) (l : LineNextIs s d r) {read : RowRead} (i : read ≡ rowIn named (part a e s)) where
-    module _ {row : Row} (j : read ≡ Line row) (h : length (stored (rowsAt named s c)) ≤ length before) where
-      with-row : Gathers (row-fold words-fold named) s c n [] (p .written ++ rowWords row)
-      with-row = gathers-line (p .gathers) q l (ap (worded (p .written)) (sym j ∙ i))
+  module _ {r : LineNext} {a e : ℕ} {n : Cursor} (q : r ≡ next.Line a e n) (l : LineNextIs s d r) {read : RowRead} (i : read ≡ rowRead (rowOf (words (part a e s)))) where
+    module _ {row : Row} (j : read ≡ Line row) (h : length (stored (rowsAt s c)) ≤ length before) where
+      with-row : Gathers (row-fold words-fold) s c n [] (p .written ++ rowWords row)
+      with-row = gathers-line (p .gathers) q l (ap (worded (p .written)) (row-is (part a e s) i j))
 
       pub fills-fit : used + 4 ≤ length now
-      fills-fit = lies-fit (p .lies) h (rowWords row) (stored (rowsAt named s n)) (with-row .same)
+      fills-fit = lies-fit (p .lies) h (rowWords row) (stored (rowsAt s n)) (with-row .same)
 
-      pub fills-row : Fills named s c n before (putMid used (length now - used) now (over (midOf used (length now - used) now) (rowWords row))) (used + 4)
+      pub fills-row : Fills s c n before (putMid used (length now - used) now (over (midOf used (length now - used) now) (rowWords row))) (used + 4)
       fills-row =
-          record { written = p .written ++ rowWords row; gathers = with-row; lies = lies-more (p .lies) h (rowWords row) (stored (rowsAt named s n)) (with-row .same) }
+          record { written = p .written ++ rowWords row; gathers = with-row; lies = lies-more (p .lies) h (rowWords row) (stored (rowsAt s n)) (with-row .same) }
 
-    pub fills-none : {k : ℕ} → read ≡ Amiss k → Fills named s c n before now used
+    pub fills-none : {k : ℕ} → read ≡ Amiss k → Fills s c n before now used
     fills-none j =
-        record { written = p .written; gathers = gathers-line (p .gathers) q l (ap (worded (p .written)) (sym j ∙ i)); lies = p .lies }
+        record { written = p .written; gathers = gathers-line (p .gathers) q l (ap (worded (p .written)) (no-row-is (part a e s) i j)); lies = p .lies }
 
-  pub fills-end : {r : LineNext} {n : Cursor} → r ≡ next.NoLine n → LineNextIs s d r → FillIs named s c before now (record { words = used; next = n })
+  pub fills-end : {r : LineNext} {n : Cursor} → r ≡ next.NoLine n → LineNextIs s d r → FillIs s c before now (record { words = used; next = n })
   fills-end q l =
       let g = gathers-end (p .gathers) q l in
       record { words = p .lies .used ∙ ap length (g .whole); rows = p .lies .store ∙ ap (over before) (g .whole); stops = g .stops }

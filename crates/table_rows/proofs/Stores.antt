@@ -1,4 +1,4 @@
--- `over`: one row at the front of the row store, and what is written into the rest of it, said of the whole.
+-- `stored` and `over`: rows behind rows, one row at the front of the row store, and what is written into the rest of it, said of the whole.
 use Prim.Native.Nat.{ℕ, _+_, _-_, _≤_}
 use mathlib.Core.Path.{_≡_, refl, sym, ap, ap₂, _∙_}
 use mathlib.Core.List.{List, [], _∷_, _++_, append-assoc, append-nil}
@@ -6,7 +6,8 @@ use native.Mathlib.Omega.{arith}
 use lib.ListN.{length, take, drop, set, length-append, length-take, length-drop, drop-of-length-le}
 use lib.Seq.{take-all, drop-drop, take-at, drop-at}
 use borrow.Rule.Slice.PartMut.{putMid, midOf, postOf}
-use Rattle.records.specs.Stored.{over}
+use Rattle.records.specs.Stored.{rowWords, stored, over}
+use Rattle.records.specs.declared.Row.{Row}
 
 -- four words at the front
 pub over-four : (l : List ℕ) (a b c d : ℕ) → 4 ≤ length l → set (set (set (set l 0 a) 1 b) 2 c) 3 d ≡ over l (a ∷ b ∷ c ∷ d ∷ [])
@@ -16,6 +17,12 @@ over-four (p ∷ []) a b c d h = absurd (omega arith)
 over-four (p ∷ q ∷ []) a b c d h = absurd (omega arith)
 over-four (p ∷ q ∷ r ∷ []) a b c d h = absurd (omega arith)
 over-four (p ∷ q ∷ r ∷ s ∷ l) a b c d h = refl
+
+-- rows behind rows
+pub stored-append : (l m : List Row) → stored (l ++ m) ≡ stored l ++ stored m
+unfolding stored
+stored-append [] m = refl
+stored-append (r ∷ l) m = ap (λ (x : List ℕ). rowWords r ++ x) (stored-append l m) ∙ sym (append-assoc (rowWords r) (stored l) (stored m))
 
 -- nothing is written
 pub over-none : (l : List ℕ) → over l [] ≡ l

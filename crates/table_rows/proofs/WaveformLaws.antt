@@ -1,104 +1,133 @@
--- A waveform's record, line by line, is the one that document 01's definition gives.
-use Prim.Native.Nat.{ℕ, _+_, _≤_}
+-- A waveform's record as a fold over its lines; and a line more: a row, which has no name, or a number at its place.
+use Prim.Native.Nat.{ℕ, _+_}
+use Prim.Native.String.{String}
 use mathlib.Core.Path.{_≡_, refl, sym, ap, _∙_}
 use mathlib.Core.List.{List, [], _∷_}
+use mathlib.Core.Bool.{Bool, true, false}
 use native.Mathlib.Omega.{arith}
-use lib.ListN.{length, set, getD, replicate, length-set}
-use Rattle.laws.proofs.Tests.{by-test, cond-all}
+use lib.ListN.{length}
+use Rattle.laws.specs.Bytes.{bytes, isBlank, isCapital, isSmall, isLetter}
+use Rattle.laws.specs.Lists.{front, eqs}
+use Rattle.laws.specs.Said.{says, fault}
+use Rattle.laws.proofs.Tests.{by-test, cond-yes, cond-no, impossible}
+use Rattle.laws.proofs.Same.{eqs-eq}
 use Rattle.decimal.specs.declared.Cell.{Cell}
-use Rattle.decimal.specs.declared.Cell.the-variants.{Missing}
-use Rattle.words.specs.Words.{words}
-use Rattle.name_table.specs.declared.Found.{Found}
+use Rattle.words.specs.Words.{word, words, grown, onto}
+use Rattle.name_table.specs.Names.{placeFrom}
 use Rattle.name_table.specs.declared.Found.the-variants.{At, Nothing}
-use Rattle.records.specs.declared.Edge.{Edge}
-use Rattle.line_rules.specs.Fields.{lineAt, assignedNumber, rowOf, numberIs}
+use Rattle.line_rules.specs.Fields.{nameOf, isNamed, lineAt, numberLine, rowOf, takes, lineSays}
 use Rattle.line_rules.specs.Tables.{fixtures}
-use Rattle.rules.specs.Reading.{atPlace, isNamedLine, fixturesIn, rowLines, rowsIn, waveformIn}
-use Rattle.layout.specs.Laid.{waveformLaid}
-use Rattle.line_rules.specs.declared.RowRead.{RowRead}
-use Rattle.line_rules.specs.declared.RowRead.the-variants.{Line, Amiss}
+use Rattle.line_rules.proofs.Places.{takes-at, takes-nothing, takes-fault}
+use Rattle.rules.specs.Model.{beginsLetter}
+use Rattle.rules.specs.Reading.{numberSaid, rowsIn, waveformIn}
+use Rattle.rules.proofs.Lettered.{letter-no-row}
+use Rattle.records.specs.declared.Edge.{Edge}
+use Rattle.records.specs.declared.Row.{Row}
 use Rattle.records.specs.declared.Waveform.{Waveform}
 use Rattle.lines_under.proofs.Folds.{Folds, Small, count-fold}
-use Rattle.table_rows.proofs.Places.{set-at}
-use Rattle.table_rows.proofs.RowLaws.{onto-row, counted}
-use Rattle.table_rows.specs.Waveforms.{bareWaveform, withFixture, withPoint, withLine, waveformFrom}
+use Rattle.table_rows.specs.Rows.{counted}
+use Rattle.table_rows.specs.Waveforms.{bareWaveform, withCount, fixtureAt, fixtureLine, waveformLine, waveformOn}
+use Rattle.table_rows.proofs.RowLaws.{onto-row, row-small}
 
--- the record that has these numbers, and so many rows
-abbrev shaped : Edge → ℕ → List Cell → ℕ → Waveform
-shaped e n ns k =
-    record {
-      edge = e;
-      rfixture = getD ns 0 Missing;
-      vfixture = getD ns 1 Missing;
-      vmin = getD ns 2 Missing;
-      vmax = getD ns 3 Missing;
-      cfixture = getD ns 4 Missing;
-      lfixture = getD ns 5 Missing;
-      rdut = getD ns 6 Missing;
-      ldut = getD ns 7 Missing;
-      cdut = getD ns 8 Missing;
-      rows = record { start = n; count = k };
-    }
+-- ---- the fold
 
-module _ (e : Edge) (n : ℕ) where
-  fixture-place : (ns : List Cell) (k : ℕ) (v : Cell) (m : ℕ) → length ns ≡ 9 → withFixture (shaped e n ns k) v (At m) ≡ shaped e n (set ns m v) k
-  fixture-place ns k v m h =
-      rw (set-at ns m 0 v Missing (omega arith), set-at ns m 1 v Missing (omega arith), set-at ns m 2 v Missing (omega arith), set-at ns m 3 v Missing (omega arith), set-at ns m 4 v Missing (omega arith), set-at ns m 5 v Missing (omega arith), set-at ns m 6 v Missing (omega arith), set-at ns m 7 v Missing (omega arith), set-at ns m 8 v Missing (omega arith))
+waveform-more : (x : Waveform) (w : List ℕ) (ws : List (List ℕ)) → waveformOn x (w ∷ ws) ≡ waveformOn (waveformLine x w) ws
+unfolding waveformOn lineSays rowsIn
+waveform-more x w ws = ap (withCount (waveformOn (waveformLine x w) ws)) (onto-row count-fold (x .rows .count) (rowOf (words w)) (rowsIn ws))
 
-  fixture-step : (ns : List Cell) (k : ℕ) (v : Cell) (f : Found) → length ns ≡ 9 → withFixture (shaped e n ns k) v f ≡ shaped e n (atPlace ns v f) k
-  fixture-step ns k v Nothing h = refl
-  fixture-step ns k v (At m) h = fixture-place ns k v m h
+waveform-none : (x : Waveform) → waveformOn x [] ≡ x
+unfolding waveformOn lineSays rowsIn
+waveform-none x = let z : x .rows .count + 0 ≡ x .rows .count = omega arith in ap (withCount x) z
 
-  place-length : (ns : List Cell) (v : Cell) (f : Found) → length (atPlace ns v f) ≡ length ns
-  place-length ns v Nothing = refl
-  place-length ns v (At m) = length-set ns m v
+pub waveform-fold : Folds waveformOn waveformLine
+waveform-fold = record { none = waveform-none; more = waveform-more }
 
-  point-step : (ns : List Cell) (k : ℕ) (r : RowRead) → withPoint (shaped e n ns k) r ≡ shaped e n ns (counted k r)
-  point-step ns k (Amiss m) = refl
-  point-step ns k (Line r) = refl
+-- a line adds at most one row
+pub waveform-small : Small waveformLine (λ (x : Waveform). x .rows .count)
+waveform-small x w = row-small (x .rows .count) w
 
-  -- the lines from here on
-  shaped-from : (ls : List (List ℕ)) (ns : List Cell) (k : ℕ) → length ns ≡ 9
-      → waveformFrom (shaped e n ns k) ls ≡ shaped e n (fixturesIn ns ls) (k + length (rowsIn (rowLines ls)))
-  unfolding waveformFrom withLine fixturesIn rowLines rowsIn
-  shaped-from [] ns k h = let z : k ≡ k + 0 = omega arith in ap (shaped e n ns) z
-  shaped-from (w ∷ ws) ns k h =
-      let v = numberIs (assignedNumber w) in
-      let f = lineAt fixtures w in
-      by-test (isNamedLine w)
-      (λ t. rw t
-      (ap (λ (x : Waveform). waveformFrom x ws) (fixture-step ns k v f h)
-      ∙ shaped-from ws (atPlace ns v f) k (place-length ns v f ∙ h)))
-      (λ t. rw t
-      (ap (λ (x : Waveform). waveformFrom x ws) (point-step ns k (rowOf (words w)))
-      ∙ shaped-from ws ns (counted k (rowOf (words w))) h
-      ∙ ap (shaped e n (fixturesIn ns ws)) (sym (onto-row count-fold k (rowOf (words w)) (rowsIn (rowLines ws))))))
+pub waveform-is : (e : Edge) (n : ℕ) (ls : List (List ℕ)) → waveformOn (bareWaveform e n) ls ≡ waveformIn n e ls
+unfolding waveformOn waveformIn numberSaid
+waveform-is e n ls = let z : 0 + length (rowsIn ls) ≡ length (rowsIn ls) = omega arith in ap (withCount (waveformIn n e ls)) z
 
-  pub waveform-laid : (ls : List (List ℕ)) → waveformFrom (bareWaveform e n) ls ≡ waveformLaid n (waveformIn e ls)
-  unfolding waveformLaid waveformIn
-  waveform-laid ls =
-      let z : 0 + length (rowsIn (rowLines ls)) ≡ length (rowsIn (rowLines ls)) = omega arith in
-      shaped-from ls (replicate 9 Missing) 0 refl ∙ ap (shaped e n (fixturesIn (replicate 9 Missing) ls)) z
+-- ---- a number
 
--- ---- a line more
+module _ (x : Waveform) (w : List ℕ) where
+  pub fixture-named : (n : ℕ) (v : Cell) → lineAt fixtures w ≡ At n → numberLine w ≡ says v → fixtureAt x n v ≡ fixtureLine x w
+  unfolding placeFrom words grown onto isBlank eqs
+  fixture-named n v e q =
+      rw (
+        takes-at "R_fixture" numberLine (x .rfixture) w fixtures n 0 e refl q,
+        takes-at "V_fixture" numberLine (x .vfixture) w fixtures n 1 e refl q,
+        takes-at "V_fixture_min" numberLine (x .vmin) w fixtures n 2 e refl q,
+        takes-at "V_fixture_max" numberLine (x .vmax) w fixtures n 3 e refl q,
+        takes-at "C_fixture" numberLine (x .cfixture) w fixtures n 4 e refl q,
+        takes-at "L_fixture" numberLine (x .lfixture) w fixtures n 5 e refl q,
+        takes-at "R_dut" numberLine (x .rdut) w fixtures n 6 e refl q,
+        takes-at "L_dut" numberLine (x .ldut) w fixtures n 7 e refl q,
+        takes-at "C_dut" numberLine (x .cdut) w fixtures n 8 e refl q,
+      )
 
-pub waveform-fold : Folds waveformFrom withLine
-unfolding waveformFrom
-waveform-fold = record { none = λ x. refl; more = λ x w ws. refl }
+  -- a line that changes none of the numbers
+  fixture-kept : ((name : String) (v : Cell) → beginsLetter (bytes name) ≡ true → takes name numberLine v w ≡ v) → x ≡ fixtureLine x w
+  unfolding beginsLetter isLetter isCapital isSmall
+  fixture-kept h =
+      rw (
+        h "R_fixture" (x .rfixture) refl,
+        h "V_fixture" (x .vfixture) refl,
+        h "V_fixture_min" (x .vmin) refl,
+        h "V_fixture_max" (x .vmax) refl,
+        h "C_fixture" (x .cfixture) refl,
+        h "L_fixture" (x .lfixture) refl,
+        h "R_dut" (x .rdut) refl,
+        h "L_dut" (x .ldut) refl,
+        h "C_dut" (x .cdut) refl,
+      )
 
--- ---- a line adds at most one row
+  pub fixture-bad : (n : ℕ) → numberLine w ≡ fault n → x ≡ fixtureLine x w
+  fixture-bad n q = fixture-kept (λ name v h. takes-fault name numberLine v w n q)
 
-point-count-le : (x : Waveform) (r : RowRead) → withPoint x r .rows .count ≤ x .rows .count + 1
-point-count-le x (Amiss m) = omega arith
-point-count-le x (Line r) = omega arith
+  pub fixture-nothing : lineAt fixtures w ≡ Nothing → x ≡ fixtureLine x w
+  unfolding placeFrom words grown onto isBlank eqs
+  fixture-nothing e =
+      rw (
+        takes-nothing "R_fixture" numberLine (x .rfixture) w fixtures 0 e refl,
+        takes-nothing "V_fixture" numberLine (x .vfixture) w fixtures 1 e refl,
+        takes-nothing "V_fixture_min" numberLine (x .vmin) w fixtures 2 e refl,
+        takes-nothing "V_fixture_max" numberLine (x .vmax) w fixtures 3 e refl,
+        takes-nothing "C_fixture" numberLine (x .cfixture) w fixtures 4 e refl,
+        takes-nothing "L_fixture" numberLine (x .lfixture) w fixtures 5 e refl,
+        takes-nothing "R_dut" numberLine (x .rdut) w fixtures 6 e refl,
+        takes-nothing "L_dut" numberLine (x .ldut) w fixtures 7 e refl,
+        takes-nothing "C_dut" numberLine (x .cdut) w fixtures 8 e refl,
+      )
 
-fixture-count-le : (x : Waveform) (v : Cell) (f : Found) → withFixture x v f .rows .count ≤ x .rows .count + 1
-fixture-count-le x v Nothing = omega arith
-fixture-count-le x v (At m) = omega arith
+-- ---- a row has no name that begins with a letter
 
-pub line-count : Small withLine (λ (x : Waveform). x .rows .count)
-unfolding withLine
-line-count x w =
-    cond-all (λ (y : Waveform). y .rows .count ≤ x .rows .count + 1) (isNamedLine w) _ _
-    (λ t. fixture-count-le x (numberIs (assignedNumber w)) (lineAt fixtures w))
-    (λ t. point-count-le x (rowOf (words w)))
+begins-front : (p : ℕ → Bool) (v : List ℕ) → beginsLetter (front p v) ≡ true → beginsLetter v ≡ true
+unfolding beginsLetter front
+begins-front p [] h = h
+begins-front p (b ∷ bs) h =
+    by-test (p b)
+    (λ q. sym (ap beginsLetter (cond-yes _ _ q)) ∙ h)
+    (λ q. let z : false ≡ true = sym (ap beginsLetter (cond-no _ _ q)) ∙ h in cc)
+
+named-letter : (name : String) (w : List ℕ) → isNamed name w ≡ true → beginsLetter (bytes name) ≡ true → beginsLetter (word 0 (words w)) ≡ true
+unfolding isNamed nameOf
+named-letter name w e h = begins-front _ (word 0 (words w)) (ap beginsLetter (eqs-eq (nameOf w) (bytes name) e) ∙ h)
+
+takes-row : (w : List ℕ) (r : Row) → says r ≡ rowOf (words w) → (name : String) (v : Cell) → beginsLetter (bytes name) ≡ true → takes name numberLine v w ≡ v
+unfolding takes
+takes-row w r e name v h =
+    by-test (isNamed name w)
+    (λ q. let z : says r ≡ fault _ = e ∙ letter-no-row (words w) (named-letter name w q h) in let y : _≡_ {A = ℕ} 0 1 = cc in impossible y)
+    (λ q. cond-no _ _ q)
+
+module _ (x : Waveform) (w : List ℕ) where
+  pub line-row : (r : Row) → says r ≡ rowOf (words w) → withCount x (x .rows .count + 1) ≡ waveformLine x w
+  line-row r e =
+      ap (λ (y : Waveform). withCount y (x .rows .count + 1)) (fixture-kept x w (takes-row w r e))
+      ∙ ap (λ read. withCount (fixtureLine x w) (counted (x .rows .count) read)) e
+
+  pub line-fixture : (n : ℕ) → fault n ≡ rowOf (words w) → fixtureLine x w ≡ waveformLine x w
+  line-fixture n e = ap (λ read. withCount (fixtureLine x w) (counted (x .rows .count) read)) e

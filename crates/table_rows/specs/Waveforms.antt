@@ -1,20 +1,17 @@
 -- A waveform's record, one line after another.
 use Prim.Native.Nat.{ℕ, _+_}
-use mathlib.Core.List.{List, [], _∷_}
+use mathlib.Core.List.{List}
 use mathlib.Core.Bool.{cond}
+use lib.ListN.{length}
 use lib.Dec.{eqb}
 use Rattle.decimal.specs.declared.Cell.{Cell}
 use Rattle.decimal.specs.declared.Cell.the-variants.{Missing}
 use Rattle.words.specs.Words.{words}
-use Rattle.name_table.specs.declared.Found.{Found}
-use Rattle.name_table.specs.declared.Found.the-variants.{At, Nothing}
+use Rattle.line_rules.specs.Fields.{rowOf, numberLine, takes, lineSays}
+use Rattle.rules.specs.Reading.{rowsIn}
 use Rattle.records.specs.declared.Edge.{Edge}
-use Rattle.line_rules.specs.Fields.{lineAt, assignedNumber, rowOf, numberIs}
-use Rattle.line_rules.specs.Tables.{fixtures}
-use Rattle.rules.specs.Reading.{isNamedLine}
-use Rattle.line_rules.specs.declared.RowRead.{RowRead}
-use Rattle.line_rules.specs.declared.RowRead.the-variants.{Line, Amiss}
 use Rattle.records.specs.declared.Waveform.{Waveform}
+use Rattle.table_rows.specs.Rows.{counted}
 
 -- before its first line
 abbrev pub bareWaveform : Edge → ℕ → Waveform
@@ -33,10 +30,26 @@ bareWaveform e n =
       rows = record { start = n; count = 0 };
     }
 
--- a number goes to its place in the list of `fixtures`
-abbrev pub withFixture : Waveform → Cell → Found → Waveform
-withFixture x v Nothing = x
-withFixture x v (At n) =
+-- the same with so many rows
+abbrev pub withCount : Waveform → ℕ → Waveform
+withCount x n =
+    record {
+      edge = x .edge;
+      rfixture = x .rfixture;
+      vfixture = x .vfixture;
+      vmin = x .vmin;
+      vmax = x .vmax;
+      cfixture = x .cfixture;
+      lfixture = x .lfixture;
+      rdut = x .rdut;
+      ldut = x .ldut;
+      cdut = x .cdut;
+      rows = record { start = x .rows .start; count = n };
+    }
+
+-- a number at place n of `fixtures`
+abbrev pub fixtureAt : Waveform → ℕ → Cell → Waveform
+fixtureAt x n v =
     record {
       edge = x .edge;
       rfixture = cond (eqb n 0) v (x .rfixture);
@@ -51,28 +64,39 @@ withFixture x v (At n) =
       rows = x .rows;
     }
 
--- a row more, if the line is one
-abbrev pub withPoint : Waveform → RowRead → Waveform
-withPoint x (Amiss n) = x
-withPoint x (Line r) =
+-- what a line's number makes of it
+abbrev pub fixtureLine : Waveform → List ℕ → Waveform
+fixtureLine x w =
     record {
       edge = x .edge;
-      rfixture = x .rfixture;
-      vfixture = x .vfixture;
-      vmin = x .vmin;
-      vmax = x .vmax;
-      cfixture = x .cfixture;
-      lfixture = x .lfixture;
-      rdut = x .rdut;
-      ldut = x .ldut;
-      cdut = x .cdut;
-      rows = record { start = x .rows .start; count = x .rows .count + 1 };
+      rfixture = takes "R_fixture" numberLine (x .rfixture) w;
+      vfixture = takes "V_fixture" numberLine (x .vfixture) w;
+      vmin = takes "V_fixture_min" numberLine (x .vmin) w;
+      vmax = takes "V_fixture_max" numberLine (x .vmax) w;
+      cfixture = takes "C_fixture" numberLine (x .cfixture) w;
+      lfixture = takes "L_fixture" numberLine (x .lfixture) w;
+      rdut = takes "R_dut" numberLine (x .rdut) w;
+      ldut = takes "L_dut" numberLine (x .ldut) w;
+      cdut = takes "C_dut" numberLine (x .cdut) w;
+      rows = x .rows;
     }
 
-unfoldable pub withLine : Waveform → List ℕ → Waveform
-withLine x w =
-    cond (isNamedLine w) (withFixture x (numberIs (assignedNumber w)) (lineAt fixtures w)) (withPoint x (rowOf (words w)))
+-- what a line makes of it, and what lines do
+abbrev pub waveformLine : Waveform → List ℕ → Waveform
+waveformLine x w = withCount (fixtureLine x w) (counted (x .rows .count) (rowOf (words w)))
 
-unfoldable pub waveformFrom : Waveform → List (List ℕ) → Waveform
-waveformFrom x [] = x
-waveformFrom x (w ∷ ws) = waveformFrom (withLine x w) ws
+unfoldable pub waveformOn : Waveform → List (List ℕ) → Waveform
+waveformOn x ls =
+    record {
+      edge = x .edge;
+      rfixture = lineSays "R_fixture" numberLine (x .rfixture) ls;
+      vfixture = lineSays "V_fixture" numberLine (x .vfixture) ls;
+      vmin = lineSays "V_fixture_min" numberLine (x .vmin) ls;
+      vmax = lineSays "V_fixture_max" numberLine (x .vmax) ls;
+      cfixture = lineSays "C_fixture" numberLine (x .cfixture) ls;
+      lfixture = lineSays "L_fixture" numberLine (x .lfixture) ls;
+      rdut = lineSays "R_dut" numberLine (x .rdut) ls;
+      ldut = lineSays "L_dut" numberLine (x .ldut) ls;
+      cdut = lineSays "C_dut" numberLine (x .cdut) ls;
+      rows = record { start = x .rows .start; count = x .rows .count + length (rowsIn ls) };
+    }

@@ -1,13 +1,11 @@
-// Tables: their rows counted and written into the row store, the record of a waveform, and the keywords of a model with its rows.
+// Tables: their rows counted and written into the row store, the record of a waveform, and all rows of a model.
 use cut_lines::Cursor;
-use keywords::ModelPart;
 
 pub mod rows; // rows.rt: the rows of one table, counted and written
 pub mod waveforms; // waveforms.rt: the record of a waveform
-pub mod parts; // parts.rt: the keywords of a model one after another, and all its rows written
+pub mod parts; // parts.rt: all rows of a model, keyword by keyword
 
 pub use parts::fill_model;
-pub use parts::next_part;
 pub use rows::count_rows;
 pub use waveforms::waveform_of;
 
@@ -21,15 +19,4 @@ pub struct Counted {
 pub struct Filled {
     pub words: usize,
     pub next: Cursor,
-}
-
-// The next keyword of a model, with its argument from start up to end; or that the section has no more.
-pub enum PartNext {
-    Part {
-        part: ModelPart,
-        start: usize,
-        end: usize,
-        next: Cursor,
-    },
-    NoPart,
 }

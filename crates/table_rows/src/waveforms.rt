@@ -1,16 +1,14 @@
 // The record of a waveform: its edge, the numbers of its named lines, and where its rows lie.
 ghost use mathlib.Core.Bool.{cond};
 ghost use mathlib.Core.Path.{_≡_};
-ghost use Prim.Native.Nat.{_^_, _<_};
+ghost use Prim.Native.Nat.{_+_, _^_, _<_};
 ghost use lib.Dec.{eqb};
-ghost use Rattle.cut_lines.specs.Texts.{rest};
-ghost use Rattle.cut_lines.specs.Cursors.{Placed};
+ghost use Rattle.cut_lines.specs.Cursors.{rest, Placed};
 ghost use Rattle.rules.specs.Reading.{under, waveformIn};
-ghost use Rattle.layout.specs.Laid.{waveformLaid};
-ghost use Rattle.table_rows.specs.Waveforms.{bareWaveform, withFixture, withPoint, withLine};
-use crate::rows::named_line;
+ghost use Rattle.table_rows.specs.Waveforms.{bareWaveform, fixtureAt, fixtureLine, withCount, waveformLine};
 use cut_lines::Cursor;
 use decimal::Cell;
+use decimal::CellRead;
 use line_rules::RowRead;
 use lines_under::LineNext;
 use name_table::Found;
@@ -50,13 +48,10 @@ fn bare_waveform(edge: Edge, row: usize) -> Waveform
     }
 }
 
-// A number goes to its place.
-fn with_fixture(x: Waveform, number: Cell, found: Found) -> Waveform
-    ensures { λ r. ⌜ r ≡ withFixture x number found ⌝ }
+// The number at place n; there are nine places.
+fn fixture_at(x: Waveform, n: usize, number: Cell) -> Waveform
+    ensures { λ r. ⌜ r ≡ fixtureAt x n number ⌝ }
 {
-    let Found::At(n) = found else {
-        return x;
-    };
     let edge = x.edge;
     let rfixture = x.rfixture;
     let vfixture = x.vfixture;
@@ -83,37 +78,43 @@ fn with_fixture(x: Waveform, number: Cell, found: Found) -> Waveform
     }
 }
 
-// A row more, if the line is one.
-fn with_point(x: Waveform, read: RowRead) -> Waveform
-    requires { ⌜ x .rows .count < 2 ^ 63 ⌝ }
-    ensures { λ r. ⌜ r ≡ withPoint x read ⌝ }
+fn with_fixture(x: Waveform, w: &[u8]) -> Waveform
+    ensures { λ r. ⌜ r ≡ fixtureLine x (now (w .entry)) ⌝ }
 {
-    match read {
-        RowRead::Line(_) => {
-            let mut next = x;
-            let count = x.rows.count + 1;
-            next.rows.count = count;
-            next
-        }
-        RowRead::Amiss(_) => x,
+    match named_lines::fixture_line(w) {
+        Found::At(n) => match named_lines::number_line(w) {
+            CellRead::Read(number) => fixture_at(x, n, number),
+            CellRead::Bad(_) => x,
+        },
+        Found::Nothing => x,
     }
 }
 
+fn with_row(x: Waveform) -> Waveform
+    requires { ⌜ x .rows .count < 2 ^ 63 ⌝ }
+    ensures { λ r. ⌜ r ≡ withCount x (x .rows .count + 1) ⌝ }
+{
+    let mut next = x;
+    let count = x.rows.count + 1;
+    next.rows.count = count;
+    next
+}
+
+// A row has no name: its first word is a number, and a name begins with a letter.
 fn with_line(x: Waveform, w: &[u8]) -> Waveform
     requires { ⌜ x .rows .count < 2 ^ 63 ⌝ }
-    ensures { λ r. ⌜ r ≡ withLine x (now (w .entry)) ⌝ }
+    ensures { λ r. ⌜ r ≡ waveformLine x (now (w .entry)) ⌝ }
 {
-    if named_line(w) {
-        let number = line_cells::number_is(named_lines::assigned_number(w));
-        return with_fixture(x, number, named_lines::fixture_line(w));
+    match line_cells::row_of(w) {
+        RowRead::Line(_) => with_row(x),
+        RowRead::Amiss(_) => with_fixture(x, w),
     }
-    with_point(x, line_cells::row_of(w))
 }
 
 // The waveform whose lines begin at a cursor; its first row's place is row.
 pub fn waveform_of(src: &[u8], c: Cursor, edge: Edge, row: usize) -> Waveform
     requires { ⌜ Placed (now src) c ⌝ }
-    ensures { λ r. ⌜ r ≡ waveformLaid row (waveformIn edge (under (rest (now (src .entry)) c))) ⌝ }
+    ensures { λ r. ⌜ r ≡ waveformIn row edge (under (rest (now (src .entry)) c)) ⌝ }
 {
     let mut x = bare_waveform(edge, row);
     let mut d = c;

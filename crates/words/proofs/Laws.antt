@@ -10,7 +10,8 @@ use Rattle.laws.specs.Lists.{front, after, part}
 use Rattle.laws.proofs.Tests.{by-test}
 use Rattle.laws.proofs.Lists.{from-cons}
 use Rattle.laws.proofs.Fronts.{after-at, front-at, after-stops, front-more}
-use Rattle.words.specs.Words.{isInk, onto, grown, words}
+use Rattle.words.specs.Words.{onto, grown, words}
+use Rattle.words.specs.Places.{isInk, runFrom}
 
 -- a test's answer on the byte, as the code has it
 pub ink-no : (b : ℕ) (t : Bool) → t ≡ isBlank b → t ≡ true → isInk b ≡ false
@@ -38,6 +39,12 @@ words-ink b (x ∷ xs) h =
     by-test (isBlank x) (λ k. simp (h, k)) (λ k. words-onto b x xs h k ∙ ap (onto b) (words-ink x xs k) ∙ simp h)
 
 -- ---- places
+
+-- what the two scans answer
+pub run-from : (s : List ℕ) (at start end : ℕ) → start ≡ at + length (front isBlank (drop at s)) → end ≡ start + length (front isInk (drop start s))
+    → record { start = start; end = end } ≡ runFrom s at
+unfolding runFrom
+run-from s at start end e f = λ i. record { start = e i; end = (f ∙ ap (λ (k : ℕ). k + length (front isInk (drop k s))) e) i }
 
 pub words-none : (s : List ℕ) (at start : ℕ) → start ≡ at + length (front isBlank (drop at s)) → length s ≤ start → words (drop at s) ≡ []
 unfolding words

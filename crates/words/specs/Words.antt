@@ -1,12 +1,9 @@
 -- A word is a longest run without blanks.
 use Prim.Native.Nat.{ℕ}
 use mathlib.Core.List.{List, [], _∷_}
-use mathlib.Core.Bool.{Bool, cond, not}
+use mathlib.Core.Bool.{cond}
+use lib.ListN.{getD}
 use Rattle.laws.specs.Bytes.{isBlank}
-
--- what a word is made of
-unfoldable pub isInk : ℕ → Bool
-isInk b = not (isBlank b)
 
 -- the byte goes in front of the first word
 unfoldable pub onto : ℕ → List (List ℕ) → List (List ℕ)
@@ -21,3 +18,7 @@ grown b (x ∷ xs) ws = cond (isBlank x) ((b ∷ []) ∷ ws) (onto b ws)
 unfoldable pub words : List ℕ → List (List ℕ)
 words [] = []
 words (b ∷ bs) = cond (isBlank b) (words bs) (grown b bs (words bs))
+
+-- the word at a place, from 0; past the last an empty one
+unfoldable pub word : ℕ → List (List ℕ) → List ℕ
+word n ws = getD ws n []

@@ -5,8 +5,7 @@ ghost use Prim.Native.Nat.{_+_, _≤_};
 ghost use lib.ListN.{length, drop};
 ghost use Rattle.laws.specs.Bytes.{isBlank, capital};
 ghost use Rattle.laws.specs.Lists.{front, trim, other, eqs};
-ghost use Rattle.words.specs.Words.{isInk};
-ghost use Rattle.words.specs.Places.{WordAt};
+ghost use Rattle.words.specs.Places.{WordAt, isInk};
 
 // A word, from start up to end. Where no word is left, both are the end of the slice.
 pub struct Word {

@@ -3,6 +3,7 @@ use mathlib.Core.Path.{refl, sym, ap, _∙_}
 use borrow.Author.Needs.{needs}
 use Rattle.rules.specs.Component.{componentShut}
 use Rattle.rules.proofs.Going.{passed}
+use Rattle.component_steps.proofs.Laws.{package-given}
 use Rattle.component_steps.proofs.component_shut.Statement.{statement}
 use Rattle.component_steps.proofs.component_shut.Tie as tie
 
@@ -40,7 +41,7 @@ returns-2 : tie.Need-returns-2
 returns-2 c = c .shut2 .ensures ∙ sym (passed 9 0 _ refl) ∙ sym (ap (componentShut (c .before .before .before .args .c)) (c .before .enum-told2 .given .1))
 
 returns-3 : tie.Need-returns-3
-returns-3 c = c .shut3 .ensures ∙ rw (c .before .all-three .ensures) (sym (ap (componentShut (c .before .before .before .before .before .args .c)) (c .before .before .before .list .given .1)))
+returns-3 c = c .shut3 .ensures ∙ rw (c .before .all-three .ensures ∙ package-given (c .before .before .before .list .given .0 .1 .0)) (sym (ap (componentShut (c .before .before .before .before .before .args .c)) (c .before .before .before .list .given .1)))
 
 returns-4 : tie.Need-returns-4
 returns-4 c = c .shut4 .ensures ∙ sym (ap (componentShut (c .before .before .before .before .args .c)) (c .before .before .list2 .given .1))

@@ -1,10 +1,11 @@
 -- By what the code answers of the heading.
-use mathlib.Core.Path.{sym, _∙_}
+use mathlib.Core.Path.{sym, ap, _∙_}
 use borrow.Author.Needs.{needs}
 use denote.Ref.{now}
 use Rattle.words.specs.Words.{words}
 use Rattle.line_rules.specs.Fields.{heading}
-use Rattle.line_cells.proofs.Headings.{read-short, read-long, read-none}
+use Rattle.line_cells.specs.Headings.{isLong}
+use Rattle.line_cells.proofs.Headings.{heading-long}
 use Rattle.component_steps.proofs.is_long.Statement.{statement}
 use Rattle.component_steps.proofs.is_long.Tie as tie
 
@@ -21,13 +22,13 @@ enum-told-3 : tie.Need-enum-told-3
 enum-told-3 c = search needs
 
 returns : tie.Need-returns
-returns c = rw (read-short (heading (words (now (c .before .before .before .before .args .argument)))) (sym (c .before .before .heading-of .ensures) ∙ c .enum-told .given .1))
+returns c = sym (heading-long (heading (words (now (c .before .before .before .before .args .argument)))) ∙ ap isLong (sym (c .before .before .heading-of .ensures) ∙ c .enum-told .given .1))
 
 returns-2 : tie.Need-returns-2
-returns-2 c = rw (read-long (heading (words (now (c .before .before .before .before .args .argument)))) (sym (c .before .before .heading-of .ensures) ∙ c .enum-told2 .given .1))
+returns-2 c = sym (heading-long (heading (words (now (c .before .before .before .before .args .argument)))) ∙ ap isLong (sym (c .before .before .heading-of .ensures) ∙ c .enum-told2 .given .1))
 
 returns-3 : tie.Need-returns-3
-returns-3 c = rw (read-none (heading (words (now (c .before .before .before .before .args .argument)))) (sym (c .before .before .heading-of .ensures) ∙ c .enum-told3 .given .1))
+returns-3 c = sym (heading-long (heading (words (now (c .before .before .before .before .args .argument)))) ∙ ap isLong (sym (c .before .before .heading-of .ensures) ∙ c .enum-told3 .given .1))
 
 pub is-long-spec : {M : Type 1} → statement M
 is-long-spec =

@@ -1,7 +1,10 @@
 -- Not such a line, given before, a fault of its cells, or on: `refused`, `faulted`, `clean`.
 use mathlib.Core.Path.{sym, ap, _∙_}
 use borrow.Author.Needs.{needs}
-use Rattle.line_rules.specs.Fields.{tripleFault}
+use denote.Ref.{now}
+use Rattle.laws.specs.Said.{faultIn}
+use Rattle.line_rules.specs.Fields.{cellsLine}
+use Rattle.line_rules.proofs.Answers.{triple-said}
 use Rattle.rules.proofs.Going.{refused, passed, faulted, clean}
 use Rattle.component_steps.proofs.package_line.Statement.{statement}
 use Rattle.component_steps.proofs.package_line.Tie as tie
@@ -32,8 +35,8 @@ returns-2 c =
     rw (sym (c .before .before .before .before .before .before .package-line .ensures) ∙ c .before .before .before .before .found .given .1)
     (c .stopped2 .ensures ∙ refused 8 _ _ (sym (c .before .before .is-given .ensures) ∙ c .before .if1 .taken))
 
-named-cells-requires : tie.Need-named-cells-requires
-named-cells-requires c κs = search needs
+cells-line-requires : tie.Need-cells-line-requires
+cells-line-requires c κs = search needs
 
 triple-fault-requires : tie.Need-triple-fault-requires
 triple-fault-requires c κs = search needs
@@ -44,7 +47,7 @@ stopped-requires-3 c κs = search needs
 returns-3 : tie.Need-returns-3
 returns-3 c =
     rw (sym (c .before .before .before .before .before .before .before .before .before .package-line .ensures) ∙ c .before .before .before .before .before .before .before .found .given .1)
-    (c .stopped3 .ensures ∙ faulted _ _ (c .before .before .triple-fault .ensures ∙ ap tripleFault (c .before .before .before .named-cells .ensures)) (c .before .if2 .taken)
+    (c .stopped3 .ensures ∙ faulted _ _ (c .before .before .triple-fault .ensures ∙ ap faultIn (triple-said _ (cellsLine (now (c .before .before .before .before .before .before .before .before .before .before .before .args .w))) (c .before .before .before .cells-line .ensures))) (c .before .if2 .taken)
     ∙ passed 8 _ _ (sym (c .before .before .before .before .before .is-given .ensures) ∙ c .before .before .before .before .if1 .left))
 
 also-requires : tie.Need-also-requires
@@ -56,7 +59,7 @@ with-list-requires c κs = search needs
 returns-4 : tie.Need-returns-4
 returns-4 c =
     rw (sym (c .before .before .before .before .before .before .before .before .before .before .package-line .ensures) ∙ c .before .before .before .before .before .before .before .before .found .given .1, c .with-list .ensures, c .before .also .ensures)
-    (clean _ _ (c .before .before .before .triple-fault .ensures ∙ ap tripleFault (c .before .before .before .before .named-cells .ensures)) (c .before .before .if2 .left)
+    (clean _ _ (c .before .before .before .triple-fault .ensures ∙ ap faultIn (triple-said _ (cellsLine (now (c .before .before .before .before .before .before .before .before .before .before .before .before .args .w))) (c .before .before .before .before .cells-line .ensures))) (c .before .before .if2 .left)
     ∙ passed 8 _ _ (sym (c .before .before .before .before .before .before .is-given .ensures) ∙ c .before .before .before .before .before .if1 .left))
 
 pub package-line-spec : {M : Type 1} → statement M
@@ -71,7 +74,7 @@ package-line-spec =
     is-given-requires
     stopped-requires-2
     returns-2
-    named-cells-requires
+    cells-line-requires
     triple-fault-requires
     stopped-requires-3
     returns-3

@@ -5,21 +5,21 @@ use Rattle.rules.proofs.Going.{faulted, clean}
 use Rattle.component_steps.proofs.rows_line.Statement.{statement}
 use Rattle.component_steps.proofs.rows_line.Tie as tie
 
-pin-row-requires : tie.Need-pin-row-requires
-pin-row-requires c κs = search needs
+pin-fault-requires : tie.Need-pin-fault-requires
+pin-fault-requires c κs = search needs
 
 stopped-requires : tie.Need-stopped-requires
 stopped-requires c κs = search needs
 
 returns : tie.Need-returns
-returns c = c .stopped .ensures ∙ faulted _ _ (c .before .before .pin-row .ensures) (c .before .if1 .taken)
+returns c = c .stopped .ensures ∙ faulted _ _ (c .before .before .pin-fault .ensures) (c .before .if1 .taken)
 
 with-list-requires : tie.Need-with-list-requires
 with-list-requires c κs = search needs
 
 returns-2 : tie.Need-returns-2
-returns-2 c = rw (c .with-list .ensures) (clean _ _ (c .before .before .pin-row .ensures) (c .before .if1 .left))
+returns-2 c = rw (c .with-list .ensures) (clean _ _ (c .before .before .pin-fault .ensures) (c .before .if1 .left))
 
 pub rows-line-spec : {M : Type 1} → statement M
 rows-line-spec =
-    tie.close (tie.spec pin-row-requires stopped-requires returns with-list-requires returns-2)
+    tie.close (tie.spec pin-fault-requires stopped-requires returns with-list-requires returns-2)

@@ -9,12 +9,13 @@ use borrow.Author.Tests.{not-true, not-false}
 use denote.Ref.{now}
 use Rattle.keywords.proofs.Laws.{closed-within}
 use Rattle.cut_lines.specs.Change.{changeTo}
+use Rattle.cut_lines.specs.Cursors.{changeRead}
 use Rattle.cut_lines.proofs.ChangeLaws.{change-none, change-unclosed, change-closed}
 use Rattle.cut_lines.proofs.change_of.Statement.{statement}
 use Rattle.cut_lines.proofs.change_of.Tie as tie
 
 returns : tie.Need-returns
-returns c = sym (change-none (now (c .before .before .args .w)) (c .if1 .taken))
+returns c = ap changeRead (sym (change-none (now (c .before .before .args .w)) (c .if1 .taken)))
 
 find-requires : tie.Need-find-requires
 find-requires c κs = search needs
@@ -23,7 +24,7 @@ closed-at-requires : tie.Need-closed-at-requires
 closed-at-requires c κs = search needs
 
 returns-2 : tie.Need-returns-2
-returns-2 c = sym (change-unclosed (now (c .before .before .before .before .before .args .w)) _ (c .before .before .find .ensures .0) (sym (c .before .closed-at .ensures) ∙ not-true (c .before .closed-at .result) (c .if2 .taken)))
+returns-2 c = ap changeRead (sym (change-unclosed (now (c .before .before .before .before .before .args .w)) _ (c .before .before .find .ensures .0) (sym (c .before .closed-at .ensures) ∙ not-true (c .before .closed-at .result) (c .if2 .taken))))
 
 add-skip-blanks : tie.Need-add-skip-blanks
 add-skip-blanks c = search needs
@@ -50,8 +51,9 @@ returns-3 c =
     let w = now (c .before .before .before .before .before .before .before .before .args .w) in
     let closed = sym (c .before .before .before .before .closed-at .ensures) ∙ not-false (c .before .before .before .before .closed-at .result) (c .before .before .before .if2 .left) in
     c .change-to .ensures
-    ∙ ap changeTo (take-all (length w - c .before .before .skip-blanks .result) (drop (c .before .before .skip-blanks .result) w) (omega (arith, length-drop (c .before .before .skip-blanks .result) w)))
-    ∙ sym (change-closed w _ (c .before .before .before .before .before .find .ensures .0) _ closed (c .before .before .skip-blanks .ensures .0))
+    ∙ ap changeRead
+    (ap changeTo (take-all (length w - c .before .before .skip-blanks .result) (drop (c .before .before .skip-blanks .result) w) (omega (arith, length-drop (c .before .before .skip-blanks .result) w)))
+    ∙ sym (change-closed w _ (c .before .before .before .before .before .find .ensures .0) _ closed (c .before .before .skip-blanks .ensures .0)))
 
 pub change-of-spec : {M : Type 1} → statement M
 change-of-spec =

@@ -5,8 +5,7 @@ use native.Mathlib.Omega.{arith}
 use lib.ListN.{length}
 use borrow.Author.Needs.{needs}
 use denote.Ref.{now}
-use Rattle.cut_lines.specs.Texts.{rest, past}
-use Rattle.cut_lines.specs.Cursors.{Placed, OneIs}
+use Rattle.cut_lines.specs.Cursors.{rest, past, Placed, OneIs}
 use Rattle.cut_lines.proofs.Laws.{rest-end, past-end, past-step, placed-step, rest-empty, rest-text, rest-change, rest-here}
 use Rattle.cut_lines.proofs.next_text.Statement.{statement}
 use Rattle.cut_lines.proofs.next_text.Tie as tie

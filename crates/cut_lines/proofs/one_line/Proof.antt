@@ -12,7 +12,9 @@ use Rattle.lines.specs.Places.{lineAt, RawAt}
 use Rattle.lines.specs.declared.Line.{Line}
 use Rattle.lines.proofs.Handed.{raw-at}
 use Rattle.cut_lines.specs.Change.{isChange, changeOf}
-use Rattle.cut_lines.specs.Texts.{faultOf, charAfter}
+use Rattle.cut_lines.specs.Cursors.{changeRead, changeSays}
+use Rattle.laws.specs.Said.{Said, faultIn, orElse}
+use Rattle.cut_lines.proofs.ChangeLaws.{change-said}
 use Rattle.cut_lines.specs.Cursors.{OneIs}
 use Rattle.cut_lines.proofs.Laws.{cut-at}
 use Rattle.cut_lines.proofs.one_line.Statement.{statement}
@@ -49,14 +51,15 @@ returns c =
     let d = c .before .before .before .before .before .before .before .args .c in
     let l = c .before .before .before .before .before .line-at in
     let r = handed s (d .at) (l .result) (c .before .before .before .before .before .before .before .pre .1) (l .ensures) in
-    let said : c .before .change-of .result ≡ changeOf (r .line .bytes) = c .before .change-of .ensures ∙ ap changeOf (r .text) in
+    let said : changeSays (c .before .change-of .result) ≡ changeOf (r .line .bytes) =
+    change-said _ _ (c .before .change-of .ensures) ∙ ap changeOf (r .text) in
     subst (OneIs s d) (sym (c .changed .ensures))
     (record {
       physical = r .line;
       steps = record { more = r .more; line = refl; rises = r .rises; within = r .within };
       kind = ap isChange (sym (r .text)) ∙ sym (c .before .before .before .changes .ensures) ∙ c .before .before .if1 .taken;
-      fault = ap faultOf said;
-      char = ap (charAfter (d .comment)) said;
+      fault = ap faultIn said;
+      char = ap (orElse (d .comment)) said;
     })
 
 cut-length-requires : tie.Need-cut-length-requires

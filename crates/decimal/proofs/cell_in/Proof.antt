@@ -3,7 +3,8 @@ use mathlib.Core.Path.{sym}
 use borrow.Author.Needs.{needs}
 use borrow.Author.Tests.{eq-eqb, ne-eqb}
 use Rattle.laws.proofs.Tests.{cond-yes, cond-no}
-use Rattle.decimal.specs.Decimal.{cellIn, missingWord}
+use Rattle.decimal.specs.Decimal.{missingWord}
+use Rattle.decimal.specs.Answers.{cellIn}
 use Rattle.decimal.proofs.cell_in.Statement.{statement}
 use Rattle.decimal.proofs.cell_in.Tie as tie
 

@@ -1,21 +1,22 @@
 -- `decimal::finish`: zero and too many digits first; then a size that is out of range by itself, or `fit` at the same power.
-use mathlib.Core.Path.{sym, _∙_}
+use mathlib.Core.Path.{ap, sym, _∙_}
 use borrow.Author.Needs.{needs}
+use Rattle.decimal.specs.Answers.{numberRead}
 use Rattle.decimal.proofs.Results.{ranged-zero, ranged-long, minus-out, minus-fits, plus-out, plus-fits}
 use Rattle.decimal.proofs.finish.Statement.{statement}
 use Rattle.decimal.proofs.finish.Tie as tie
 
 returns : tie.Need-returns
-returns c = sym (ranged-zero _ _ _ _ (c .if1 .taken))
+returns c = ap numberRead (sym (ranged-zero _ _ _ _ (c .if1 .taken)))
 
 returns-2 : tie.Need-returns-2
-returns-2 c = sym (ranged-long _ _ _ _ (c .before .if1 .left) (c .if2 .taken))
+returns-2 c = ap numberRead (sym (ranged-long _ _ _ _ (c .before .if1 .left) (c .if2 .taken)))
 
 add-if4 : tie.Need-add-if4
 add-if4 c = search needs
 
 returns-3 : tie.Need-returns-3
-returns-3 c = minus-out _ _ _ _ _ _ (c .before .before .if3 .taken) (c .before .before .before .before .if1 .left) (c .if4 .taken)
+returns-3 c = ap numberRead (minus-out _ _ _ _ _ _ (c .before .before .if3 .taken) (c .before .before .before .before .if1 .left) (c .if4 .taken))
 
 add-fit : tie.Need-add-fit
 add-fit c = search needs
@@ -27,13 +28,13 @@ fit-requires : tie.Need-fit-requires
 fit-requires c κs = search needs
 
 returns-4 : tie.Need-returns-4
-returns-4 c = c .fit .ensures ∙ minus-fits _ _ _ _ _ _ (c .before .before .before .before .if3 .taken) (c .before .before .if4 .left)
+returns-4 c = c .fit .ensures ∙ ap numberRead (minus-fits _ _ _ _ _ _ (c .before .before .before .before .if3 .taken) (c .before .before .if4 .left))
 
 add-if5 : tie.Need-add-if5
 add-if5 c = search needs
 
 returns-5 : tie.Need-returns-5
-returns-5 c = plus-out _ _ _ _ _ _ (c .before .before .if3 .left) (c .before .before .before .before .if1 .left) (c .if5 .taken)
+returns-5 c = ap numberRead (plus-out _ _ _ _ _ _ (c .before .before .if3 .left) (c .before .before .before .before .if1 .left) (c .if5 .taken))
 
 add-fit-2 : tie.Need-add-fit-2
 add-fit-2 c = search needs
@@ -48,7 +49,7 @@ fit-requires-2 : tie.Need-fit-requires-2
 fit-requires-2 c κs = search needs
 
 returns-6 : tie.Need-returns-6
-returns-6 c = c .fit2 .ensures ∙ plus-fits _ _ _ _ _ _ (c .before .before .before .before .if3 .left) (c .before .before .if5 .left)
+returns-6 c = c .fit2 .ensures ∙ ap numberRead (plus-fits _ _ _ _ _ _ (c .before .before .before .before .if3 .left) (c .before .before .if5 .left))
 
 pub finish-spec : {M : Type 1} → statement M
 finish-spec =

@@ -1,8 +1,9 @@
 -- `decimal::number_of`: the laws of `numberOf` from what its parts say. A slice has fewer than 2 ^ 63 bytes, so no sum wraps.
-use mathlib.Core.Path.{sym, _∙_}
+use mathlib.Core.Path.{ap, sym, _∙_}
 use native.Mathlib.Omega.{arith}
 use borrow.Author.Needs.{needs}
 use borrow.Author.Tests.{not-true, not-false}
+use Rattle.decimal.specs.Answers.{numberRead}
 use Rattle.decimal.proofs.Results.{number-none, number-bad, number-good, scale-up-small, scale-down-small}
 use Rattle.decimal.proofs.number_of.Statement.{statement}
 use Rattle.decimal.proofs.number_of.Tie as tie
@@ -17,7 +18,7 @@ returns : tie.Need-returns
 returns c =
     let s = c .before .before .before .sign-at in
     let m = c .before .before .mantissa-at in
-    sym (number-none _ (s .result) (s .ensures) (m .result) (m .ensures) (c .if1 .taken))
+    ap numberRead (sym (number-none _ (s .result) (s .ensures) (m .result) (m .ensures) (c .if1 .taken)))
 
 exponent-at-requires : tie.Need-exponent-at-requires
 exponent-at-requires c κs = search needs
@@ -31,8 +32,8 @@ returns-2 c =
     let m = c .before .before .before .before .before .mantissa-at in
     let e = c .before .before .exponent-at in
     let l = c .before .letters-from in
-    sym (number-bad _ (s .result) (s .ensures) (m .result) (m .ensures) (c .before .before .before .if1 .left) (e .result) (e .ensures)
-    (sym (l .ensures) ∙ not-true (l .result) (c .if2 .taken)))
+    ap numberRead (sym (number-bad _ (s .result) (s .ensures) (m .result) (m .ensures) (c .before .before .before .if1 .left) (e .result) (e .ensures)
+    (sym (l .ensures) ∙ not-true (l .result) (c .if2 .taken))))
 
 scale-up-requires : tie.Need-scale-up-requires
 scale-up-requires c κs = search needs
@@ -65,12 +66,13 @@ returns-3 c =
     let su = scale-up-small _ _ (u .ensures) in
     let sd = scale-down-small _ _ (d .ensures) in
     let good = c .before .before .before .before .before .before .before .before .before .before .before .before .before .good in
-    number-good _ (s .result) (s .ensures) (m .result) (m .ensures) (c .before .before .before .before .before .before .before .before .if1 .left)
+    c .finish .ensures
+    ∙ ap numberRead
+    (number-good _ (s .result) (s .ensures) (m .result) (m .ensures) (c .before .before .before .before .before .before .before .before .if1 .left)
     (e .result) (e .ensures) (sym (l .ensures) ∙ not-false (l .result) (c .before .before .before .before .before .if2 .left))
     (u .result) (d .result) (u .ensures) (d .ensures)
     (omega (arith, m .ensures .few, good))
-    (omega (arith, m .ensures .short, good))
-    (c .finish .result) (c .finish .ensures)
+    (omega (arith, m .ensures .short, good)))
 
 pub number-of-spec : {M : Type 1} → statement M
 number-of-spec =

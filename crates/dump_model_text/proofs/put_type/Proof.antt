@@ -6,7 +6,7 @@ use lib.ListN.{getD}
 use borrow.Author.Needs.{needs}
 use Rattle.laws.specs.Lists.{other}
 use Rattle.words.specs.Words.{onto}
-use Rattle.name_table.specs.Names.{namesOf}
+use Rattle.name_table.specs.Places.{namesOf}
 use Rattle.line_rules.specs.Tables.{modelTypes}
 use Rattle.text_buffer.specs.Parts.{parts}
 use Rattle.text_buffer.proofs.Laws.{put-as}

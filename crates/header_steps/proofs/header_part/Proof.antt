@@ -32,18 +32,15 @@ returns-2 c =
     c .stopped2 .ensures ∙ faulted _ _ (c .before .before .part-fault .ensures) (c .before .if2 .taken)
     ∙ passed 8 _ _ (sym (ap (has (c .before .before .before .before .before .before .before .before .args .h .parts)) (c .before .before .before .before .before .before .part-place .ensures)) ∙ sym (c .before .before .before .before .is-given .ensures) ∙ c .before .before .before .if1 .left)
 
-is-text-requires : tie.Need-is-text-requires
-is-text-requires c κs = search needs
-
 also-requires : tie.Need-also-requires
 also-requires c κs = search needs
 
 returns-3 : tie.Need-returns-3
 unfolding headerPart
 returns-3 c =
-    rw (c .also .ensures, c .before .is-text .ensures, c .before .before .before .before .before .before .before .part-place .ensures)
-    (clean _ _ (c .before .before .before .part-fault .ensures) (c .before .before .if2 .left)
-    ∙ passed 8 _ _ (sym (ap (has (c .before .before .before .before .before .before .before .before .before .args .h .parts)) (c .before .before .before .before .before .before .before .part-place .ensures)) ∙ sym (c .before .before .before .before .before .is-given .ensures) ∙ c .before .before .before .before .if1 .left))
+    rw (c .also .ensures, c .before .before .before .before .before .before .part-place .ensures)
+    (clean _ _ (c .before .before .part-fault .ensures) (c .before .if2 .left)
+    ∙ passed 8 _ _ (sym (ap (has (c .before .before .before .before .before .before .before .before .args .h .parts)) (c .before .before .before .before .before .before .part-place .ensures)) ∙ sym (c .before .before .before .before .is-given .ensures) ∙ c .before .before .before .if1 .left))
 
 pub header-part-spec : {M : Type 1} → statement M
 header-part-spec =
@@ -56,6 +53,5 @@ header-part-spec =
     part-fault-requires
     stopped-requires-2
     returns-2
-    is-text-requires
     also-requires
     returns-3)

@@ -4,7 +4,7 @@ use native.Mathlib.Omega.{arith}
 use borrow.Author.Needs.{needs}
 use borrow.Author.Tests.{not-true, not-false}
 use denote.Ref.{now}
-use Rattle.keywords.specs.Carried.{known}
+use Rattle.keywords.specs.Answers.{known}
 use Rattle.keywords.proofs.Laws.{key-open, key-apart, key-known, key-unknown, key-none, closed-within}
 use Rattle.keywords.proofs.key_of.Statement.{statement}
 use Rattle.keywords.proofs.key_of.Tie as tie

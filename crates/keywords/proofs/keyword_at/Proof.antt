@@ -1,6 +1,6 @@
 -- Each arm by computing the table at its number; past them nothing stands.
 use Rattle.laws.proofs.Numbers.{apart-le}
-use Rattle.name_table.specs.Names.{meaningAt}
+use Rattle.name_table.specs.Places.{meaningAt}
 use Rattle.name_table.proofs.Laws.{meaning-past}
 use Rattle.keywords.specs.Carried.{carried}
 use Rattle.keywords.proofs.keyword_at.Statement.{statement}

@@ -4,8 +4,9 @@ use native.Mathlib.Omega.{arith}
 use lib.Seq.{length-take-le}
 use borrow.Author.Needs.{needs}
 use denote.Ref.{now}
-use Rattle.name_table.specs.Names.{meaningOf}
-use Rattle.keywords.specs.Carried.{carried, named}
+use Rattle.name_table.specs.Places.{meaningOf}
+use Rattle.keywords.specs.Carried.{carried}
+use Rattle.keywords.specs.Answers.{named}
 use Rattle.keywords.specs.Form.{spelled}
 use Rattle.keywords.proofs.Laws.{meaning-long, carried-short, spelled-length, spelled-fits, meaning-found}
 use Rattle.keywords.proofs.keyword_named.Statement.{statement}

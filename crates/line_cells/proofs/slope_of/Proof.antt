@@ -46,8 +46,8 @@ ratio-of-requires c κs = search needs
 returns-3 : tie.Need-returns-3
 returns-3 c =
     c .ratio-of .ensures
-    ∙ rw (c .before .before .before .number-of .ensures, c .before .number-of2 .ensures)
-    (slope-one (now (c .before .before .before .before .before .before .before .before .before .before .args .w)) _ (c .before .before .before .before .before .before .before .before .find .ensures .0) (c .before .before .before .before .before .before .before .if1 .left) _ (c .before .before .before .before .before .before .find2 .ensures .0) (c .before .before .before .before .before .if2 .left))
+    ∙ slope-one (now (c .before .before .before .before .before .before .before .before .before .before .args .w)) _ (c .before .before .before .before .before .before .before .before .find .ensures .0) (c .before .before .before .before .before .before .before .if1 .left) _ (c .before .before .before .before .before .before .find2 .ensures .0) (c .before .before .before .before .before .if2 .left)
+    (c .before .before .before .number-of .ensures) (c .before .number-of2 .ensures)
 
 pub slope-of-spec : {M : Type 1} → statement M
 slope-of-spec =

@@ -1,9 +1,10 @@
 -- NA, or a slope.
-use mathlib.Core.Path.{sym, _∙_}
+use mathlib.Core.Path.{sym, ap, _∙_}
 use borrow.Author.Needs.{needs}
 use Rattle.laws.proofs.Tests.{cond-yes, cond-no}
 use Rattle.decimal.specs.Decimal.{isMissing}
 use Rattle.line_rules.specs.Fields.{slopeOrMissing}
+use Rattle.line_rules.specs.Answers.{slopeRead}
 use Rattle.line_cells.proofs.slope_or_missing.Statement.{statement}
 use Rattle.line_cells.proofs.slope_or_missing.Tie as tie
 
@@ -15,14 +16,14 @@ same-capitals-requires c κs = search needs
 
 returns : tie.Need-returns
 unfolding slopeOrMissing isMissing
-returns c = sym (cond-yes _ _ (sym (c .before .same-capitals .ensures) ∙ c .if1 .taken))
+returns c = ap slopeRead (sym (cond-yes _ _ (sym (c .before .same-capitals .ensures) ∙ c .if1 .taken)))
 
 slope-of-requires : tie.Need-slope-of-requires
 slope-of-requires c κs = search needs
 
 returns-2 : tie.Need-returns-2
 unfolding slopeOrMissing isMissing
-returns-2 c = c .slope-of .ensures ∙ sym (cond-no _ _ (sym (c .before .before .same-capitals .ensures) ∙ c .before .if1 .left))
+returns-2 c = c .slope-of .ensures ∙ ap slopeRead (sym (cond-no _ _ (sym (c .before .before .same-capitals .ensures) ∙ c .before .if1 .left)))
 
 pub slope-or-missing-spec : {M : Type 1} → statement M
 slope-or-missing-spec =

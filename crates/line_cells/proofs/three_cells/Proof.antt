@@ -1,9 +1,11 @@
--- Just three words, or another number of them: `three-cells`, `three-other`.
-use mathlib.Core.Path.{sym, _∙_, subst}
+-- Just three words, or another number of them: `three-cells`, `cells-other`.
+use mathlib.Core.Path.{_∙_, subst}
 use borrow.Author.Needs.{needs}
 use denote.Ref.{now}
 use Rattle.line_cells.specs.Threes.{ThreeFrom}
-use Rattle.line_cells.proofs.Laws.{three-cells, three-other}
+use Rattle.decimal.specs.Decimal.{givenCell}
+use Rattle.line_rules.specs.Fields.{threeCells}
+use Rattle.line_cells.proofs.Laws.{three-cells, cells-other}
 use Rattle.line_cells.proofs.three_cells.Statement.{statement}
 use Rattle.line_cells.proofs.three_cells.Tie as tie
 
@@ -13,8 +15,8 @@ three-words-requires c κs = search needs
 enum-known-a : tie.Need-enum-known-a
 enum-known-a c = search needs
 
-number-at-requires : tie.Need-number-at-requires
-number-at-requires c κs =
+given-at-requires : tie.Need-given-at-requires
+given-at-requires c κs =
     let o = subst (ThreeFrom (now (c .before .before .before .before .before .args .w)) (c .before .before .before .before .before .args .at)) (c .before .a .given .1) (c .before .before .before .three-words .ensures) in
     o .first
 
@@ -28,21 +30,23 @@ cell-at-requires-2 c κs =
     let o = subst (ThreeFrom (now (c .before .before .before .before .before .before .before .args .w)) (c .before .before .before .before .before .before .before .args .at)) (c .before .before .before .a .given .1) (c .before .before .before .before .before .three-words .ensures) in
     o .third
 
-with-typ-requires : tie.Need-with-typ-requires
-with-typ-requires c κs = search needs
+cells-from-requires : tie.Need-cells-from-requires
+cells-from-requires c κs = search needs
 
 enum-told : tie.Need-enum-told
 enum-told c = search needs
 
 returns : tie.Need-returns
+unfolding threeCells
 returns c =
     let o = subst (ThreeFrom (now (c .before .before .before .before .before .before .before .before .before .args .w)) (c .before .before .before .before .before .before .before .before .before .args .at)) (c .before .before .before .before .before .a .given .1) (c .before .before .before .before .before .before .before .three-words .ensures) in
-    c .with-typ .ensures ∙ rw (c .before .before .before .number-at .ensures, c .before .before .cell-at .ensures, c .before .cell-at2 .ensures) (three-cells o)
+    c .cells-from .ensures ∙ three-cells givenCell o (c .before .before .before .given-at .ensures) (c .before .before .cell-at .ensures) (c .before .cell-at2 .ensures)
 
 returns-2 : tie.Need-returns-2
+unfolding threeCells
 returns-2 c =
     let o = subst (ThreeFrom (now (c .before .before .before .before .args .w)) (c .before .before .before .before .args .at)) (c .enum-told .given .1) (c .before .before .three-words .ensures) in
-    sym (three-other _ o)
+    cells-other givenCell _ o
 
 pub three-cells-spec : {M : Type 1} → statement M
 three-cells-spec =
@@ -50,10 +54,10 @@ three-cells-spec =
     (tie.spec
     three-words-requires
     enum-known-a
-    number-at-requires
+    given-at-requires
     cell-at-requires
     cell-at-requires-2
-    with-typ-requires
+    cells-from-requires
     enum-told
     returns
     returns-2)

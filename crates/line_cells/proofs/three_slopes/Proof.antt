@@ -1,5 +1,5 @@
 -- Just three words, or another number of them: `three-slopes`, `slopes-other`.
-use mathlib.Core.Path.{sym, _∙_, subst}
+use mathlib.Core.Path.{_∙_, subst}
 use borrow.Author.Needs.{needs}
 use denote.Ref.{now}
 use Rattle.line_cells.specs.Threes.{ThreeFrom}
@@ -37,12 +37,12 @@ enum-told c = search needs
 returns : tie.Need-returns
 returns c =
     let o = subst (ThreeFrom (now (c .before .before .before .before .before .before .before .before .before .args .w)) (c .before .before .before .before .before .before .before .before .before .args .at)) (c .before .before .before .before .before .a .given .1) (c .before .before .before .before .before .before .before .three-words .ensures) in
-    c .slopes-typ .ensures ∙ rw (c .before .before .before .slope-at .ensures, c .before .before .slope-or-missing-at .ensures, c .before .slope-or-missing-at2 .ensures) (three-slopes o)
+    c .slopes-typ .ensures ∙ three-slopes o (c .before .before .before .slope-at .ensures) (c .before .before .slope-or-missing-at .ensures) (c .before .slope-or-missing-at2 .ensures)
 
 returns-2 : tie.Need-returns-2
 returns-2 c =
     let o = subst (ThreeFrom (now (c .before .before .before .before .args .w)) (c .before .before .before .before .args .at)) (c .enum-told .given .1) (c .before .before .three-words .ensures) in
-    sym (slopes-other _ o)
+    slopes-other _ o
 
 pub three-slopes-spec : {M : Type 1} → statement M
 three-slopes-spec =

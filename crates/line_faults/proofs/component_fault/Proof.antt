@@ -1,10 +1,10 @@
 -- By cases on the keyword; the heading by what the code answers of it.
-use mathlib.Core.Path.{sym, _∙_}
+use mathlib.Core.Path.{sym, ap, _∙_}
 use borrow.Author.Needs.{needs}
 use denote.Ref.{now}
 use Rattle.words.specs.Words.{words}
-use Rattle.line_rules.specs.Fields.{heading}
-use Rattle.line_cells.proofs.Headings.{read-short, read-long, read-none}
+use Rattle.line_cells.specs.Headings.{headingFault}
+use Rattle.line_cells.proofs.Headings.{heading-fault}
 use Rattle.line_faults.proofs.component_fault.Statement.{statement}
 use Rattle.line_faults.proofs.component_fault.Tie as tie
 
@@ -45,13 +45,19 @@ returns-3 : tie.Need-returns-3
 returns-3 c = rw (c .before .enum-told2 .given .1) (c .alone-fault .ensures)
 
 returns-4 : tie.Need-returns-4
-returns-4 c = rw (c .before .before .before .enum-told3 .given .1, read-short (heading (words (now (c .before .before .before .before .before .before .args .argument)))) (sym (c .before .before .heading-of .ensures) ∙ c .enum-told4 .given .1))
+returns-4 c =
+    rw (c .before .before .before .enum-told3 .given .1)
+    (sym (heading-fault (words (now (c .before .before .before .before .before .before .args .argument))) ∙ ap headingFault (sym (c .before .before .heading-of .ensures) ∙ c .enum-told4 .given .1)))
 
 returns-5 : tie.Need-returns-5
-returns-5 c = rw (c .before .before .before .enum-told3 .given .1, read-long (heading (words (now (c .before .before .before .before .before .before .args .argument)))) (sym (c .before .before .heading-of .ensures) ∙ c .enum-told5 .given .1))
+returns-5 c =
+    rw (c .before .before .before .enum-told3 .given .1)
+    (sym (heading-fault (words (now (c .before .before .before .before .before .before .args .argument))) ∙ ap headingFault (sym (c .before .before .heading-of .ensures) ∙ c .enum-told5 .given .1)))
 
 returns-6 : tie.Need-returns-6
-returns-6 c = rw (c .before .before .before .enum-told3 .given .1, read-none (heading (words (now (c .before .before .before .before .before .before .args .argument)))) (sym (c .before .before .heading-of .ensures) ∙ c .enum-told6 .given .1))
+returns-6 c =
+    rw (c .before .before .before .enum-told3 .given .1)
+    (sym (heading-fault (words (now (c .before .before .before .before .before .before .args .argument))) ∙ ap headingFault (sym (c .before .before .heading-of .ensures) ∙ c .enum-told6 .given .1)))
 
 pub component-fault-spec : {M : Type 1} → statement M
 component-fault-spec =

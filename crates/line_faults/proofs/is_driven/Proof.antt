@@ -3,10 +3,11 @@ use mathlib.Core.Path.{sym, ap, _∙_, subst}
 use native.Mathlib.Omega.{arith}
 use borrow.Author.Needs.{needs}
 use denote.Ref.{now}
-use Rattle.laws.specs.Lists.{eqs}
-use Rattle.named_lines.specs.Places.{WordIs}
-use Rattle.line_rules.specs.Fields.{namedWord, oneOf}
-use Rattle.rules.specs.Model.{orNothing, isDriven}
+use Rattle.named_lines.specs.Places.{namedWord, WordIs}
+use Rattle.laws.specs.Said.{says, orElse}
+use Rattle.named_lines.proofs.LineLaws.{onOne}
+use Rattle.rules.specs.Model.{isDriven}
+use Rattle.line_faults.proofs.Laws.{type-is}
 use Rattle.line_faults.proofs.is_driven.Statement.{statement}
 use Rattle.line_faults.proofs.is_driven.Tie as tie
 
@@ -34,13 +35,12 @@ enum-told c = search needs
 returns : tie.Need-returns
 returns c =
     let o = subst (WordIs (namedWord (now (c .before .before .before .before .before .before .before .args .w))) (now (c .before .before .before .before .before .before .before .args .w))) (c .before .before .before .start .given .1) (c .before .before .before .before .before .named-word .ensures) in
-    c .wants-ramp .ensures ∙ ap (λ (x : _). isDriven (orNothing x)) (sym (o .text))
+    c .wants-ramp .ensures ∙ sym (ap (orElse _) (type-is isDriven _ ∙ ap (onOne (λ t. says (isDriven t))) (o .text)))
 
 returns-2 : tie.Need-returns-2
-unfolding isDriven eqs oneOf
 returns-2 c =
     let o = subst (WordIs (namedWord (now (c .before .before .before .before .args .w))) (now (c .before .before .before .before .args .w))) (c .enum-told .given .1) (c .before .before .named-word .ensures) in
-    sym (ap (λ (x : _). isDriven (orNothing x)) o)
+    sym (ap (orElse _) (type-is isDriven _ ∙ ap (onOne (λ t. says (isDriven t))) o))
 
 pub is-driven-spec : {M : Type 1} → statement M
 is-driven-spec =

@@ -3,10 +3,11 @@ use mathlib.Core.Path.{sym, ap, _∙_, subst}
 use native.Mathlib.Omega.{arith}
 use borrow.Author.Needs.{needs}
 use denote.Ref.{now}
-use Rattle.laws.specs.Lists.{eqs}
-use Rattle.named_lines.specs.Places.{WordIs}
-use Rattle.line_rules.specs.Fields.{namedWord, oneOf}
-use Rattle.rules.specs.Model.{orNothing, isInput}
+use Rattle.named_lines.specs.Places.{namedWord, WordIs}
+use Rattle.laws.specs.Said.{says, orElse}
+use Rattle.named_lines.proofs.LineLaws.{onOne}
+use Rattle.rules.specs.Model.{isInput}
+use Rattle.line_faults.proofs.Laws.{type-is}
 use Rattle.line_faults.proofs.is_input.Statement.{statement}
 use Rattle.line_faults.proofs.is_input.Tie as tie
 
@@ -34,13 +35,12 @@ enum-told c = search needs
 returns : tie.Need-returns
 returns c =
     let o = subst (WordIs (namedWord (now (c .before .before .before .before .before .before .before .args .w))) (now (c .before .before .before .before .before .before .before .args .w))) (c .before .before .before .start .given .1) (c .before .before .before .before .before .named-word .ensures) in
-    c .begins-input .ensures ∙ ap (λ (x : _). isInput (orNothing x)) (sym (o .text))
+    c .begins-input .ensures ∙ sym (ap (orElse _) (type-is isInput _ ∙ ap (onOne (λ t. says (isInput t))) (o .text)))
 
 returns-2 : tie.Need-returns-2
-unfolding isInput eqs oneOf
 returns-2 c =
     let o = subst (WordIs (namedWord (now (c .before .before .before .before .args .w))) (now (c .before .before .before .before .args .w))) (c .enum-told .given .1) (c .before .before .named-word .ensures) in
-    sym (ap (λ (x : _). isInput (orNothing x)) o)
+    sym (ap (orElse _) (type-is isInput _ ∙ ap (onOne (λ t. says (isInput t))) o))
 
 pub is-input-spec : {M : Type 1} → statement M
 is-input-spec =

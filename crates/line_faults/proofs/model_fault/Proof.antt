@@ -1,7 +1,12 @@
 -- By cases on the keyword.
 use mathlib.Core.Path.{ap, _∙_}
 use borrow.Author.Needs.{needs}
-use Rattle.line_rules.specs.Fields.{tripleFault}
+use denote.Ref.{now}
+use Rattle.laws.specs.Said.{faultIn}
+use Rattle.words.specs.Words.{words}
+use Rattle.line_rules.specs.Fields.{threeCells}
+use Rattle.line_rules.proofs.Answers.{triple-said}
+use Rattle.line_faults.proofs.Laws.{current-alone}
 use Rattle.line_faults.proofs.model_fault.Statement.{statement}
 use Rattle.line_faults.proofs.model_fault.Tie as tie
 
@@ -42,13 +47,13 @@ alone-fault-requires-3 : tie.Need-alone-fault-requires-3
 alone-fault-requires-3 c κs = search needs
 
 returns : tie.Need-returns
-returns c = rw (c .before .before .enum-told .given .1) (c .triple-fault .ensures ∙ ap tripleFault (c .before .three-cells .ensures))
+returns c = rw (c .before .before .enum-told .given .1) (c .triple-fault .ensures ∙ ap faultIn (triple-said _ (threeCells (words (now (c .before .before .before .before .before .args .argument)))) (c .before .three-cells .ensures)))
 
 returns-2 : tie.Need-returns-2
-returns-2 c = rw (c .before .before .enum-told2 .given .1) (c .triple-fault2 .ensures ∙ ap tripleFault (c .before .three-cells2 .ensures))
+returns-2 c = rw (c .before .before .enum-told2 .given .1) (c .triple-fault2 .ensures ∙ ap faultIn (triple-said _ (threeCells (words (now (c .before .before .before .before .before .args .argument)))) (c .before .three-cells2 .ensures)))
 
 returns-3 : tie.Need-returns-3
-returns-3 c = rw (c .before .enum-told3 .given .1) (c .alone-fault .ensures)
+returns-3 c = rw (c .before .enum-told3 .given .1) (c .alone-fault .ensures ∙ current-alone (now (c .before .before .before .before .args .argument)) (c .before .enum-told3 .given .0 .0))
 
 returns-4 : tie.Need-returns-4
 returns-4 c = rw (c .before .enum-told4 .given .1) (c .alone-fault2 .ensures)

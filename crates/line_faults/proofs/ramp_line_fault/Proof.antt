@@ -1,37 +1,39 @@
--- By the place, with the laws on a ramp's lines.
+-- By the place: the third is R_load.
 use mathlib.Core.Path.{sym, ap, _∙_}
 use borrow.Author.Needs.{needs}
 use denote.Ref.{now}
-use Rattle.line_rules.specs.Fields.{rampFault, numberFault}
-use Rattle.line_faults.proofs.Laws.{ramp-slope, ramp-load}
+use borrow.Author.Tests.{eq-eqb, ne-eqb}
+use Rattle.laws.specs.Said.{faultIn}
+use Rattle.laws.proofs.Tests.{cond-yes, cond-no}
+use Rattle.decimal.proofs.Answers.{cell-said}
+use Rattle.line_rules.specs.Fields.{slopesLine, numberLine}
+use Rattle.line_rules.proofs.Answers.{ramp-said}
+use Rattle.line_faults.specs.Places.{rampAt}
 use Rattle.line_faults.proofs.ramp_line_fault.Statement.{statement}
 use Rattle.line_faults.proofs.ramp_line_fault.Tie as tie
 
-named-slopes-requires : tie.Need-named-slopes-requires
-named-slopes-requires c κs = search needs
+number-line-requires : tie.Need-number-line-requires
+number-line-requires c κs = search needs
+
+cell-fault-requires : tie.Need-cell-fault-requires
+cell-fault-requires c κs = search needs
+
+returns : tie.Need-returns
+unfolding rampAt
+returns c =
+    c .cell-fault .ensures ∙ ap faultIn (cell-said _ (numberLine (now (c .before .before .before .before .args .w))) (c .before .number-line .ensures)) ∙ sym (cond-yes _ (faultIn (slopesLine (now (c .before .before .before .before .args .w)))) (eq-eqb _ 2 (c .before .before .if1 .taken)))
+
+slopes-line-requires : tie.Need-slopes-line-requires
+slopes-line-requires c κs = search needs
 
 ramp-fault-requires : tie.Need-ramp-fault-requires
 ramp-fault-requires c κs = search needs
 
-returns : tie.Need-returns
-returns c = c .ramp-fault .ensures ∙ ap rampFault (c .before .named-slopes .ensures) ∙ sym (ramp-slope _ (now (c .before .before .before .before .args .w)) (c .before .before .if1 .taken))
-
-assigned-number-requires : tie.Need-assigned-number-requires
-assigned-number-requires c κs = search needs
-
-number-fault-requires : tie.Need-number-fault-requires
-number-fault-requires c κs = search needs
-
 returns-2 : tie.Need-returns-2
-returns-2 c = c .number-fault .ensures ∙ ap numberFault (c .before .assigned-number .ensures) ∙ sym (ramp-load _ (now (c .before .before .before .before .args .w)) (c .before .before .if1 .left))
+unfolding rampAt
+returns-2 c =
+    c .ramp-fault .ensures ∙ ap faultIn (ramp-said _ (slopesLine (now (c .before .before .before .before .args .w))) (c .before .slopes-line .ensures)) ∙ sym (cond-no (faultIn (numberLine (now (c .before .before .before .before .args .w)))) _ (ne-eqb _ 2 (c .before .before .if1 .left)))
 
 pub ramp-line-fault-spec : {M : Type 1} → statement M
 ramp-line-fault-spec =
-    tie.close
-    (tie.spec
-    named-slopes-requires
-    ramp-fault-requires
-    returns
-    assigned-number-requires
-    number-fault-requires
-    returns-2)
+    tie.close (tie.spec number-line-requires cell-fault-requires returns slopes-line-requires ramp-fault-requires returns-2)

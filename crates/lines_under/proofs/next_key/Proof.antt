@@ -6,7 +6,9 @@ use native.Mathlib.Omega.{arith}
 use borrow.Author.Needs.{needs}
 use denote.Ref.{now}
 use Rattle.cut_lines.specs.Cursors.{NextIs}
-use Rattle.rules.specs.Reading.{keyIn}
+use Rattle.keywords.specs.Answers.{keywordSays}
+use Rattle.keywords.specs.declared.KeyRead.{KeyRead}
+use Rattle.rules.specs.Keys.{keyIn}
 use Rattle.lines_under.proofs.Laws.{Sought, sought-change, sought-none, sought-within, sought-found, sought-out}
 use Rattle.lines_under.proofs.next_key.Statement.{statement}
 use Rattle.lines_under.proofs.next_key.Tie as tie
@@ -69,7 +71,7 @@ loop-less c =
 loop-again : tie.Need-loop-again Inv-loop μ-loop
 loop-again c =
     let t = subst (NextIs (now (c .before .before .before .before .before .before .before .before .before .before .args .src)) (c .before .before .before .before .before .before .before .before .loop .d)) (c .before .before .before .before .before .line .given .1) (c .before .before .before .before .before .before .before .next-text .ensures) in
-    sought-none (c .before .before .before .before .before .before .before .before .loop .inv) t (ap keyIn (sym (c .before .before .key-in .ensures) ∙ c .enum-told .given .1))
+    sought-none (c .before .before .before .before .before .before .before .before .loop .inv) t (ap (λ (x : KeyRead). keyIn (keywordSays x)) (sym (c .before .before .key-in .ensures) ∙ c .enum-told .given .1))
 
 enum-told-2 : tie.Need-enum-told-2 Inv-loop μ-loop
 enum-told-2 c = search needs
@@ -82,7 +84,7 @@ loop-less-2 c =
 loop-again-2 : tie.Need-loop-again-2 Inv-loop μ-loop
 loop-again-2 c =
     let t = subst (NextIs (now (c .before .before .before .before .before .before .before .before .before .before .args .src)) (c .before .before .before .before .before .before .before .before .loop .d)) (c .before .before .before .before .before .line .given .1) (c .before .before .before .before .before .before .before .next-text .ensures) in
-    sought-none (c .before .before .before .before .before .before .before .before .loop .inv) t (ap keyIn (sym (c .before .before .key-in .ensures) ∙ c .enum-told2 .given .1))
+    sought-none (c .before .before .before .before .before .before .before .before .loop .inv) t (ap (λ (x : KeyRead). keyIn (keywordSays x)) (sym (c .before .before .key-in .ensures) ∙ c .enum-told2 .given .1))
 
 enum-known-line-2 : tie.Need-enum-known-line-2 Inv-loop μ-loop
 enum-known-line-2 c = search needs

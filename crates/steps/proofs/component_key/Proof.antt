@@ -1,81 +1,33 @@
--- By cases on the stage.
+-- The stage is a component's, or another: `not-component`.
+use mathlib.Core.Path.{sym, ap, _∙_}
+use mathlib.Core.Option.{Option}
 use borrow.Author.Needs.{needs}
+use denote.Ref.{now}
+use Rattle.rules.specs.Component.{componentPart}
+use Rattle.rules.specs.Steps.{within}
+use Rattle.rules.specs.declared.ComponentState.{ComponentState}
+use Rattle.steps.proofs.Laws.{not-component}
 use Rattle.steps.proofs.component_key.Statement.{statement}
 use Rattle.steps.proofs.component_key.Tie as tie
-
-enum-told : tie.Need-enum-told
-enum-told c = search needs
-
-stopped-requires : tie.Need-stopped-requires
-stopped-requires c κs = search needs
-
-enum-told-2 : tie.Need-enum-told-2
-enum-told-2 c = search needs
-
-stopped-requires-2 : tie.Need-stopped-requires-2
-stopped-requires-2 c κs = search needs
 
 enum-known-s : tie.Need-enum-known-s
 enum-known-s c = search needs
 
+stopped-requires : tie.Need-stopped-requires
+stopped-requires c κs = search needs
+
+returns : tie.Need-returns
+returns c =
+    let a = c .before .before .before .args in
+    c .stopped .ensures
+    ∙ sym (ap (λ (o : Option ComponentState). within (a .k) o (λ x. componentPart x (a .k) (now (a .argument)) (a .p))) (not-component (a .s) (c .before .match .keys2)))
+
 component-part-requires : tie.Need-component-part-requires
 component-part-requires c κs = search needs
 
-enum-told-3 : tie.Need-enum-told-3
-enum-told-3 c = search needs
-
-stopped-requires-3 : tie.Need-stopped-requires-3
-stopped-requires-3 c κs = search needs
-
-enum-told-4 : tie.Need-enum-told-4
-enum-told-4 c = search needs
-
-stopped-requires-4 : tie.Need-stopped-requires-4
-stopped-requires-4 c κs = search needs
-
-enum-told-5 : tie.Need-enum-told-5
-enum-told-5 c = search needs
-
-stopped-requires-5 : tie.Need-stopped-requires-5
-stopped-requires-5 c κs = search needs
-
-returns : tie.Need-returns
-returns c = rw (c .before .enum-told .given .1) (c .stopped .ensures)
-
 returns-2 : tie.Need-returns-2
-returns-2 c = rw (c .before .enum-told2 .given .1) (c .stopped2 .ensures)
-
-returns-3 : tie.Need-returns-3
-returns-3 c = rw (c .before .before .s .given .1) (c .component-part .ensures)
-
-returns-4 : tie.Need-returns-4
-returns-4 c = rw (c .before .enum-told3 .given .1) (c .stopped3 .ensures)
-
-returns-5 : tie.Need-returns-5
-returns-5 c = rw (c .before .enum-told4 .given .1) (c .stopped4 .ensures)
-
-returns-6 : tie.Need-returns-6
-returns-6 c = rw (c .before .enum-told5 .given .1) (c .stopped5 .ensures)
+returns-2 c = rw (c .before .before .s .given .1) (c .component-part .ensures)
 
 pub component-key-spec : {M : Type 1} → statement M
 component-key-spec =
-    tie.close
-    (tie.spec
-    enum-told
-    stopped-requires
-    enum-told-2
-    stopped-requires-2
-    enum-known-s
-    component-part-requires
-    enum-told-3
-    stopped-requires-3
-    enum-told-4
-    stopped-requires-4
-    enum-told-5
-    stopped-requires-5
-    returns
-    returns-2
-    returns-3
-    returns-4
-    returns-5
-    returns-6)
+    tie.close (tie.spec enum-known-s stopped-requires returns component-part-requires returns-2)

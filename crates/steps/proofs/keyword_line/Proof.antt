@@ -1,8 +1,10 @@
--- What `key_of` answers; the argument by `key-within` and `key-argument`.
-use mathlib.Core.Path.{sym, _∙_}
+-- What `key_of` answers, by `key-said`; the argument by `key-within` and `key-argument`.
+use mathlib.Core.Path.{sym, ap, _∙_}
 use borrow.Author.Needs.{needs}
 use denote.Ref.{now}
+use Rattle.keywords.specs.Answers.{keywordSays}
 use Rattle.keywords.proofs.Arguments.{key-within, key-argument}
+use Rattle.keywords.proofs.Spelling.{key-said}
 use Rattle.steps.proofs.keyword_line.Statement.{statement}
 use Rattle.steps.proofs.keyword_line.Tie as tie
 
@@ -40,14 +42,15 @@ stopped-requires-2 c κs = search needs
 
 returns : tie.Need-returns
 returns c =
+    let w = now (c .before .before .before .before .before .before .before .args .w) in
     let e = sym (c .before .before .before .before .before .key-of .ensures) ∙ c .before .before .before .keyword .given .1 in
-    rw (e, sym (key-argument (now (c .before .before .before .before .before .before .before .args .w)) e)) (c .on-keyword .ensures)
+    rw (sym (key-said w) ∙ ap keywordSays e, sym (key-argument w e)) (c .on-keyword .ensures)
 
 returns-2 : tie.Need-returns-2
-returns-2 c = rw (sym (c .before .before .before .key-of .ensures), c .before .enum-told .given .1) (c .stopped .ensures)
+returns-2 c = rw (sym (key-said (now (c .before .before .before .before .before .args .w))) ∙ ap keywordSays (sym (c .before .before .before .key-of .ensures) ∙ c .before .enum-told .given .1)) (c .stopped .ensures)
 
 returns-3 : tie.Need-returns-3
-returns-3 c = rw (sym (c .before .before .before .key-of .ensures), c .before .enum-told2 .given .1) (c .stopped2 .ensures)
+returns-3 c = rw (sym (key-said (now (c .before .before .before .before .before .args .w))) ∙ ap keywordSays (sym (c .before .before .before .key-of .ensures) ∙ c .before .enum-told2 .given .1)) (c .stopped2 .ensures)
 
 pub keyword-line-spec : {M : Type 1} → statement M
 keyword-line-spec =

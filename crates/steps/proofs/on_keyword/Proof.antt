@@ -6,8 +6,8 @@ use Rattle.steps.proofs.on_keyword.Tie as tie
 enum-told : tie.Need-enum-told
 enum-told c = search needs
 
-version-again-requires : tie.Need-version-again-requires
-version-again-requires c κs = search needs
+version-key-requires : tie.Need-version-key-requires
+version-key-requires c κs = search needs
 
 enum-known-key : tie.Need-enum-known-key
 enum-known-key c = search needs
@@ -40,7 +40,7 @@ end-key-requires : tie.Need-end-key-requires
 end-key-requires c κs = search needs
 
 returns : tie.Need-returns
-returns c = rw (c .before .enum-told .given .1) (c .version-again .ensures)
+returns c = rw (c .before .enum-told .given .1) (c .version-key .ensures)
 
 returns-2 : tie.Need-returns-2
 returns-2 c = rw (c .before .before .key .given .1) (c .header-key .ensures)
@@ -62,7 +62,7 @@ on-keyword-spec =
     tie.close
     (tie.spec
     enum-told
-    version-again-requires
+    version-key-requires
     enum-known-key
     header-key-requires
     enum-known-key-2

@@ -36,8 +36,8 @@ model-shut-requires c κs = search needs
 enum-told-2 : tie.Need-enum-told-2
 enum-told-2 c = search needs
 
-quiet-requires-2 : tie.Need-quiet-requires-2
-quiet-requires-2 c κs = search needs
+stopped-requires : tie.Need-stopped-requires
+stopped-requires c κs = search needs
 
 returns : tie.Need-returns
 returns c = rw (c .before .enum-told .given .1) (c .quiet .ensures)
@@ -55,7 +55,7 @@ returns-5 : tie.Need-returns-5
 returns-5 c = rw (c .before .before .s4 .given .1) (c .model-shut .ensures)
 
 returns-6 : tie.Need-returns-6
-returns-6 c = rw (c .before .enum-told2 .given .1) (c .quiet2 .ensures)
+returns-6 c = rw (c .before .enum-told2 .given .1) (c .stopped .ensures)
 
 pub shut-list-spec : {M : Type 1} → statement M
 shut-list-spec =
@@ -72,7 +72,7 @@ shut-list-spec =
     enum-known-s-4
     model-shut-requires
     enum-told-2
-    quiet-requires-2
+    stopped-requires
     returns
     returns-2
     returns-3

@@ -2,7 +2,7 @@
 use native.Mathlib.Omega.{arith}
 use borrow.Author.Needs.{needs}
 use denote.Ref.{now}
-use Rattle.words.proofs.Laws.{words-none, words-some, word-rises}
+use Rattle.words.proofs.Laws.{run-from, words-none, words-some, word-rises}
 use Rattle.words.proofs.word_at.Statement.{statement}
 use Rattle.words.proofs.word_at.Tie as tie
 
@@ -17,6 +17,7 @@ returns c =
     let s = now (c .before .before .before .args .s) in
     let a = c .before .skip-blanks .ensures in
     record {
+      is = run-from s _ _ _ (a .0) (c .skip-ink .ensures .0);
       none = λ h. words-none s _ _ (a .0) h;
       some = λ h. words-some s _ _ (a .0) h _ (c .skip-ink .ensures .0);
       rises = λ h. word-rises s _ _ (a .0) h _ (c .skip-ink .ensures .0);

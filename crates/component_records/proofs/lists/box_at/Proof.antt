@@ -1,8 +1,7 @@
 -- Each arm by computing at its number; past them nothing is set.
-use mathlib.Core.Path.{sym}
-use lib.Seq.{set-out}
+use native.Mathlib.Omega.{arith}
+use borrow.Author.Tests.{ne-eqb}
 use Rattle.laws.proofs.Numbers.{apart-le}
-use Rattle.component_records.specs.Views.{boxesOf}
 use Rattle.component_records.proofs.lists.box_at.Statement.{statement}
 use Rattle.component_records.proofs.lists.box_at.Tie as tie
 
@@ -16,7 +15,10 @@ returns-3 : tie.Need-returns-3
 returns-3 c = rw (c .match .keys3)
 
 returns-4 : tie.Need-returns-4
-returns-4 c = sym (set-out (boxesOf (c .before .args .b)) (c .before .args .n) _ (apart-le 3 (c .before .args .n) (c .match .rest)))
+returns-4 c =
+    let n = c .before .args .n in
+    let past = apart-le 3 n (c .match .rest) in
+    rw (ne-eqb n 0 (λ e. omega arith), ne-eqb n 1 (λ e. omega arith), ne-eqb n 2 (λ e. omega arith))
 
 pub box-at-spec : {M : Type 1} → statement M
 box-at-spec = tie.close (tie.spec returns returns-2 returns-3 returns-4)

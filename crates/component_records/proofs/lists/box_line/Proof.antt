@@ -1,6 +1,10 @@
--- By the place of the line's name.
-use mathlib.Core.Path.{sym}
+-- By the place of the line's name, and by what its cells say.
+use mathlib.Core.Path.{sym, _∙_}
 use borrow.Author.Needs.{needs}
+use denote.Ref.{now}
+use Rattle.line_rules.specs.Fields.{cellsLine}
+use Rattle.line_rules.proofs.Answers.{triple-said}
+use Rattle.component_records.proofs.Lines.{box-named, box-flawed, box-nothing}
 use Rattle.component_records.proofs.lists.box_line.Statement.{statement}
 use Rattle.component_records.proofs.lists.box_line.Tie as tie
 
@@ -10,11 +14,11 @@ package-line-requires c κs = search needs
 enum-known-n : tie.Need-enum-known-n
 enum-known-n c = search needs
 
-named-cells-requires : tie.Need-named-cells-requires
-named-cells-requires c κs = search needs
+cells-line-requires : tie.Need-cells-line-requires
+cells-line-requires c κs = search needs
 
-triple-is-requires : tie.Need-triple-is-requires
-triple-is-requires c κs = search needs
+enum-known-cells : tie.Need-enum-known-cells
+enum-known-cells c = search needs
 
 box-at-requires : tie.Need-box-at-requires
 box-at-requires c κs = search needs
@@ -22,11 +26,25 @@ box-at-requires c κs = search needs
 enum-told : tie.Need-enum-told
 enum-told c = search needs
 
+enum-told-2 : tie.Need-enum-told-2
+enum-told-2 c = search needs
+
 returns : tie.Need-returns
-returns c = rw (sym (c .before .before .before .before .before .before .package-line .ensures), c .before .before .before .before .n .given .1, sym (c .before .before .named-cells .ensures), sym (c .before .triple-is .ensures)) (c .box-at .ensures)
+returns c =
+    let a = c .before .before .before .before .before .before .before .before .before .before .args in
+    let cells = triple-said _ (cellsLine (now (a .w))) (sym (c .before .before .cells .given .1) ∙ c .before .before .before .before .cells-line .ensures) in
+    c .box-at .ensures ∙ box-named (a .b) (now (a .w)) _ _ (sym (c .before .before .before .before .before .before .before .before .package-line .ensures) ∙ c .before .before .before .before .before .before .n .given .1) (sym cells)
 
 returns-2 : tie.Need-returns-2
-returns-2 c = rw (sym (c .before .before .package-line .ensures), c .enum-told .given .1)
+returns-2 c =
+    let a = c .before .before .before .before .before .before .before .before .args in
+    let cells = triple-said _ (cellsLine (now (a .w))) (sym (c .enum-told .given .1) ∙ c .before .before .cells-line .ensures) in
+    box-flawed (a .b) (now (a .w)) _ (sym cells)
+
+returns-3 : tie.Need-returns-3
+returns-3 c =
+    let a = c .before .before .before .before .args in
+    box-nothing (a .b) (now (a .w)) (sym (c .before .before .package-line .ensures) ∙ c .enum-told2 .given .1)
 
 pub box-line-spec : {M : Type 1} → statement M
 box-line-spec =
@@ -34,9 +52,11 @@ box-line-spec =
     (tie.spec
     package-line-requires
     enum-known-n
-    named-cells-requires
-    triple-is-requires
+    cells-line-requires
+    enum-known-cells
     box-at-requires
     enum-told
+    enum-told-2
     returns
-    returns-2)
+    returns-2
+    returns-3)

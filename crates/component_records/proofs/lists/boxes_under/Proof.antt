@@ -1,21 +1,20 @@
--- A fold over the lines (`package-fold`) that holds the list as boxes.
+-- A fold over the lines (`box-fold`) that holds the list as boxes.
 use Prim.Native.Nat.{_-_}
 use lib.ListN.{length}
 use borrow.Author.Needs.{needs}
 use Rattle.lines_under.proofs.Folds.{Gathers, gathers-start, line-starts, line-fits, line-less, gathers-line, gathers-end}
-use Rattle.component_records.specs.Views.{boxesOf}
-use Rattle.component_records.proofs.Lines.{package-fold}
+use Rattle.component_records.proofs.Lines.{box-fold}
 use Rattle.component_records.proofs.lists.boxes_under.Statement.{statement}
 use Rattle.component_records.proofs.lists.boxes_under.Tie as tie
 
 abbrev Inv-loop : tie.InvT-loop
-Inv-loop src boxes₀ d₀ boxes d = Gathers package-fold src d₀ d (boxesOf boxes₀) (boxesOf boxes)
+Inv-loop src boxes₀ d₀ boxes d = Gathers box-fold src d₀ d boxes₀ boxes
 
 abbrev μ-loop : tie.MeasureT-loop
 μ-loop src boxes₀ d₀ boxes d = length src - d .at
 
 loop-holds : tie.Need-loop-holds Inv-loop μ-loop
-loop-holds c = gathers-start package-fold _ _ _ (c .before .pre)
+loop-holds c = gathers-start box-fold _ _ _ (c .before .pre)
 
 next-line-requires : tie.Need-next-line-requires Inv-loop μ-loop
 next-line-requires c κs = c .loop .inv .along .placed

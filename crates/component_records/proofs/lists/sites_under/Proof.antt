@@ -1,21 +1,20 @@
--- A fold over the lines (`location-fold`) that holds the list as sites.
+-- A fold over the lines (`site-fold`) that holds the list as sites.
 use Prim.Native.Nat.{_-_}
 use lib.ListN.{length}
 use borrow.Author.Needs.{needs}
 use Rattle.lines_under.proofs.Folds.{Gathers, gathers-start, line-starts, line-fits, line-less, gathers-line, gathers-end}
-use Rattle.component_records.specs.Views.{sitesOf}
-use Rattle.component_records.proofs.Lines.{location-fold}
+use Rattle.component_records.proofs.Lines.{site-fold}
 use Rattle.component_records.proofs.lists.sites_under.Statement.{statement}
 use Rattle.component_records.proofs.lists.sites_under.Tie as tie
 
 abbrev Inv-loop : tie.InvT-loop
-Inv-loop src sites₀ d₀ sites d = Gathers location-fold src d₀ d (sitesOf sites₀) (sitesOf sites)
+Inv-loop src sites₀ d₀ sites d = Gathers site-fold src d₀ d sites₀ sites
 
 abbrev μ-loop : tie.MeasureT-loop
 μ-loop src sites₀ d₀ sites d = length src - d .at
 
 loop-holds : tie.Need-loop-holds Inv-loop μ-loop
-loop-holds c = gathers-start location-fold _ _ _ (c .before .pre)
+loop-holds c = gathers-start site-fold _ _ _ (c .before .pre)
 
 next-line-requires : tie.Need-next-line-requires Inv-loop μ-loop
 next-line-requires c κs = c .loop .inv .along .placed

@@ -3,7 +3,6 @@ use borrow.Author.Needs.{needs}
 use denote.Ref.{now}
 use Rattle.laws.proofs.Lists.{part-rest}
 use Rattle.rules.specs.Reading.{choiceIn}
-use Rattle.layout.specs.Laid.{choiceLaid}
 use Rattle.component_records.proofs.Words.{word-from, choice-fits, choice-behind}
 use Rattle.component_records.proofs.rows.choice_of.Statement.{statement}
 use Rattle.component_records.proofs.rows.choice_of.Tie as tie
@@ -39,7 +38,7 @@ words-of-requires : tie.Need-words-of-requires
 words-of-requires c κs = search needs
 
 returns : tie.Need-returns
-unfolding choiceLaid choiceIn
+unfolding choiceIn
 returns c =
     let w = now (c .before .before .before .before .before .before .before .before .args .w) in
     let m = word-from w 0 _ (c .before .before .before .before .before .before .word-at .ensures) in

@@ -1,7 +1,7 @@
--- Six words, each from where the one before ends, by `word-from`; their record by `pin-laid`.
+-- Three words, each from where the one before ends, by `word-from`; with the cells behind them, by `pin-is`.
 use borrow.Author.Needs.{needs}
 use denote.Ref.{now}
-use Rattle.component_records.proofs.Words.{word-from, pin-laid}
+use Rattle.component_records.proofs.Words.{word-from, pin-is}
 use Rattle.component_records.proofs.rows.pin_of.Statement.{statement}
 use Rattle.component_records.proofs.rows.pin_of.Tie as tie
 
@@ -14,14 +14,11 @@ word-at-requires-2 c κs = search needs
 word-at-requires-3 : tie.Need-word-at-requires-3
 word-at-requires-3 c κs = search needs
 
-word-at-requires-4 : tie.Need-word-at-requires-4
-word-at-requires-4 c κs = search needs
+pin-cells-requires : tie.Need-pin-cells-requires
+pin-cells-requires c κs = search needs
 
-word-at-requires-5 : tie.Need-word-at-requires-5
-word-at-requires-5 c κs = search needs
-
-word-at-requires-6 : tie.Need-word-at-requires-6
-word-at-requires-6 c κs = search needs
+triple-is-requires : tie.Need-triple-is-requires
+triple-is-requires c κs = search needs
 
 name-at-requires : tie.Need-name-at-requires
 name-at-requires c κs = search needs
@@ -32,20 +29,11 @@ name-at-requires-2 c κs = search needs
 model-at-requires : tie.Need-model-at-requires
 model-at-requires c κs = search needs
 
-cell-at-requires : tie.Need-cell-at-requires
-cell-at-requires c κs = search needs
-
-cell-at-requires-2 : tie.Need-cell-at-requires-2
-cell-at-requires-2 c κs = search needs
-
-cell-at-requires-3 : tie.Need-cell-at-requires-3
-cell-at-requires-3 c κs = search needs
-
 returns : tie.Need-returns
 returns c =
-    let w = now (c .before .before .before .before .before .before .before .before .before .before .before .before .before .args .w) in
-    rw (c .before .before .before .before .before .name-at .ensures, c .before .before .before .before .name-at2 .ensures, c .before .before .before .model-at .ensures, c .before .before .cell-at .ensures, c .before .cell-at2 .ensures, c .cell-at3 .ensures)
-    (pin-laid w _ _ _ _ _ _ (word-from w _ _ (c .before .before .before .before .before .before .before .before .before .before .before .word-at .ensures)) (word-from w _ _ (c .before .before .before .before .before .before .before .before .before .before .word-at2 .ensures)) (word-from w _ _ (c .before .before .before .before .before .before .before .before .before .word-at3 .ensures)) (word-from w _ _ (c .before .before .before .before .before .before .before .before .word-at4 .ensures)) (word-from w _ _ (c .before .before .before .before .before .before .before .word-at5 .ensures)) (word-from w _ _ (c .before .before .before .before .before .before .word-at6 .ensures)))
+    let w = now (c .before .before .before .before .before .before .before .before .before .args .w) in
+    rw (c .before .before .name-at .ensures, c .before .name-at2 .ensures, c .model-at .ensures, c .before .before .before .triple-is .ensures)
+    (pin-is w _ _ _ (word-from w _ _ (c .before .before .before .before .before .before .before .word-at .ensures)) (word-from w _ _ (c .before .before .before .before .before .before .word-at2 .ensures)) (word-from w _ _ (c .before .before .before .before .before .word-at3 .ensures)) _ (c .before .before .before .before .pin-cells .ensures))
 
 pub pin-of-spec : {M : Type 1} → statement M
 pin-of-spec =
@@ -54,13 +42,9 @@ pin-of-spec =
     word-at-requires
     word-at-requires-2
     word-at-requires-3
-    word-at-requires-4
-    word-at-requires-5
-    word-at-requires-6
+    pin-cells-requires
+    triple-is-requires
     name-at-requires
     name-at-requires-2
     model-at-requires
-    cell-at-requires
-    cell-at-requires-2
-    cell-at-requires-3
     returns)

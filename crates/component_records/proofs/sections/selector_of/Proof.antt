@@ -2,8 +2,9 @@
 use borrow.Author.Needs.{needs}
 use lib.ListN.{length-map}
 use denote.Ref.{now}
-use Rattle.cut_lines.specs.Texts.{rest}
-use Rattle.layout.specs.Laid.{selectorLaid}
+use Rattle.cut_lines.specs.Cursors.{rest}
+use Rattle.laws.specs.Lists.{front}
+use Rattle.rules.specs.Reading.{under, isWithin, choiceIn, choicesIn}
 use Rattle.lines_under.proofs.Laws.{under-within}
 use Rattle.component_records.proofs.sections.selector_of.Statement.{statement}
 use Rattle.component_records.proofs.sections.selector_of.Tie as tie
@@ -15,10 +16,10 @@ name-of-requires : tie.Need-name-of-requires
 name-of-requires c κs = search needs
 
 returns : tie.Need-returns
-unfolding selectorLaid
+unfolding choicesIn
 returns c =
     let ts = rest (now (c .before .before .before .before .args .src)) (c .before .before .before .before .args .c) in
-    rw (c .name-of .ensures, c .before .count-lines .ensures .count, length-map, under-within ts)
+    rw (c .name-of .ensures, c .before .count-lines .ensures .count, length-map (under (front isWithin ts)) choiceIn, under-within ts)
 
 pub selector-of-spec : {M : Type 1} → statement M
 selector-of-spec = tie.close (tie.spec count-lines-requires name-of-requires returns)

@@ -1,8 +1,7 @@
--- The lines under [Package], by `stands-package`; behind them the same keywords follow.
-use mathlib.Core.Path.{refl}
+-- The lines under [Package]; behind them the same keywords follow.
 use native.Mathlib.Omega.{arith}
 use borrow.Author.Needs.{needs}
-use Rattle.component_records.proofs.Keys.{keys-stop, stands-package}
+use Rattle.lines_under.proofs.Keyed.{keys-stop}
 use Rattle.component_records.proofs.sections.with_package.Statement.{statement}
 use Rattle.component_records.proofs.sections.with_package.Tie as tie
 
@@ -14,7 +13,7 @@ returns c =
     let b = c .before .before .boxes-under .ensures in
     λ w.
     record {
-      stands = λ n ls x h. stands-package w _ h refl _ (b .boxes);
+      parts = rw (b .boxes);
       keys = keys-stop (b .stops);
       placed = b .stops .placed;
       rises = b .stops .rises;

@@ -3,9 +3,6 @@ use mathlib.Core.Path.{refl}
 use native.Mathlib.Omega.{arith}
 use borrow.Author.Needs.{needs}
 use denote.Ref.{now}
-use Rattle.cut_lines.specs.Texts.{rest}
-use Rattle.rules.specs.Reading.{under}
-use Rattle.component_records.proofs.Keys.{stands-manufacturer}
 use Rattle.component_records.proofs.sections.with_part.Statement.{statement}
 use Rattle.component_records.proofs.sections.with_part.Tie as tie
 
@@ -30,7 +27,7 @@ with-pins-requires c κs = search needs
 returns : tie.Need-returns
 returns c =
     record {
-      stands = λ n ls x h. stands-manufacturer _ (under (rest (now (c .before .before .before .before .before .before .args .src)) (c .before .before .before .before .before .before .args .c))) h (c .before .before .enum-told .given .1) (c .name-of .result) (c .name-of .ensures);
+      parts = rw (c .before .before .enum-told .given .1, c .name-of .ensures);
       keys = refl;
       placed = c .before .before .before .before .before .before .pre .0;
       rises = omega arith;

@@ -1,11 +1,7 @@
--- The lines under [Pin], by `stands-pin`; behind them the same keywords follow.
-use mathlib.Core.Path.{refl}
+-- The lines under [Pin]; behind them the same keywords follow.
 use native.Mathlib.Omega.{arith}
 use borrow.Author.Needs.{needs}
-use denote.Ref.{now}
-use Rattle.cut_lines.specs.Texts.{rest}
-use Rattle.rules.specs.Reading.{under}
-use Rattle.component_records.proofs.Keys.{keys-stop, stands-pin}
+use Rattle.lines_under.proofs.Keyed.{keys-stop}
 use Rattle.component_records.proofs.sections.with_pins.Statement.{statement}
 use Rattle.component_records.proofs.sections.with_pins.Tie as tie
 
@@ -22,7 +18,7 @@ returns c =
     let l = c .before .before .before .count-lines .ensures in
     λ w.
     record {
-      stands = λ n ls x h. stands-pin w (under (rest (now (c .before .before .before .before .before .before .before .args .src)) (c .before .before .before .before .before .before .before .args .c))) h refl _ (l .count);
+      parts = rw (l .count);
       keys = keys-stop (l .stops);
       placed = l .stops .placed;
       rises = l .stops .rises;

@@ -26,17 +26,11 @@ sort-by-kind-requires c κs =
 accepted-requires : tie.Need-accepted-requires
 accepted-requires c κs = search needs
 
-enum-known-k : tie.Need-enum-known-k
-enum-known-k c = search needs
+enum-known-f : tie.Need-enum-known-f
+enum-known-f c = search needs
 
 refused-requires : tie.Need-refused-requires
 refused-requires c κs = search needs
-
-enum-known-k-2 : tie.Need-enum-known-k-2
-enum-known-k-2 c = search needs
-
-refused-requires-2 : tie.Need-refused-requires-2
-refused-requires-2 c κs = search needs
 
 same-length : tie.Need-same-length
 same-length c = search needs
@@ -58,18 +52,7 @@ returns-2 c =
     let s = now (a .src) in
     let xs = now (a .notes) in
     let done = passed (heldOf (logOf s xs (a .t))) in
-    refuses (a .l) s _ _ 15 _ (through (a .l) s xs (a .t) (c .before .before .before .before .before .before .before .before .before .before .pre) ∙ c .before .before .before .before .before .before .last-fault .ensures .0 done ∙ ap (lastIs done) (c .before .before .k .given .1)) (c .refused .ensures)
-
-same-length-3 : tie.Need-same-length-3
-same-length-3 c = search needs
-
-returns-3 : tie.Need-returns-3
-returns-3 c =
-    let a = c .before .before .before .before .before .before .before .before .before .before .args in
-    let s = now (a .src) in
-    let xs = now (a .notes) in
-    let done = passed (heldOf (logOf s xs (a .t))) in
-    refuses (a .l) s _ _ 16 _ (through (a .l) s xs (a .t) (c .before .before .before .before .before .before .before .before .before .before .pre) ∙ c .before .before .before .before .before .before .last-fault .ensures .0 done ∙ ap (lastIs done) (c .before .before .k2 .given .1)) (c .refused2 .ensures)
+    refuses (a .l) s _ _ _ _ (through (a .l) s xs (a .t) (c .before .before .before .before .before .before .before .before .before .before .pre) ∙ c .before .before .before .before .before .before .last-fault .ensures .0 done ∙ ap (lastIs done) (c .before .before .f .given .1)) (c .refused .ensures)
 
 pub last-checks-spec : {M : Type 1} → statement M
 last-checks-spec =
@@ -79,13 +62,9 @@ last-checks-spec =
     enum-told
     sort-by-kind-requires
     accepted-requires
-    enum-known-k
+    enum-known-f
     refused-requires
-    enum-known-k-2
-    refused-requires-2
     same-length
     returns
     same-length-2
-    returns-2
-    same-length-3
-    returns-3)
+    returns-2)

@@ -1,9 +1,9 @@
 -- By whether a name is used twice, and how far the lines are read.
-use mathlib.Core.Path.{sym, ap, _∙_}
+use mathlib.Core.Path.{sym, _∙_}
 use native.Mathlib.Omega.{arith}
 use borrow.Author.Needs.{needs}
 use denote.Ref.{now}
-use Rattle.name_checks.specs.Lookup.{clashIs}
+use Rattle.name_checks.proofs.ClashLaws.{found-clash, no-clash}
 use Rattle.file_answer.proofs.Laws.{small}
 use Rattle.file_answer.proofs.Accepts.{refuses, twice, broken, all-read}
 use Rattle.file_answer.proofs.settling.settle.Statement.{statement}
@@ -30,7 +30,7 @@ enum-told-2 c = search needs
 last-checks-requires : tie.Need-last-checks-requires
 last-checks-requires c κs =
     let a = c .before .before .before .before .before .before .before .before .before .before .before .before .before .before .args in
-    all-read (a .l) (now (a .src)) (c .before .before .before .before .before .before .before .before .before .before .scan .last .0) (c .before .before .before .before .before .before .before .before .before .before .scan .result) (c .before .before .before .before .before .before .before .before .before .before .before .before .before .before .pre .0) (c .before .before .before .before .before .before .before .before .before .before .scan .ensures .0) (sym (c .before .before .before .before .before .first-clash .ensures) ∙ ap clashIs (c .before .before .before .enum-told .given .1)) (c .before .enum-told2 .given .1) (c .before .before .before .before .before .before .before .before .before .before .scan .ensures .1 .1) (omega (arith, c .before .before .before .before .before .before .before .before .before .notes .given, c .before .before .before .before .before .before .before .before .before .before .before .before .before .before .pre .1))
+    all-read (a .l) (now (a .src)) (c .before .before .before .before .before .before .before .before .before .before .scan .last .0) (c .before .before .before .before .before .before .before .before .before .before .scan .result) (c .before .before .before .before .before .before .before .before .before .before .before .before .before .before .pre .0) (c .before .before .before .before .before .before .before .before .before .before .scan .ensures .0) (no-clash _ (sym (c .before .before .before .enum-told .given .1) ∙ c .before .before .before .before .before .first-clash .ensures)) (c .before .enum-told2 .given .1) (c .before .before .before .before .before .before .before .before .before .before .scan .ensures .1 .1) (omega (arith, c .before .before .before .before .before .before .before .before .before .notes .given, c .before .before .before .before .before .before .before .before .before .before .before .before .before .before .pre .1))
 
 enum-known-ending : tie.Need-enum-known-ending
 enum-known-ending c = search needs
@@ -45,7 +45,7 @@ returns : tie.Need-returns
 returns c =
     let a = c .before .before .before .before .before .before .before .before .before .before .before .before .before .args in
     let s = now (a .src) in
-    refuses (a .l) s _ _ 14 _ (twice (a .l) s (c .before .before .before .before .before .before .before .before .before .scan .last .0) (c .before .before .before .before .before .before .before .before .before .scan .result) (c .before .before .before .before .before .before .before .before .before .before .before .before .before .pre .0) (c .before .before .before .before .before .before .before .before .before .scan .ensures .0) _ (sym (c .before .before .before .before .first-clash .ensures) ∙ ap clashIs (c .before .before .k .given .1))) (c .refused .ensures)
+    refuses (a .l) s _ _ 14 _ (twice (a .l) s (c .before .before .before .before .before .before .before .before .before .scan .last .0) (c .before .before .before .before .before .before .before .before .before .scan .result) (c .before .before .before .before .before .before .before .before .before .before .before .before .before .pre .0) (c .before .before .before .before .before .before .before .before .before .scan .ensures .0) _ (found-clash _ _ (sym (c .before .before .k .given .1) ∙ c .before .before .before .before .first-clash .ensures))) (c .refused .ensures)
 
 same-length-2 : tie.Need-same-length-2
 same-length-2 c = search needs
@@ -60,7 +60,7 @@ returns-3 : tie.Need-returns-3
 returns-3 c =
     let a = c .before .before .before .before .before .before .before .before .before .before .before .before .before .before .before .args in
     let s = now (a .src) in
-    refuses (a .l) s _ _ _ _ (broken (a .l) s (c .before .before .before .before .before .before .before .before .before .before .before .scan .last .0) (c .before .before .before .before .before .before .before .before .before .before .before .scan .result) (c .before .before .before .before .before .before .before .before .before .before .before .before .before .before .before .pre .0) (c .before .before .before .before .before .before .before .before .before .before .before .scan .ensures .0) _ (sym (c .before .before .before .before .before .before .first-clash .ensures) ∙ ap clashIs (c .before .before .before .before .enum-told .given .1)) (c .before .before .ending .given .1)) (c .refused2 .ensures)
+    refuses (a .l) s _ _ _ _ (broken (a .l) s (c .before .before .before .before .before .before .before .before .before .before .before .scan .last .0) (c .before .before .before .before .before .before .before .before .before .before .before .scan .result) (c .before .before .before .before .before .before .before .before .before .before .before .before .before .before .before .pre .0) (c .before .before .before .before .before .before .before .before .before .before .before .scan .ensures .0) _ (no-clash _ (sym (c .before .before .before .before .enum-told .given .1) ∙ c .before .before .before .before .before .before .first-clash .ensures)) (c .before .before .ending .given .1)) (c .refused2 .ensures)
 
 pub settle-spec : {M : Type 1} → statement M
 settle-spec =

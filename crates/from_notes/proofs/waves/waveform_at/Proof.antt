@@ -5,7 +5,6 @@ use lib.ListN.{getD}
 use native.Mathlib.Omega.{arith}
 use borrow.Author.Needs.{needs}
 use denote.Ref.{now}
-use Rattle.layout.specs.Laid.{waveformLaid}
 use Rattle.note_words.specs.Store.{wavesFrom, wordsPerWave, waveAt}
 use Rattle.layout_by_notes.specs.Lies.{waveformFrom, waveNoted}
 use Rattle.from_notes.specs.Made.{waveformAt}
@@ -35,7 +34,7 @@ returns c =
     let at : ℕ = wavesFrom + wordsPerWave * c .before .before .before .before .before .before .before .args .i in
     let z : c .before .before .before .before .wave-word .result ≡ getD ns at 0 = c .before .before .before .before .wave-word .ensures ∙ ap (λ (k : ℕ). getD ns k 0) (omega arith) in
     rw (c .waveform-from .ensures, c .before .before .wave-word3 .ensures, sym (c .before .before .before .wave-word2 .ensures), sym z)
-    (ap (waveformLaid (getD ns (at + 3) 0)) (stands waveformFrom waveform-numberless (c .before .cursor-at .ensures) (getD ns (at + 1) 0)))
+    (stands (waveformFrom (getD ns (at + 3) 0)) (waveform-numberless (getD ns (at + 3) 0)) (c .before .cursor-at .ensures) (getD ns (at + 1) 0))
 
 pub waveform-at-spec : {M : Type 1} → statement M
 waveform-at-spec =

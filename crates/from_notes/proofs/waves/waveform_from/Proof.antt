@@ -4,7 +4,6 @@ use native.Mathlib.Omega.{arith}
 use borrow.Author.Needs.{needs}
 use denote.Ref.{now}
 use Rattle.cut_lines.specs.Cursors.{NextIs}
-use Rattle.layout.specs.Laid.{waveformLaid}
 use Rattle.from_notes.proofs.Edges.{from-text, from-change, from-none}
 use Rattle.from_notes.proofs.waves.waveform_from.Statement.{statement}
 use Rattle.from_notes.proofs.waves.waveform_from.Tie as tie
@@ -55,17 +54,17 @@ waveform-of-requires-3 c κs = search needs
 returns : tie.Need-returns
 returns c =
     let t = subst (NextIs (now (c .before .before .before .before .before .before .before .before .args .src)) (c .before .before .before .before .before .before .before .before .args .c)) (c .before .before .before .before .line .given .1) (c .before .before .before .before .before .before .next-text .ensures) in
-    rw (c .waveform-of .ensures) (ap (waveformLaid (c .before .before .before .before .before .before .before .before .args .row)) (from-text t (c .before .line-edge .ensures)))
+    rw (c .waveform-of .ensures) (from-text (c .before .before .before .before .before .before .before .before .args .row) t (c .before .line-edge .ensures))
 
 returns-2 : tie.Need-returns-2
 returns-2 c =
     let t = subst (NextIs (now (c .before .before .before .before .before .before .args .src)) (c .before .before .before .before .before .before .args .c)) (c .before .before .line2 .given .1) (c .before .before .before .before .next-text .ensures) in
-    rw (c .waveform-of2 .ensures) (ap (waveformLaid (c .before .before .before .before .before .before .args .row)) (from-change t))
+    rw (c .waveform-of2 .ensures) (from-change (c .before .before .before .before .before .before .args .row) t)
 
 returns-3 : tie.Need-returns-3
 returns-3 c =
     let t = subst (NextIs (now (c .before .before .before .before .before .before .args .src)) (c .before .before .before .before .before .before .args .c)) (c .before .before .line3 .given .1) (c .before .before .before .before .next-text .ensures) in
-    rw (c .waveform-of3 .ensures) (ap (waveformLaid (c .before .before .before .before .before .before .args .row)) (from-none t))
+    rw (c .waveform-of3 .ensures) (from-none (c .before .before .before .before .before .before .args .row) t)
 
 pub waveform-from-spec : {M : Type 1} → statement M
 waveform-from-spec =

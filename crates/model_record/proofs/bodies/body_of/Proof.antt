@@ -1,14 +1,18 @@
--- What the keywords from here on give is what they give from the first: `builds-part` at a turn.
+-- What the keywords from here on give is what they give from the first: `builds-key` at a turn.
 use Prim.Native.Nat.{_-_}
-use mathlib.Core.Path.{refl, ap, _∙_, subst}
+use mathlib.Core.Path.{sym, ap, _∙_}
 use lib.ListN.{length}
 use native.Mathlib.Omega.{arith}
-use borrow.Author.Needs.{needs}
 use denote.Ref.{now}
-use Rattle.cut_lines.specs.Texts.{rest}
-use Rattle.table_rows.specs.Parts.{partsIn, PartNextIs}
-use Rattle.model_record.specs.Bodies.{bodyFrom}
-use Rattle.model_record.proofs.Takes.{Builds, builds-part, builds-end}
+use borrow.Author.Needs.{needs}
+use Rattle.laws.specs.Lists.{front}
+use Rattle.cut_lines.specs.Cursors.{rest}
+use Rattle.rules.specs.Reading.{isWithin}
+use Rattle.lines_under.proofs.Keyed.{key-found, key-out, follows-start, follows-end, follows-out}
+use Rattle.model_record.specs.Bodies.{bodyOn}
+use Rattle.model_record.specs.declared.Body.{Body}
+use Rattle.model_record.proofs.BodyLaws.{body-fold}
+use Rattle.model_record.proofs.Takes.{Builds, builds-key}
 use Rattle.model_record.proofs.bodies.body_of.Statement.{statement}
 use Rattle.model_record.proofs.bodies.body_of.Tie as tie
 
@@ -22,55 +26,63 @@ bare-body-requires : tie.Need-bare-body-requires Inv-loop μ-loop
 bare-body-requires c κs = search needs
 
 loop-holds : tie.Need-loop-holds Inv-loop μ-loop
-loop-holds c = record { same = refl; placed = c .before .before .pre .0; fits = rw (c .bare-body .ensures) (record { row = omega (arith, c .before .before .pre .1); waveforms = omega arith }) }
+loop-holds c = record { placed = c .before .before .pre .0; fits = rw (c .bare-body .ensures) (record { row = omega (arith, c .before .before .pre .1); waveforms = omega arith }); follows = follows-start body-fold _ _ _ }
 
-next-part-requires : tie.Need-next-part-requires Inv-loop μ-loop
-next-part-requires c κs = c .loop .inv .placed
+next-key-requires : tie.Need-next-key-requires Inv-loop μ-loop
+next-key-requires c κs = c .loop .inv .placed
 
-enum-known-part : tie.Need-enum-known-part Inv-loop μ-loop
-enum-known-part c = search needs
+enum-known-keyword : tie.Need-enum-known-keyword Inv-loop μ-loop
+enum-known-keyword c = search needs
 
-sub-take-part : tie.Need-sub-take-part Inv-loop μ-loop
-sub-take-part c =
-    let s = now (c .before .before .before .before .before .before .before .args .src) in
-    let l = subst (PartNextIs s (c .before .before .before .before .loop .d)) (c .before .part .given .1) (c .before .before .before .next-part .ensures) in
-    omega (arith, l .starts)
+ends-requires : tie.Need-ends-requires Inv-loop μ-loop
+ends-requires c κs = search needs
 
-part-take-part-start : tie.Need-part-take-part-start Inv-loop μ-loop
-part-take-part-start c =
-    let s = now (c .before .before .before .before .before .before .before .args .src) in
-    let l = subst (PartNextIs s (c .before .before .before .before .loop .d)) (c .before .part .given .1) (c .before .before .before .next-part .ensures) in
-    omega (arith, l .starts)
+returns : tie.Need-returns Inv-loop μ-loop
+returns c =
+    let a = c .before .before .before .before .before .before .before .before .before .args in
+    follows-end body-fold (c .before .before .before .before .before .before .loop .inv .follows) (key-found (c .before .before .before .keyword .given .1) (c .before .before .before .before .before .next-key .ensures)) (sym (c .before .ends .ensures) ∙ c .if1 .taken)
+    ∙ ap (λ (b : Body). bodyOn b (front isWithin (rest (now (a .src)) (a .c)))) (c .before .before .before .before .before .before .before .bare-body .ensures)
 
-part-take-part-end : tie.Need-part-take-part-end Inv-loop μ-loop
-part-take-part-end c =
-    let s = now (c .before .before .before .before .before .before .before .args .src) in
-    let l = subst (PartNextIs s (c .before .before .before .before .loop .d)) (c .before .part .given .1) (c .before .before .before .next-part .ensures) in
-    l .fits
+sub-take-key : tie.Need-sub-take-key Inv-loop μ-loop
+sub-take-key c =
+    let h = key-found (c .before .before .before .keyword .given .1) (c .before .before .before .before .before .next-key .ensures) in
+    omega (arith, h .starts)
 
-take-part-requires : tie.Need-take-part-requires Inv-loop μ-loop
-take-part-requires c κs =
-    let s = now (c .before .before .before .before .before .before .before .before .args .src) in
-    let l = subst (PartNextIs s (c .before .before .before .before .before .loop .d)) (c .before .before .part .given .1) (c .before .before .before .before .next-part .ensures) in
-    (l .placed, omega (arith, c .before .before .before .before .before .loop .inv .fits .row, l .rises), omega (arith, c .before .before .before .before .before .loop .inv .fits .waveforms, l .rises))
+part-take-key-start : tie.Need-part-take-key-start Inv-loop μ-loop
+part-take-key-start c =
+    let h = key-found (c .before .before .before .keyword .given .1) (c .before .before .before .before .before .next-key .ensures) in
+    omega (arith, h .starts)
+
+part-take-key-end : tie.Need-part-take-key-end Inv-loop μ-loop
+part-take-key-end c =
+    let h = key-found (c .before .before .before .keyword .given .1) (c .before .before .before .before .before .next-key .ensures) in
+    h .fits
+
+take-key-requires : tie.Need-take-key-requires Inv-loop μ-loop
+take-key-requires c κs =
+    let h = key-found (c .before .before .before .before .keyword .given .1) (c .before .before .before .before .before .before .next-key .ensures) in
+    let f = c .before .before .before .before .before .before .before .loop .inv .fits in
+    (h .placed, omega (arith, f .row, h .rises), omega (arith, f .waveforms, h .rises))
 
 loop-less : tie.Need-loop-less Inv-loop μ-loop
 loop-less c =
-    let s = now (c .before .before .before .before .before .before .before .before .before .before .before .args .src) in
-    let l = subst (PartNextIs s (c .before .before .before .before .before .before .before .before .loop .d)) (c .before .before .before .before .before .part .given .1) (c .before .before .before .before .before .before .before .next-part .ensures) in
-    omega (arith, l .rises, c .before .before .take-part .ensures .rises, c .before .before .take-part .ensures .placed .within)
+    let h = key-found (c .before .before .before .before .before .before .before .keyword .given .1) (c .before .before .before .before .before .before .before .before .before .next-key .ensures) in
+    let r = c .before .before .take-key .ensures in
+    omega (arith, h .rises, r .rises, r .placed .within)
 
 loop-again : tie.Need-loop-again Inv-loop μ-loop
 loop-again c =
-    let s = now (c .before .before .before .before .before .before .before .before .before .before .before .args .src) in
-    let l = subst (PartNextIs s (c .before .before .before .before .before .before .before .before .loop .d)) (c .before .before .before .before .before .part .given .1) (c .before .before .before .before .before .before .before .next-part .ensures) in
-    builds-part (c .before .before .before .before .before .before .before .before .loop .inv) l (c .before .before .take-part .ensures)
+    let h = key-found (c .before .before .before .before .before .before .before .keyword .given .1) (c .before .before .before .before .before .before .before .before .before .next-key .ensures) in
+    builds-key (c .before .before .before .before .before .before .before .before .before .before .loop .inv) h (sym (c .before .before .before .before .before .ends .ensures) ∙ c .before .before .before .before .if1 .left) (c .before .before .take-key .ensures)
 
 enum-told : tie.Need-enum-told Inv-loop μ-loop
 enum-told c = search needs
 
-returns : tie.Need-returns Inv-loop μ-loop
-returns c = builds-end (c .before .before .before .loop .inv) (subst (PartNextIs (now (c .before .before .before .before .before .before .args .src)) (c .before .before .before .loop .d)) (c .enum-told .given .1) (c .before .before .next-part .ensures)) ∙ ap (λ (b : _). bodyFrom b (partsIn (rest (now (c .before .before .before .before .before .before .args .src)) (c .before .before .before .before .before .before .args .c)))) (c .before .before .before .before .bare-body .ensures)
+returns-2 : tie.Need-returns-2 Inv-loop μ-loop
+returns-2 c =
+    let a = c .before .before .before .before .before .before .args in
+    follows-out body-fold (c .before .before .before .loop .inv .follows) (key-out _ _ (c .enum-told .given .1) (c .before .before .next-key .ensures))
+    ∙ ap (λ (b : Body). bodyOn b (front isWithin (rest (now (a .src)) (a .c)))) (c .before .before .before .before .bare-body .ensures)
 
 pub body-of-spec : {M : Type 1} → statement M
 body-of-spec =
@@ -80,13 +92,15 @@ body-of-spec =
     μ-loop
     bare-body-requires
     loop-holds
-    next-part-requires
-    enum-known-part
-    sub-take-part
-    part-take-part-start
-    part-take-part-end
-    take-part-requires
+    next-key-requires
+    enum-known-keyword
+    ends-requires
+    returns
+    sub-take-key
+    part-take-key-start
+    part-take-key-end
+    take-key-requires
     loop-less
     loop-again
     enum-told
-    returns)
+    returns-2)

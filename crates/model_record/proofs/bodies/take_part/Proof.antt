@@ -2,11 +2,18 @@
 use Prim.Native.Nat.{ℕ}
 use mathlib.Core.Path.{refl, sym, ap, _∙_}
 use native.Mathlib.Omega.{arith}
+use denote.Ref.{now}
 use borrow.Author.Needs.{needs}
+use Rattle.laws.specs.Said.{orElse}
+use Rattle.words.specs.Words.{words}
+use Rattle.keywords.specs.declared.Keyword.the-variants.{InModel}
 use Rattle.keywords.specs.declared.ModelPart.the-variants.{VoltageRange, TemperatureRange, Current, Ramp, Waveform}
-use Rattle.line_rules.specs.Fields.{tripleIs}
-use Rattle.table_rows.proofs.PartLaws.{parts-behind}
-use Rattle.model_record.specs.Bodies.{withVoltage, withTemperature, withCurrent, withRamp, withWaveform}
+use Rattle.cut_lines.specs.Cursors.{rest}
+use Rattle.line_rules.specs.Fields.{threeCells}
+use Rattle.rules.specs.Reading.{under, rampIn, noRamp}
+use Rattle.records.specs.Stored.{noCells}
+use Rattle.lines_under.proofs.Keyed.{keys-stop}
+use Rattle.model_record.specs.Bodies.{partOn}
 use Rattle.model_record.proofs.Takes.{taken, current-fits}
 use Rattle.model_record.proofs.bodies.take_part.Statement.{statement}
 use Rattle.model_record.proofs.bodies.take_part.Tie as tie
@@ -14,11 +21,8 @@ use Rattle.model_record.proofs.bodies.take_part.Tie as tie
 enum-told : tie.Need-enum-told
 enum-told c = search needs
 
-three-cells-requires : tie.Need-three-cells-requires
-three-cells-requires c κs = search needs
-
-triple-is-requires : tie.Need-triple-is-requires
-triple-is-requires c κs = search needs
+cells-of-requires : tie.Need-cells-of-requires
+cells-of-requires c κs = search needs
 
 with-voltage-requires : tie.Need-with-voltage-requires
 with-voltage-requires c κs = search needs
@@ -26,11 +30,8 @@ with-voltage-requires c κs = search needs
 enum-told-2 : tie.Need-enum-told-2
 enum-told-2 c = search needs
 
-three-cells-requires-2 : tie.Need-three-cells-requires-2
-three-cells-requires-2 c κs = search needs
-
-triple-is-requires-2 : tie.Need-triple-is-requires-2
-triple-is-requires-2 c κs = search needs
+cells-of-requires-2 : tie.Need-cells-of-requires-2
+cells-of-requires-2 c κs = search needs
 
 with-temperature-requires : tie.Need-with-temperature-requires
 with-temperature-requires c κs = search needs
@@ -60,41 +61,61 @@ count-rows-requires-2 : tie.Need-count-rows-requires-2
 count-rows-requires-2 c κs = c .before .before .before .before .pre .0
 
 with-waveform-requires : tie.Need-with-waveform-requires
-with-waveform-requires c κs = (omega (arith, c .before .count-rows2 .ensures .bounded, c .before .count-rows2 .ensures .stops .placed .within, c .before .before .before .before .before .before .pre .1, c .before .before .before .before .before .before .good), omega (arith, c .before .before .before .before .before .before .pre .0 .within, c .before .before .before .before .before .before .pre .2, c .before .before .before .before .before .before .good))
+with-waveform-requires c κs =
+    let n = c .before .count-rows2 .ensures in
+    (omega (arith, n .bounded, n .stops .placed .within, c .before .before .before .before .before .before .pre .1, c .before .before .before .before .before .before .good), omega (arith, c .before .before .before .before .before .before .pre .0 .within, c .before .before .before .before .before .before .pre .2, c .before .before .before .before .before .before .good))
 
 returns : tie.Need-returns
-returns c = taken VoltageRange (c .with-voltage .result) (c .before .before .before .before .before .before .before .args .c) (c .before .before .before .enum-told .given .1) (c .with-voltage .ensures ∙ ap (withVoltage (c .before .before .before .before .before .before .before .args .b)) (c .before .triple-is .ensures ∙ ap tripleIs (c .before .before .three-cells .ensures))) (record { row = c .before .before .before .before .before .before .before .pre .1; waveforms = omega (arith, c .before .before .before .before .before .before .before .pre .2) }) refl (c .before .before .before .before .before .before .before .pre .0) (omega arith)
+returns c =
+    taken (InModel VoltageRange) (c .with-voltage .result) (c .before .before .before .before .before .before .args .c) (ap InModel (c .before .before .enum-told .given .1))
+    (c .with-voltage .ensures noRamp 0 ∙ ap (λ (t : _). partOn (c .before .before .before .before .before .before .args .b) VoltageRange t noRamp 0) (c .before .cells-of .ensures))
+    (record { row = c .before .before .before .before .before .before .pre .1; waveforms = omega (arith, c .before .before .before .before .before .before .pre .2) }) refl (c .before .before .before .before .before .before .pre .0) (omega arith)
 
 returns-2 : tie.Need-returns-2
-returns-2 c = taken TemperatureRange (c .with-temperature .result) (c .before .before .before .before .before .before .before .args .c) (c .before .before .before .enum-told2 .given .1) (c .with-temperature .ensures ∙ ap (withTemperature (c .before .before .before .before .before .before .before .args .b)) (c .before .triple-is2 .ensures ∙ ap tripleIs (c .before .before .three-cells2 .ensures))) (record { row = c .before .before .before .before .before .before .before .pre .1; waveforms = omega (arith, c .before .before .before .before .before .before .before .pre .2) }) refl (c .before .before .before .before .before .before .before .pre .0) (omega arith)
+returns-2 c =
+    taken (InModel TemperatureRange) (c .with-temperature .result) (c .before .before .before .before .before .before .args .c) (ap InModel (c .before .before .enum-told2 .given .1))
+    (c .with-temperature .ensures noRamp 0 ∙ ap (λ (t : _). partOn (c .before .before .before .before .before .before .args .b) TemperatureRange t noRamp 0) (c .before .cells-of2 .ensures))
+    (record { row = c .before .before .before .before .before .before .pre .1; waveforms = omega (arith, c .before .before .before .before .before .before .pre .2) }) refl (c .before .before .before .before .before .before .pre .0) (omega arith)
 
 returns-3 : tie.Need-returns-3
 returns-3 c =
     let n = c .before .before .count-rows .ensures in
     let t = c .before .before .before .before .part .given .0 .0 in
-    taken (Current t) (c .with-current .result) (c .before .before .count-rows .result .next) (c .before .before .before .before .part .given .1) (c .with-current .ensures ∙ ap (λ (k : ℕ). withCurrent (c .before .before .before .before .before .before .before .before .args .b) k t) (n .count)) (current-fits (c .before .before .before .before .before .before .before .before .args .b) _ t (c .before .before .count-rows .result .next) (rw (sym (n .count)) (omega (arith, n .bounded, c .before .before .before .before .before .before .before .before .pre .1))) (omega (arith, n .stops .rises, c .before .before .before .before .before .before .before .before .pre .2))) (parts-behind (n .stops)) (n .stops .placed) (n .stops .rises)
+    let b = c .before .before .before .before .before .before .before .before .args .b in
+    let w = now (c .before .before .before .before .before .before .before .before .args .argument) in
+    let cells = orElse noCells (threeCells (words w)) in
+    let ramp = rampIn w (under (rest (now (c .before .before .before .before .before .before .before .before .args .src)) (c .before .before .before .before .before .before .before .before .args .c))) in
+    taken (InModel (Current t)) (c .with-current .result) (c .before .before .count-rows .result .next) (ap InModel (c .before .before .before .before .part .given .1))
+    (c .with-current .ensures cells ramp ∙ ap (λ (k : ℕ). partOn b (Current t) cells ramp k) (n .count))
+    (current-fits b cells ramp _ (c .before .before .count-rows .result .next) (rw (sym (n .count)) (omega (arith, n .bounded, c .before .before .before .before .before .before .before .before .pre .1))) (omega (arith, n .stops .rises, c .before .before .before .before .before .before .before .before .pre .2)) t)
+    (keys-stop (n .stops)) (n .stops .placed) (n .stops .rises)
 
 returns-4 : tie.Need-returns-4
 returns-4 c =
     let n = c .before .before .ramp-lines .ensures in
-    taken Ramp (c .with-ramp .result) (c .before .before .ramp-lines .result .next) (c .before .before .before .enum-told3 .given .1) (c .with-ramp .ensures ∙ ap (withRamp (c .before .before .before .before .before .before .before .args .b)) (n .ramp)) (record { row = omega (arith, n .stops .rises, c .before .before .before .before .before .before .before .pre .1); waveforms = omega (arith, n .stops .rises, c .before .before .before .before .before .before .before .pre .2) }) (parts-behind (n .stops)) (n .stops .placed) (n .stops .rises)
+    taken (InModel Ramp) (c .with-ramp .result) (c .before .before .ramp-lines .result .next) (ap InModel (c .before .before .before .enum-told3 .given .1))
+    (c .with-ramp .ensures noCells 0 ∙ ap (λ (r : _). partOn (c .before .before .before .before .before .before .before .args .b) Ramp noCells r 0) (n .ramp))
+    (record { row = omega (arith, n .stops .rises, c .before .before .before .before .before .before .before .pre .1); waveforms = omega (arith, n .stops .rises, c .before .before .before .before .before .before .before .pre .2) })
+    (keys-stop (n .stops)) (n .stops .placed) (n .stops .rises)
 
 returns-5 : tie.Need-returns-5
 returns-5 c =
     let n = c .before .before .count-rows2 .ensures in
-    taken (Waveform _) (c .with-waveform .result) (c .before .before .count-rows2 .result .next) (c .before .before .before .enum-told4 .given .1) (c .with-waveform .ensures ∙ ap (withWaveform (c .before .before .before .before .before .before .before .args .b)) (n .count)) (record { row = rw (sym (n .count)) (omega (arith, n .bounded, c .before .before .before .before .before .before .before .pre .1)); waveforms = omega (arith, n .stops .rises, c .before .before .before .before .before .before .before .pre .2) }) (parts-behind (n .stops)) (n .stops .placed) (n .stops .rises)
+    let e = c .before .before .before .enum-told4 .given .0 .0 in
+    taken (InModel (Waveform e)) (c .with-waveform .result) (c .before .before .count-rows2 .result .next) (ap InModel (c .before .before .before .enum-told4 .given .1))
+    (c .with-waveform .ensures e noCells noRamp ∙ ap (λ (k : ℕ). partOn (c .before .before .before .before .before .before .before .args .b) (Waveform e) noCells noRamp k) (n .count))
+    (record { row = rw (sym (n .count)) (omega (arith, n .bounded, c .before .before .before .before .before .before .before .pre .1)); waveforms = omega (arith, n .stops .rises, c .before .before .before .before .before .before .before .pre .2) })
+    (keys-stop (n .stops)) (n .stops .placed) (n .stops .rises)
 
 pub take-part-spec : {M : Type 1} → statement M
 take-part-spec =
     tie.close
     (tie.spec
     enum-told
-    three-cells-requires
-    triple-is-requires
+    cells-of-requires
     with-voltage-requires
     enum-told-2
-    three-cells-requires-2
-    triple-is-requires-2
+    cells-of-requires-2
     with-temperature-requires
     enum-known-part
     count-rows-requires

@@ -25,26 +25,23 @@ next-line-requires c κs = c .loop .inv .along .placed
 enum-known-start : tie.Need-enum-known-start Inv-loop μ-loop
 enum-known-start c = search needs
 
-sub-w : tie.Need-sub-w Inv-loop μ-loop
-sub-w c = line-starts (c .before .before .before .before .loop .inv) (c .before .start .given .1) (c .before .before .before .next-line .ensures)
+sub-with-first-line : tie.Need-sub-with-first-line Inv-loop μ-loop
+sub-with-first-line c = line-starts (c .before .before .before .before .loop .inv) (c .before .start .given .1) (c .before .before .before .next-line .ensures)
 
-part-w-start : tie.Need-part-w-start Inv-loop μ-loop
-part-w-start c = line-starts (c .before .before .before .before .loop .inv) (c .before .start .given .1) (c .before .before .before .next-line .ensures)
+part-with-first-line-start : tie.Need-part-with-first-line-start Inv-loop μ-loop
+part-with-first-line-start c = line-starts (c .before .before .before .before .loop .inv) (c .before .start .given .1) (c .before .before .before .next-line .ensures)
 
-part-w-end : tie.Need-part-w-end Inv-loop μ-loop
-part-w-end c = line-fits (c .before .before .before .before .loop .inv) (c .before .start .given .1) (c .before .before .before .next-line .ensures)
-
-model-line-requires : tie.Need-model-line-requires Inv-loop μ-loop
-model-line-requires c κs = search needs
+part-with-first-line-end : tie.Need-part-with-first-line-end Inv-loop μ-loop
+part-with-first-line-end c = line-fits (c .before .before .before .before .loop .inv) (c .before .start .given .1) (c .before .before .before .next-line .ensures)
 
 with-first-line-requires : tie.Need-with-first-line-requires Inv-loop μ-loop
 with-first-line-requires c κs = search needs
 
 loop-less : tie.Need-loop-less Inv-loop μ-loop
-loop-less c = line-less (c .before .before .before .before .before .before .before .loop .inv) (c .before .before .before .before .start .given .1) (c .before .before .before .before .before .before .next-line .ensures)
+loop-less c = line-less (c .before .before .before .before .before .before .loop .inv) (c .before .before .before .start .given .1) (c .before .before .before .before .before .next-line .ensures)
 
 loop-again : tie.Need-loop-again Inv-loop μ-loop
-loop-again c = gathers-line (c .before .before .before .before .before .before .before .loop .inv) (c .before .before .before .before .start .given .1) (c .before .before .before .before .before .before .next-line .ensures) (rw (c .before .model-line .ensures) at (c .with-first-line .ensures))
+loop-again c = gathers-line (c .before .before .before .before .before .before .loop .inv) (c .before .before .before .start .given .1) (c .before .before .before .before .before .next-line .ensures) (c .with-first-line .ensures)
 
 enum-known-next : tie.Need-enum-known-next Inv-loop μ-loop
 enum-known-next c = search needs
@@ -64,10 +61,9 @@ first-lines-spec =
     loop-holds
     next-line-requires
     enum-known-start
-    sub-w
-    part-w-start
-    part-w-end
-    model-line-requires
+    sub-with-first-line
+    part-with-first-line-start
+    part-with-first-line-end
     with-first-line-requires
     loop-less
     loop-again

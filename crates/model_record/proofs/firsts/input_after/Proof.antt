@@ -1,7 +1,7 @@
 -- By whether the line is the type's own.
 use mathlib.Core.Path.{sym, _∙_}
-use borrow.Author.Needs.{needs}
 use borrow.Author.Tests.{eq-eqb, ne-eqb}
+use borrow.Author.Needs.{needs}
 use Rattle.laws.proofs.Tests.{cond-yes, cond-no}
 use Rattle.model_record.proofs.firsts.input_after.Statement.{statement}
 use Rattle.model_record.proofs.firsts.input_after.Tie as tie

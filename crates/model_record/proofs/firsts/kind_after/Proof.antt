@@ -1,13 +1,10 @@
 -- Another line, a type of the table's, or none of them.
 use mathlib.Core.Path.{sym, _∙_}
-use borrow.Author.Needs.{needs}
 use borrow.Author.Tests.{eq-eqb, ne-eqb}
+use denote.Ref.{now}
+use borrow.Author.Needs.{needs}
 use Rattle.laws.proofs.Tests.{cond-yes, cond-no}
 use Rattle.model_record.proofs.FirstLaws.{type-some, type-none}
-use denote.Ref.{now}
-use Rattle.line_rules.specs.Fields.{wordMeaning, orGiven}
-use Rattle.line_rules.specs.Tables.{modelTypes}
-use Rattle.records.specs.declared.ModelType.the-variants.{Terminator}
 use Rattle.model_record.proofs.firsts.kind_after.Statement.{statement}
 use Rattle.model_record.proofs.firsts.kind_after.Tie as tie
 
@@ -24,10 +21,10 @@ enum-told : tie.Need-enum-told
 enum-told c = search needs
 
 returns-2 : tie.Need-returns-2
-returns-2 c = sym (cond-yes (orGiven (wordMeaning modelTypes (now (c .before .before .before .before .before .before .args .w))) Terminator) (c .before .before .before .before .before .before .args .before) (eq-eqb _ _ (c .before .before .before .before .if1 .left)) ∙ type-some (wordMeaning modelTypes (now (c .before .before .before .before .before .before .args .w))) _ (sym (c .before .before .before .type-of .ensures) ∙ c .before .kind .given .1))
+returns-2 c = type-some (c .before .before .before .before .before .before .args .before) (now (c .before .before .before .before .before .before .args .w)) (c .before .before .before .type-of .ensures) (c .before .kind .given .1) ∙ sym (cond-yes _ _ (eq-eqb _ _ (c .before .before .before .before .if1 .left)))
 
 returns-3 : tie.Need-returns-3
-returns-3 c = sym (cond-yes (orGiven (wordMeaning modelTypes (now (c .before .before .before .before .before .args .w))) Terminator) (c .before .before .before .before .before .args .before) (eq-eqb _ _ (c .before .before .before .if1 .left)) ∙ type-none (wordMeaning modelTypes (now (c .before .before .before .before .before .args .w))) (sym (c .before .before .type-of .ensures) ∙ c .enum-told .given .1))
+returns-3 c = type-none (c .before .before .before .before .before .args .before) (now (c .before .before .before .before .before .args .w)) (c .before .before .type-of .ensures) (c .enum-told .given .1) ∙ sym (cond-yes _ _ (eq-eqb _ _ (c .before .before .before .if1 .left)))
 
 pub kind-after-spec : {M : Type 1} → statement M
 kind-after-spec =

@@ -1,22 +1,60 @@
--- By whether the line is its own.
-use mathlib.Core.Path.{sym, _∙_}
-use borrow.Author.Needs.{needs}
+-- Another line, no word of the table's, or one of them.
+use mathlib.Core.Path.{refl, sym, _∙_}
 use borrow.Author.Tests.{eq-eqb, ne-eqb}
-use Rattle.laws.proofs.Tests.{cond-yes, cond-no}
 use denote.Ref.{now}
-use Rattle.line_rules.specs.Fields.{wordMeaning}
+use borrow.Author.Needs.{needs}
+use Rattle.laws.proofs.Tests.{cond-yes, cond-no}
+use Rattle.line_rules.specs.Fields.{wordLine}
 use Rattle.line_rules.specs.Tables.{polarities}
+use Rattle.records.specs.declared.Polarity.the-variants.{NoPolarity}
+use Rattle.named_lines.specs.Views.{polarityFault}
+use Rattle.named_lines.proofs.TableLaws.{polarity-fault}
+use Rattle.model_record.proofs.FirstLaws.{word-some, word-none}
 use Rattle.model_record.proofs.firsts.polarity_after.Statement.{statement}
 use Rattle.model_record.proofs.firsts.polarity_after.Tie as tie
+
+returns : tie.Need-returns
+returns c = sym (cond-no _ _ (ne-eqb _ _ (c .if1 .taken)))
 
 polarity-of-requires : tie.Need-polarity-of-requires
 polarity-of-requires c κs = search needs
 
-returns : tie.Need-returns
-returns c = c .polarity-of .ensures ∙ sym (cond-yes _ _ (eq-eqb _ _ (c .before .if1 .taken)))
+enum-told : tie.Need-enum-told
+enum-told c = search needs
+
+enum-told-2 : tie.Need-enum-told-2
+enum-told-2 c = search needs
+
+enum-told-3 : tie.Need-enum-told-3
+enum-told-3 c = search needs
 
 returns-2 : tie.Need-returns-2
-returns-2 c = sym (cond-no _ _ (ne-eqb _ _ (c .if1 .left)))
+returns-2 c =
+    let w = now (c .before .before .before .before .before .args .w) in
+    word-none polarityFault NoPolarity (c .before .before .before .before .before .args .before) refl (wordLine polarities w) (c .before .before .polarity-of .ensures) (c .enum-told .given .1) (polarity-fault w)
+    ∙ sym (cond-yes _ _ (eq-eqb _ _ (c .before .before .before .if1 .left)))
+
+returns-3 : tie.Need-returns-3
+returns-3 c =
+    let w = now (c .before .before .before .before .before .args .w) in
+    word-some polarityFault NoPolarity (c .before .before .before .before .before .args .before) refl (wordLine polarities w) (c .before .before .polarity-of .ensures) (c .enum-told2 .given .1) refl
+    ∙ sym (cond-yes _ _ (eq-eqb _ _ (c .before .before .before .if1 .left)))
+
+returns-4 : tie.Need-returns-4
+returns-4 c =
+    let w = now (c .before .before .before .before .before .args .w) in
+    word-some polarityFault NoPolarity (c .before .before .before .before .before .args .before) refl (wordLine polarities w) (c .before .before .polarity-of .ensures) (c .enum-told3 .given .1) refl
+    ∙ sym (cond-yes _ _ (eq-eqb _ _ (c .before .before .before .if1 .left)))
 
 pub polarity-after-spec : {M : Type 1} → statement M
-polarity-after-spec = tie.close (tie.spec polarity-of-requires returns returns-2)
+polarity-after-spec =
+    tie.close
+    (tie.spec
+    returns
+    polarity-of-requires
+    enum-told
+    enum-told-2
+    enum-told-3
+    returns-2
+    returns-3
+    returns-4)

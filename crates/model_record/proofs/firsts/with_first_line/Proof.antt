@@ -1,7 +1,21 @@
 -- By whether the line has a place; then field by field.
+use mathlib.Core.Path.{refl, sym, _∙_}
+use denote.Ref.{now}
 use borrow.Author.Needs.{needs}
+use Rattle.laws.specs.Bytes.{isBlank}
+use Rattle.laws.specs.Lists.{eqs}
+use Rattle.words.specs.Words.{words, grown, onto}
+use Rattle.name_table.specs.Names.{placeFrom}
+use Rattle.line_rules.specs.Fields.{wordLine, cellsLine, numberLine}
+use Rattle.line_rules.specs.Tables.{modelLines, modelTypes, polarities, enables}
+use Rattle.line_rules.proofs.Places.{takes-place}
+use Rattle.rules.specs.Model.{isInput, typeIs}
+use Rattle.model_record.proofs.FirstLaws.{first-nothing}
 use Rattle.model_record.proofs.firsts.with_first_line.Statement.{statement}
 use Rattle.model_record.proofs.firsts.with_first_line.Tie as tie
+
+model-line-requires : tie.Need-model-line-requires
+model-line-requires c κs = search needs
 
 enum-known-found : tie.Need-enum-known-found
 enum-known-found c = search needs
@@ -10,7 +24,7 @@ enum-told : tie.Need-enum-told
 enum-told c = search needs
 
 returns : tie.Need-returns
-returns c = rw (c .enum-told .given .1)
+returns c = first-nothing (c .before .before .before .before .args .f) (now (c .before .before .before .before .args .w)) (sym (c .before .before .model-line .ensures) ∙ c .enum-told .given .1)
 
 kind-after-requires : tie.Need-kind-after-requires
 kind-after-requires c κs = search needs
@@ -46,12 +60,41 @@ number-after-requires-6 : tie.Need-number-after-requires-6
 number-after-requires-6 c κs = search needs
 
 returns-2 : tie.Need-returns-2
-returns-2 c = rw (c .before .before .before .before .before .before .before .before .before .before .before .before .before .found .given .1, c .before .before .before .before .before .before .before .before .before .before .kind-after .ensures, c .before .before .before .before .before .before .before .before .before .input-after .ensures, c .before .before .before .before .before .before .before .before .polarity-after .ensures, c .before .before .before .before .before .before .before .enable-after .ensures, c .before .before .before .before .before .before .comp-after .ensures, c .before .before .before .before .before .number-after .ensures, c .before .before .before .before .number-after2 .ensures, c .before .before .before .number-after3 .ensures, c .before .before .number-after4 .ensures, c .before .number-after5 .ensures, c .number-after6 .ensures)
+unfolding placeFrom words grown onto isBlank eqs
+returns-2 c =
+    let f = c .before .before .before .before .before .before .before .before .before .before .before .before .before .before .before .before .before .args .f in
+    let w = now (c .before .before .before .before .before .before .before .before .before .before .before .before .before .before .before .before .before .args .w) in
+    let e = sym (c .before .before .before .before .before .before .before .before .before .before .before .before .before .before .before .model-line .ensures) ∙ c .before .before .before .before .before .before .before .before .before .before .before .before .before .found .given .1 in
+    rw (
+      takes-place "Model_type" (wordLine modelTypes) (f .kind) w modelLines _ 0 e refl,
+      takes-place "Model_type" (typeIs isInput) (f .input) w modelLines _ 0 e refl,
+      takes-place "Polarity" (wordLine polarities) (f .polarity) w modelLines _ 1 e refl,
+      takes-place "Enable" (wordLine enables) (f .enable) w modelLines _ 2 e refl,
+      takes-place "C_comp" cellsLine (f .comp) w modelLines _ 3 e refl,
+      takes-place "Vinl" numberLine (f .vinl) w modelLines _ 4 e refl,
+      takes-place "Vinh" numberLine (f .vinh) w modelLines _ 5 e refl,
+      takes-place "Vmeas" numberLine (f .vmeas) w modelLines _ 6 e refl,
+      takes-place "Cref" numberLine (f .cref) w modelLines _ 7 e refl,
+      takes-place "Rref" numberLine (f .rref) w modelLines _ 8 e refl,
+      takes-place "Vref" numberLine (f .vref) w modelLines _ 9 e refl,
+      c .before .before .before .before .before .before .before .before .before .before .kind-after .ensures,
+      c .before .before .before .before .before .before .before .before .before .input-after .ensures,
+      c .before .before .before .before .before .before .before .before .polarity-after .ensures,
+      c .before .before .before .before .before .before .before .enable-after .ensures,
+      c .before .before .before .before .before .before .comp-after .ensures,
+      c .before .before .before .before .before .number-after .ensures,
+      c .before .before .before .before .number-after2 .ensures,
+      c .before .before .before .number-after3 .ensures,
+      c .before .before .number-after4 .ensures,
+      c .before .number-after5 .ensures,
+      c .number-after6 .ensures,
+    )
 
 pub with-first-line-spec : {M : Type 1} → statement M
 with-first-line-spec =
     tie.close
     (tie.spec
+    model-line-requires
     enum-known-found
     enum-told
     returns

@@ -2,7 +2,7 @@
 use mathlib.Core.Path.{sym, ap, _∙_}
 use borrow.Author.Needs.{needs}
 use denote.Ref.{now}
-use Rattle.rules.specs.Model.{firstLine}
+use Rattle.line_faults.proofs.Laws.{first-named}
 use Rattle.rules.specs.Going.{quietly}
 use Rattle.rules.specs.declared.Stage.the-variants.{InModel}
 use Rattle.rules.proofs.Going.{refused, passed, faulted, clean}
@@ -22,7 +22,7 @@ stopped-requires : tie.Need-stopped-requires
 stopped-requires c κs = search needs
 
 returns : tie.Need-returns
-returns c = c .stopped .ensures ∙ sym (ap (firstLine (c .before .before .before .before .before .args .m) (c .before .before .before .before .before .args .k) (now (c .before .before .before .before .before .args .w))) (sym (c .before .before .before .model-line .ensures) ∙ c .before .enum-told .given .1))
+returns c = rw (sym (c .before .before .before .model-line .ensures) ∙ c .before .enum-told .given .1) (c .stopped .ensures)
 
 is-given-requires : tie.Need-is-given-requires
 is-given-requires c κs = search needs
@@ -31,7 +31,9 @@ stopped-requires-2 : tie.Need-stopped-requires-2
 stopped-requires-2 c κs = search needs
 
 returns-2 : tie.Need-returns-2
-returns-2 c = c .stopped2 .ensures ∙ refused 8 _ _ (sym (c .before .before .is-given .ensures) ∙ c .before .if1 .taken) ∙ sym (ap (firstLine (c .before .before .before .before .before .before .before .before .before .args .m) (c .before .before .before .before .before .before .before .before .before .args .k) (now (c .before .before .before .before .before .before .before .before .before .args .w))) (sym (c .before .before .before .before .before .before .before .model-line .ensures) ∙ c .before .before .before .before .before .n .given .1))
+returns-2 c =
+    rw (sym (c .before .before .before .before .before .before .before .model-line .ensures) ∙ c .before .before .before .before .before .n .given .1)
+    (c .stopped2 .ensures ∙ refused 8 _ _ (sym (c .before .before .is-given .ensures) ∙ c .before .if1 .taken))
 
 first-fault-requires : tie.Need-first-fault-requires
 first-fault-requires c κs = search needs
@@ -40,21 +42,27 @@ stopped-requires-3 : tie.Need-stopped-requires-3
 stopped-requires-3 c κs = search needs
 
 returns-3 : tie.Need-returns-3
-returns-3 c = c .stopped3 .ensures ∙ faulted _ _ (c .before .before .first-fault .ensures) (c .before .if2 .taken) ∙ passed 8 _ _ (sym (c .before .before .before .before .is-given .ensures) ∙ c .before .before .before .if1 .left) ∙ sym (ap (firstLine (c .before .before .before .before .before .before .before .before .before .before .before .args .m) (c .before .before .before .before .before .before .before .before .before .before .before .args .k) (now (c .before .before .before .before .before .before .before .before .before .before .before .args .w))) (sym (c .before .before .before .before .before .before .before .before .before .model-line .ensures) ∙ c .before .before .before .before .before .before .before .n .given .1))
+returns-3 c =
+    let at = sym (c .before .before .before .before .before .before .before .before .before .model-line .ensures) ∙ c .before .before .before .before .before .before .before .n .given .1 in
+    rw at
+    (c .stopped3 .ensures
+    ∙ faulted _ _ (c .before .before .first-fault .ensures ∙ first-named _ (now (c .before .before .before .before .before .before .before .before .before .before .before .args .w)) at) (c .before .if2 .taken)
+    ∙ passed 8 _ _ (sym (c .before .before .before .before .is-given .ensures) ∙ c .before .before .before .if1 .left))
 
 with-first-requires : tie.Need-with-first-requires
-with-first-requires c κs = search needs
+with-first-requires c κs = sym (c .before .before .before .before .before .before .before .before .model-line .ensures) ∙ c .before .before .before .before .before .before .n .given .1
 
 quiet-requires : tie.Need-quiet-requires
 quiet-requires c κs = search needs
 
 returns-4 : tie.Need-returns-4
 returns-4 c =
-    c .quiet .ensures
+    let at = sym (c .before .before .before .before .before .before .before .before .before .before .model-line .ensures) ∙ c .before .before .before .before .before .before .before .before .n .given .1 in
+    rw at
+    (c .quiet .ensures
     ∙ ap (λ (m : _). quietly (InModel m)) (c .before .with-first .ensures)
-    ∙ clean _ _ (c .before .before .before .first-fault .ensures) (c .before .before .if2 .left)
-    ∙ passed 8 _ _ (sym (c .before .before .before .before .before .is-given .ensures) ∙ c .before .before .before .before .if1 .left)
-    ∙ sym (ap (firstLine (c .before .before .before .before .before .before .before .before .before .before .before .before .args .m) (c .before .before .before .before .before .before .before .before .before .before .before .before .args .k) (now (c .before .before .before .before .before .before .before .before .before .before .before .before .args .w))) (sym (c .before .before .before .before .before .before .before .before .before .before .model-line .ensures) ∙ c .before .before .before .before .before .before .before .before .n .given .1))
+    ∙ clean _ _ (c .before .before .before .first-fault .ensures ∙ first-named _ (now (c .before .before .before .before .before .before .before .before .before .before .before .before .args .w)) at) (c .before .before .if2 .left)
+    ∙ passed 8 _ _ (sym (c .before .before .before .before .before .is-given .ensures) ∙ c .before .before .before .before .if1 .left))
 
 pub first-line-spec : {M : Type 1} → statement M
 first-line-spec =

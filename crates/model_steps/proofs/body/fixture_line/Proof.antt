@@ -2,8 +2,10 @@
 use mathlib.Core.Path.{sym, ap, _∙_}
 use borrow.Author.Needs.{needs}
 use denote.Ref.{now}
-use Rattle.line_rules.specs.Fields.{numberFault}
-use Rattle.rules.specs.Model.{fixtureLine, withModelList}
+use Rattle.laws.specs.Said.{faultIn}
+use Rattle.decimal.proofs.Answers.{cell-said}
+use Rattle.line_rules.specs.Fields.{numberLine}
+use Rattle.rules.specs.Model.{withModelList}
 use Rattle.rules.specs.Going.{quietly}
 use Rattle.rules.specs.declared.ModelList.the-variants.{WaveformRows}
 use Rattle.rules.specs.declared.Stage.the-variants.{InModel}
@@ -24,9 +26,7 @@ stopped-requires : tie.Need-stopped-requires
 stopped-requires c κs = search needs
 
 returns : tie.Need-returns
-returns c =
-    let a = c .before .before .before .before .before .args in
-    c .stopped .ensures ∙ sym (ap (fixtureLine (a .m) (a .line) (a .given) (a .r) (a .k) (now (a .w))) (sym (c .before .before .before .fixture-line .ensures) ∙ c .before .enum-told .given .1))
+returns c = rw (sym (c .before .before .before .fixture-line .ensures) ∙ c .before .enum-told .given .1) (c .stopped .ensures)
 
 is-given-requires : tie.Need-is-given-requires
 is-given-requires c κs = search needs
@@ -36,27 +36,24 @@ stopped-requires-2 c κs = search needs
 
 returns-2 : tie.Need-returns-2
 returns-2 c =
-    let a = c .before .before .before .before .before .before .before .before .args in
-    c .stopped2 .ensures
-    ∙ refused 8 _ _ (sym (c .before .before .is-given .ensures) ∙ c .before .if1 .taken)
-    ∙ sym (ap (fixtureLine (a .m) (a .line) (a .given) (a .r) (a .k) (now (a .w))) (sym (c .before .before .before .before .before .before .fixture-line .ensures) ∙ c .before .before .before .before .n .given .1))
+    rw (sym (c .before .before .before .before .before .before .fixture-line .ensures) ∙ c .before .before .before .before .n .given .1)
+    (c .stopped2 .ensures ∙ refused 8 _ _ (sym (c .before .before .is-given .ensures) ∙ c .before .if1 .taken))
 
-assigned-number-requires : tie.Need-assigned-number-requires
-assigned-number-requires c κs = search needs
+number-line-requires : tie.Need-number-line-requires
+number-line-requires c κs = search needs
 
-number-fault-requires : tie.Need-number-fault-requires
-number-fault-requires c κs = search needs
+cell-fault-requires : tie.Need-cell-fault-requires
+cell-fault-requires c κs = search needs
 
 stopped-requires-3 : tie.Need-stopped-requires-3
 stopped-requires-3 c κs = search needs
 
 returns-3 : tie.Need-returns-3
 returns-3 c =
-    let a = c .before .before .before .before .before .before .before .before .before .before .before .args in
-    c .stopped3 .ensures
-    ∙ faulted _ _ (c .before .before .number-fault .ensures ∙ ap numberFault (c .before .before .before .assigned-number .ensures)) (c .before .if2 .taken)
-    ∙ passed 8 _ _ (sym (c .before .before .before .before .before .is-given .ensures) ∙ c .before .before .before .before .if1 .left)
-    ∙ sym (ap (fixtureLine (a .m) (a .line) (a .given) (a .r) (a .k) (now (a .w))) (sym (c .before .before .before .before .before .before .before .before .before .fixture-line .ensures) ∙ c .before .before .before .before .before .before .before .n .given .1))
+    rw (sym (c .before .before .before .before .before .before .before .before .before .fixture-line .ensures) ∙ c .before .before .before .before .before .before .before .n .given .1)
+    (c .stopped3 .ensures
+    ∙ faulted _ _ (c .before .before .cell-fault .ensures ∙ ap faultIn (cell-said _ (numberLine (now (c .before .before .before .before .before .before .before .before .before .before .before .args .w))) (c .before .before .before .number-line .ensures))) (c .before .if2 .taken)
+    ∙ passed 8 _ _ (sym (c .before .before .before .before .before .is-given .ensures) ∙ c .before .before .before .before .if1 .left))
 
 also-requires : tie.Need-also-requires
 also-requires c κs = search needs
@@ -70,11 +67,11 @@ quiet-requires c κs = search needs
 returns-4 : tie.Need-returns-4
 returns-4 c =
     let a = c .before .before .before .before .before .before .before .before .before .before .before .before .before .args in
-    c .quiet .ensures
+    rw (sym (c .before .before .before .before .before .before .before .before .before .before .before .fixture-line .ensures) ∙ c .before .before .before .before .before .before .before .before .before .n .given .1)
+    (c .quiet .ensures
     ∙ ap (λ (m : _). quietly (InModel m)) (c .before .with-list .ensures ∙ ap (λ (g : _). withModelList (a .m) (WaveformRows (a .line) g (a .r))) (c .before .before .also .ensures))
-    ∙ clean _ _ (c .before .before .before .before .number-fault .ensures ∙ ap numberFault (c .before .before .before .before .before .assigned-number .ensures)) (c .before .before .before .if2 .left)
-    ∙ passed 8 _ _ (sym (c .before .before .before .before .before .before .before .is-given .ensures) ∙ c .before .before .before .before .before .before .if1 .left)
-    ∙ sym (ap (fixtureLine (a .m) (a .line) (a .given) (a .r) (a .k) (now (a .w))) (sym (c .before .before .before .before .before .before .before .before .before .before .before .fixture-line .ensures) ∙ c .before .before .before .before .before .before .before .before .before .n .given .1))
+    ∙ clean _ _ (c .before .before .before .before .cell-fault .ensures ∙ ap faultIn (cell-said _ (numberLine (now (a .w))) (c .before .before .before .before .before .number-line .ensures))) (c .before .before .before .if2 .left)
+    ∙ passed 8 _ _ (sym (c .before .before .before .before .before .before .before .is-given .ensures) ∙ c .before .before .before .before .before .before .if1 .left))
 
 pub fixture-line-spec : {M : Type 1} → statement M
 fixture-line-spec =
@@ -88,8 +85,8 @@ fixture-line-spec =
     is-given-requires
     stopped-requires-2
     returns-2
-    assigned-number-requires
-    number-fault-requires
+    number-line-requires
+    cell-fault-requires
     stopped-requires-3
     returns-3
     also-requires

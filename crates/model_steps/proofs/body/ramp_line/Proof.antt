@@ -2,7 +2,8 @@
 use mathlib.Core.Path.{sym, ap, _∙_}
 use borrow.Author.Needs.{needs}
 use denote.Ref.{now}
-use Rattle.rules.specs.Model.{rampLine, withModelList}
+use Rattle.line_faults.proofs.Laws.{ramp-named}
+use Rattle.rules.specs.Model.{withModelList}
 use Rattle.rules.specs.Going.{quietly}
 use Rattle.rules.specs.declared.ModelList.the-variants.{RampLines}
 use Rattle.rules.specs.declared.Stage.the-variants.{InModel}
@@ -23,9 +24,7 @@ stopped-requires : tie.Need-stopped-requires
 stopped-requires c κs = search needs
 
 returns : tie.Need-returns
-returns c =
-    let a = c .before .before .before .before .before .args in
-    c .stopped .ensures ∙ sym (ap (rampLine (a .m) (a .line) (a .given) (a .k) (now (a .w))) (sym (c .before .before .before .ramp-line .ensures) ∙ c .before .enum-told .given .1))
+returns c = rw (sym (c .before .before .before .ramp-line .ensures) ∙ c .before .enum-told .given .1) (c .stopped .ensures)
 
 is-given-requires : tie.Need-is-given-requires
 is-given-requires c κs = search needs
@@ -35,10 +34,8 @@ stopped-requires-2 c κs = search needs
 
 returns-2 : tie.Need-returns-2
 returns-2 c =
-    let a = c .before .before .before .before .before .before .before .before .args in
-    c .stopped2 .ensures
-    ∙ refused 8 _ _ (sym (c .before .before .is-given .ensures) ∙ c .before .if1 .taken)
-    ∙ sym (ap (rampLine (a .m) (a .line) (a .given) (a .k) (now (a .w))) (sym (c .before .before .before .before .before .before .ramp-line .ensures) ∙ c .before .before .before .before .n .given .1))
+    rw (sym (c .before .before .before .before .before .before .ramp-line .ensures) ∙ c .before .before .before .before .n .given .1)
+    (c .stopped2 .ensures ∙ refused 8 _ _ (sym (c .before .before .is-given .ensures) ∙ c .before .if1 .taken))
 
 ramp-line-fault-requires : tie.Need-ramp-line-fault-requires
 ramp-line-fault-requires c κs = search needs
@@ -48,11 +45,11 @@ stopped-requires-3 c κs = search needs
 
 returns-3 : tie.Need-returns-3
 returns-3 c =
-    let a = c .before .before .before .before .before .before .before .before .before .before .args in
-    c .stopped3 .ensures
-    ∙ faulted _ _ (c .before .before .ramp-line-fault .ensures) (c .before .if2 .taken)
-    ∙ passed 8 _ _ (sym (c .before .before .before .before .is-given .ensures) ∙ c .before .before .before .if1 .left)
-    ∙ sym (ap (rampLine (a .m) (a .line) (a .given) (a .k) (now (a .w))) (sym (c .before .before .before .before .before .before .before .before .ramp-line .ensures) ∙ c .before .before .before .before .before .before .n .given .1))
+    let at = sym (c .before .before .before .before .before .before .before .before .ramp-line .ensures) ∙ c .before .before .before .before .before .before .n .given .1 in
+    rw at
+    (c .stopped3 .ensures
+    ∙ faulted _ _ (c .before .before .ramp-line-fault .ensures ∙ ramp-named _ (now (c .before .before .before .before .before .before .before .before .before .before .args .w)) at) (c .before .if2 .taken)
+    ∙ passed 8 _ _ (sym (c .before .before .before .before .is-given .ensures) ∙ c .before .before .before .if1 .left))
 
 also-requires : tie.Need-also-requires
 also-requires c κs = search needs
@@ -66,11 +63,12 @@ quiet-requires c κs = search needs
 returns-4 : tie.Need-returns-4
 returns-4 c =
     let a = c .before .before .before .before .before .before .before .before .before .before .before .before .args in
-    c .quiet .ensures
+    let at = sym (c .before .before .before .before .before .before .before .before .before .before .ramp-line .ensures) ∙ c .before .before .before .before .before .before .before .before .n .given .1 in
+    rw at
+    (c .quiet .ensures
     ∙ ap (λ (m : _). quietly (InModel m)) (c .before .with-list .ensures ∙ ap (λ (g : _). withModelList (a .m) (RampLines (a .line) g)) (c .before .before .also .ensures))
-    ∙ clean _ _ (c .before .before .before .before .ramp-line-fault .ensures) (c .before .before .before .if2 .left)
-    ∙ passed 8 _ _ (sym (c .before .before .before .before .before .before .is-given .ensures) ∙ c .before .before .before .before .before .if1 .left)
-    ∙ sym (ap (rampLine (a .m) (a .line) (a .given) (a .k) (now (a .w))) (sym (c .before .before .before .before .before .before .before .before .before .before .ramp-line .ensures) ∙ c .before .before .before .before .before .before .before .before .n .given .1))
+    ∙ clean _ _ (c .before .before .before .before .ramp-line-fault .ensures ∙ ramp-named _ (now (a .w)) at) (c .before .before .before .if2 .left)
+    ∙ passed 8 _ _ (sym (c .before .before .before .before .before .before .is-given .ensures) ∙ c .before .before .before .before .before .if1 .left))
 
 pub ramp-line-spec : {M : Type 1} → statement M
 ramp-line-spec =

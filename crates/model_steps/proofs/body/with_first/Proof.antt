@@ -1,6 +1,9 @@
--- Field by field.
+-- Field by field, each by the line's name.
 use borrow.Author.Needs.{needs}
-use Rattle.rules.specs.Model.{withFirst}
+use denote.Ref.{now}
+use Rattle.line_rules.specs.Fields.{numberLine}
+use Rattle.rules.specs.Model.{isInput, isDriven, typeIs, withFirst}
+use Rattle.model_steps.proofs.Laws.{takes-type, takes-vinl, takes-vinh}
 use Rattle.model_steps.proofs.body.with_first.Statement.{statement}
 use Rattle.model_steps.proofs.body.with_first.Tie as tie
 
@@ -21,7 +24,20 @@ threshold-requires-2 c κs = search needs
 
 returns : tie.Need-returns
 unfolding withFirst
-returns c = rw (c .before .before .before .before .also .ensures, c .before .before .before .input-after .ensures, c .before .before .driven-after .ensures, c .before .threshold .ensures, c .threshold2 .ensures)
+returns c =
+    let a = c .before .before .before .before .before .before .before .before .args in
+    let at = c .before .before .before .before .before .before .before .before .pre in
+    rw (
+      c .before .before .before .before .also .ensures,
+      c .before .before .before .input-after .ensures,
+      takes-type (typeIs isInput) (a .m .input) (now (a .w)) (a .n) at,
+      c .before .before .driven-after .ensures,
+      takes-type (typeIs isDriven) (a .m .driven) (now (a .w)) (a .n) at,
+      c .before .threshold .ensures,
+      takes-vinl numberLine (a .m .vinl) (now (a .w)) (a .n) at,
+      c .threshold2 .ensures,
+      takes-vinh numberLine (a .m .vinh) (now (a .w)) (a .n) at,
+    )
 
 pub with-first-spec : {M : Type 1} → statement M
 with-first-spec =

@@ -3,7 +3,7 @@ use mathlib.Core.Path.{sym, _∙_}
 use borrow.Author.Needs.{needs}
 use borrow.Author.Tests.{not-true, not-false}
 use Rattle.laws.proofs.Tests.{cond-yes, cond-no}
-use Rattle.rules.specs.Model.{modelDone}
+use Rattle.model_steps.proofs.Laws.{done-whole}
 use Rattle.model_steps.proofs.parts.model_done.Statement.{statement}
 use Rattle.model_steps.proofs.parts.model_done.Tie as tie
 
@@ -11,19 +11,16 @@ is-whole-requires : tie.Need-is-whole-requires
 is-whole-requires c κs = search needs
 
 returns : tie.Need-returns
-unfolding modelDone
-returns c = sym (cond-no _ _ (sym (c .before .is-whole .ensures) ∙ not-true (c .before .is-whole .result) (c .if1 .taken)))
+returns c = sym (done-whole _ ∙ cond-no _ _ (sym (c .before .is-whole .ensures) ∙ not-true (c .before .is-whole .result) (c .if1 .taken)))
 
 is-crossed-requires : tie.Need-is-crossed-requires
 is-crossed-requires c κs = search needs
 
 returns-2 : tie.Need-returns-2
-unfolding modelDone
-returns-2 c = sym (cond-yes _ _ (sym (c .before .before .before .is-whole .ensures) ∙ not-false (c .before .before .before .is-whole .result) (c .before .before .if1 .left)) ∙ cond-yes _ _ (sym (c .before .is-crossed .ensures) ∙ c .if2 .taken))
+returns-2 c = sym (done-whole _ ∙ cond-yes _ _ (sym (c .before .before .before .is-whole .ensures) ∙ not-false (c .before .before .before .is-whole .result) (c .before .before .if1 .left)) ∙ cond-yes _ _ (sym (c .before .is-crossed .ensures) ∙ c .if2 .taken))
 
 returns-3 : tie.Need-returns-3
-unfolding modelDone
-returns-3 c = sym (cond-yes _ _ (sym (c .before .before .before .is-whole .ensures) ∙ not-false (c .before .before .before .is-whole .result) (c .before .before .if1 .left)) ∙ cond-no _ _ (sym (c .before .is-crossed .ensures) ∙ c .if2 .left))
+returns-3 c = sym (done-whole _ ∙ cond-yes _ _ (sym (c .before .before .before .is-whole .ensures) ∙ not-false (c .before .before .before .is-whole .result) (c .before .before .if1 .left)) ∙ cond-no _ _ (sym (c .before .is-crossed .ensures) ∙ c .if2 .left))
 
 pub model-done-spec : {M : Type 1} → statement M
 model-done-spec =

@@ -4,6 +4,7 @@ use mathlib.Core.Bool.{not}
 use borrow.Author.Needs.{needs}
 use Rattle.rules.specs.Model.{modelShut}
 use Rattle.rules.proofs.Going.{refused, passed}
+use Rattle.model_steps.proofs.Laws.{ramp-given, fixture-given}
 use Rattle.model_steps.proofs.parts.model_shut.Statement.{statement}
 use Rattle.model_steps.proofs.parts.model_shut.Tie as tie
 
@@ -37,7 +38,7 @@ stopped-requires c κs = search needs
 returns : tie.Need-returns
 returns c =
     c .stopped .ensures
-    ∙ refused 9 _ _ (ap not (sym (c .before .before .both-given .ensures)) ∙ c .before .if1 .taken)
+    ∙ refused 9 _ _ (ap not (sym (c .before .before .both-given .ensures ∙ ramp-given _)) ∙ c .before .if1 .taken)
     ∙ sym (ap (modelShut (c .before .before .before .before .before .before .args .m)) (c .before .before .before .before .list2 .given .1))
 
 closed-requires-3 : tie.Need-closed-requires-3
@@ -55,7 +56,7 @@ stopped-requires-2 c κs = search needs
 returns-2 : tie.Need-returns-2
 returns-2 c =
     c .stopped2 .ensures
-    ∙ refused 9 _ _ (ap not (sym (c .before .before .both-given2 .ensures)) ∙ c .before .if2 .taken)
+    ∙ refused 9 _ _ (ap not (sym (c .before .before .both-given2 .ensures ∙ fixture-given _)) ∙ c .before .if2 .taken)
     ∙ sym (ap (modelShut (c .before .before .before .before .before .before .args .m)) (c .before .before .before .before .list3 .given .1))
 
 close-table-requires-2 : tie.Need-close-table-requires-2
@@ -73,13 +74,13 @@ returns-5 c = c .close-table .ensures ∙ sym (ap (modelShut (c .before .before 
 returns-6 : tie.Need-returns-6
 returns-6 c =
     c .closed3 .ensures
-    ∙ passed 9 _ _ (ap not (sym (c .before .before .both-given .ensures)) ∙ c .before .if1 .left)
+    ∙ passed 9 _ _ (ap not (sym (c .before .before .both-given .ensures ∙ ramp-given _)) ∙ c .before .if1 .left)
     ∙ sym (ap (modelShut (c .before .before .before .before .before .before .args .m)) (c .before .before .before .before .list2 .given .1))
 
 returns-7 : tie.Need-returns-7
 returns-7 c =
     c .close-table2 .ensures
-    ∙ passed 9 _ _ (ap not (sym (c .before .before .both-given2 .ensures)) ∙ c .before .if2 .left)
+    ∙ passed 9 _ _ (ap not (sym (c .before .before .both-given2 .ensures ∙ fixture-given _)) ∙ c .before .if2 .left)
     ∙ sym (ap (modelShut (c .before .before .before .before .before .before .args .m)) (c .before .before .before .before .list3 .given .1))
 
 pub model-shut-spec : {M : Type 1} → statement M

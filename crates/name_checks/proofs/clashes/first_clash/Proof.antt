@@ -9,8 +9,8 @@ use mathlib.Core.Option.{none, some}
 use lib.Dec.{eqb}
 use Rattle.notes.specs.Noted.{clash}
 use Rattle.name_checks.specs.declared.Meeting.the-variants.{Equal, Differing, Beyond}
-use Rattle.name_checks.specs.Lookup.{entriesTo}
-use Rattle.name_checks.proofs.ClashLaws.{usedAt, used-turn, used-zero, used-end, clash-next, clash-here, clash-none, clash-end}
+use Rattle.name_checks.specs.Lookup.{entriesTo, clashOf}
+use Rattle.name_checks.proofs.ClashLaws.{keys-said, usedAt, used-turn, used-zero, used-end, clash-next, clash-here, clash-none, clash-end}
 use Rattle.name_checks.proofs.clashes.first_clash.Statement.{statement}
 use Rattle.name_checks.proofs.clashes.first_clash.Tie as tie
 
@@ -51,7 +51,10 @@ array-read-meet-2 : tie.Need-array-read-meet-2 Inv-loop μ-loop Inv-scan μ-scan
 array-read-meet-2 c = search needs
 
 meet-requires : tie.Need-meet-requires Inv-loop μ-loop Inv-scan μ-scan
-meet-requires c κs = (omega arith, omega arith, ap₂ eqb (c .before .before .before .before .keys-of .ensures (c .before .before .before .scan .i) (c .before .before .scan-test .taken)) (c .before .before .before .before .keys-of .ensures (c .before .loop .j - 1) (omega arith)))
+meet-requires c κs =
+    let a = c .before .before .before .before .before .before .before .args in
+    let k = keys-said (now (a .src)) (now (a .notes)) (a .n) (c .before .before .before .before .keys-of .result) (omega arith) (c .before .before .before .before .keys-of .ensures) in
+    (omega arith, omega arith, ap₂ eqb (k (c .before .before .before .scan .i) (c .before .before .scan-test .taken)) (k (c .before .loop .j - 1) (omega arith)))
 
 enum-told : tie.Need-enum-told Inv-loop μ-loop Inv-scan μ-scan
 enum-told c = search needs
@@ -89,14 +92,15 @@ line-at-requires c κs = search needs
 returns : tie.Need-returns Inv-loop μ-loop Inv-scan μ-scan
 returns c =
     let a = c .before .before .before .before .before .before .before .args in
-    ap some (c .line-at .ensures)
+    ap clashOf
+    (ap some (c .line-at .ensures)
     ∙ ⊎-elim
     (λ w. absurd (omega (arith, w .left)))
     (λ w. sym (clash-here (now (a .src)) (now (a .notes)) (c .before .before .before .scan .i) (a .n) (c .before .if1 .taken) (c .before .before .before .scan .inv .1) (sym (w .1 .inv .1) ∙ used-turn (now (a .src)) (now (a .notes)) (c .before .before .before .scan .i) (w .1 .j) (w .3 .result) Equal (w .2 .taken) (w .3 .ensures) (w .5 .given .1))))
-    (c .before .before .scan-test .came)
+    (c .before .before .scan-test .came))
 
 returns-2 : tie.Need-returns-2 Inv-loop μ-loop Inv-scan μ-scan
-returns-2 c = clash-end (now (c .before .before .before .before .before .before .args .src)) (now (c .before .before .before .before .before .before .args .notes)) (c .before .before .scan .i) (c .before .before .before .before .before .before .args .n) (c .before .before .scan .inv .0) (c .if1 .left) (c .before .before .scan .inv .1)
+returns-2 c = ap clashOf (clash-end (now (c .before .before .before .before .before .before .args .src)) (now (c .before .before .before .before .before .before .args .notes)) (c .before .before .scan .i) (c .before .before .before .before .before .before .args .n) (c .before .before .scan .inv .0) (c .if1 .left) (c .before .before .scan .inv .1))
 
 pub first-clash-spec : {M : Type 1} → statement M
 first-clash-spec =

@@ -1,11 +1,12 @@
--- By what the search answers; a section has nothing to search for.
-use mathlib.Core.Path.{refl, sym, _∙_}
+-- By what the search answers; a section has nothing to search for, and what is not found is the fault.
+use mathlib.Core.Path.{refl, sym, ap, _∙_}
 use native.Mathlib.Omega.{arith}
 use borrow.Author.Needs.{needs}
 use borrow.Author.Tests.{not-true}
 use denote.Ref.{now}
 use Rattle.name_table.specs.declared.Found.the-variants.{At, Nothing}
-use Rattle.name_checks.proofs.TargetLaws.{section-marks, target-marks, target-within}
+use Rattle.name_checks.specs.Lookup.{toldOf}
+use Rattle.name_checks.proofs.TargetLaws.{section-marks, missing-excused, missing-told, target-marks, target-within}
 use Rattle.name_checks.proofs.marking.mark_target.Statement.{statement}
 use Rattle.name_checks.proofs.marking.mark_target.Tie as tie
 
@@ -19,7 +20,9 @@ same-length : tie.Need-same-length
 same-length c = search needs
 
 returns : tie.Need-returns
-returns c = section-marks (now (c .before .before .before .before .before .before .args .src)) (now (c .before .before .before .before .before .before .args .notes)) (c .before .before .before .before .before .before .args .i) (c .before .before .kind-at .result) (c .before .before .before .before .before .before .args .later) (c .before .before .kind-at .ensures) (c .before .before .before .before .before .before .args .n) (sym (c .before .is-enclosed .ensures) ∙ not-true (c .before .is-enclosed .result) (c .if1 .taken))
+returns c =
+    let a = c .before .before .before .before .before .before .args in
+    section-marks (now (a .src)) (now (a .notes)) (a .i) (c .before .before .kind-at .result) (c .before .before .kind-at .ensures) (a .later) (a .n) (sym (c .before .is-enclosed .ensures) ∙ not-true (c .before .is-enclosed .result) (c .if1 .taken))
 
 find-target-requires : tie.Need-find-target-requires
 find-target-requires c κs = search needs
@@ -30,16 +33,32 @@ enum-known-target c = search needs
 enum-told : tie.Need-enum-told
 enum-told c = search needs
 
-missing-line-requires : tie.Need-missing-line-requires
-missing-line-requires c κs = search needs
+is-excused-requires : tie.Need-is-excused-requires
+is-excused-requires c κs = search needs
 
 same-length-2 : tie.Need-same-length-2
 same-length-2 c = search needs
 
 returns-2 : tie.Need-returns-2
 returns-2 c =
-    let a = c .before .before .before .before .before .before .before .before .before .before .before .before .args in
-    target-marks (now (a .src)) (now (a .notes)) (a .i) (a .later) (a .n) (c .missing-line .result) (c .before .before .before .before .find-target .result) Nothing (c .before .before .before .before .find-target .ensures) (c .before .before .enum-told .given .1) (c .missing-line .ensures)
+    let a = c .before .before .before .before .before .before .before .before .before .before .before .before .before .args in
+    target-marks (now (a .src)) (now (a .notes)) (a .i) (a .n) (a .later) (a .later) (c .before .before .before .before .before .find-target .result) Nothing (c .before .before .before .before .before .find-target .ensures) (c .before .before .before .enum-told .given .1)
+    (missing-excused (now (a .src)) (now (a .notes)) (a .i) (a .later) (c .before .is-excused .result) (c .before .is-excused .ensures) (c .if2 .taken))
+
+line-at-requires : tie.Need-line-at-requires
+line-at-requires c κs = search needs
+
+told-requires : tie.Need-told-requires
+told-requires c κs = search needs
+
+same-length-3 : tie.Need-same-length-3
+same-length-3 c = search needs
+
+returns-3 : tie.Need-returns-3
+returns-3 c =
+    let a = c .before .before .before .before .before .before .before .before .before .before .before .before .before .before .before .before .args in
+    target-marks (now (a .src)) (now (a .notes)) (a .i) (a .n) (a .later) (c .told .result) (c .before .before .before .before .before .before .before .before .find-target .result) Nothing (c .before .before .before .before .before .before .before .before .find-target .ensures) (c .before .before .before .before .before .before .enum-told .given .1)
+    (c .told .ensures ∙ ap (toldOf 15) (c .before .line-at .ensures) ∙ missing-told (now (a .src)) (now (a .notes)) (a .i) (a .later) (c .before .before .before .before .is-excused .result) (c .before .before .before .before .is-excused .ensures) (c .before .before .before .if2 .left))
 
 add-notes : tie.Need-add-notes
 add-notes c = omega (arith, target-within (now (c .before .before .before .before .before .before .before .before .before .before .before .args .src)) (now (c .before .before .before .before .before .before .before .before .before .before .before .args .notes)) (c .before .before .before .before .before .before .before .before .before .before .before .args .i) (c .before .before .before .before .before .before .before .before .before .before .before .args .n) (c .before .target .given .0 .0) (c .before .before .before .find-target .result) (c .before .before .before .find-target .ensures) (c .before .target .given .1))
@@ -50,13 +69,13 @@ mul-notes c = omega (arith, target-within (now (c .before .before .before .befor
 slice-write-notes : tie.Need-slice-write-notes
 slice-write-notes c = omega (arith, target-within (now (c .before .before .before .before .before .before .before .before .before .before .before .args .src)) (now (c .before .before .before .before .before .before .before .before .before .before .before .args .notes)) (c .before .before .before .before .before .before .before .before .before .before .before .args .i) (c .before .before .before .before .before .before .before .before .before .before .before .args .n) (c .before .target .given .0 .0) (c .before .before .before .find-target .result) (c .before .before .before .find-target .ensures) (c .before .target .given .1), c .before .before .before .before .before .before .before .before .before .before .before .pre)
 
-same-length-3 : tie.Need-same-length-3
-same-length-3 c = search needs
+same-length-4 : tie.Need-same-length-4
+same-length-4 c = search needs
 
-returns-3 : tie.Need-returns-3
-returns-3 c =
+returns-4 : tie.Need-returns-4
+returns-4 c =
     let a = c .before .before .before .before .before .before .before .before .before .before .before .args in
-    target-marks (now (a .src)) (now (a .notes)) (a .i) (a .later) (a .n) (a .later) (c .before .before .before .find-target .result) (At (c .before .target .given .0 .0)) (c .before .before .before .find-target .ensures) (c .before .target .given .1) refl
+    target-marks (now (a .src)) (now (a .notes)) (a .i) (a .n) (a .later) (a .later) (c .before .before .before .find-target .result) (At (c .before .target .given .0 .0)) (c .before .before .before .find-target .ensures) (c .before .target .given .1) refl
 
 pub mark-target-spec : {M : Type 1} → statement M
 mark-target-spec =
@@ -69,11 +88,15 @@ mark-target-spec =
     find-target-requires
     enum-known-target
     enum-told
-    missing-line-requires
+    is-excused-requires
     same-length-2
     returns-2
+    line-at-requires
+    told-requires
+    same-length-3
+    returns-3
     add-notes
     mul-notes
     slice-write-notes
-    same-length-3
-    returns-3)
+    same-length-4
+    returns-4)

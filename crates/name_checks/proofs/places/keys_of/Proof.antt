@@ -1,24 +1,24 @@
--- The keys of the names before place i stand; a turn of it is one law.
+-- The keys of the names before place i stand; a turn writes one more.
 use Prim.Native.Nat.{ℕ, _-_, _≤_}
-use mathlib.Core.Path.{_≡_, _∙_}
+use mathlib.Core.Path.{_≡_, ap, _∙_}
 use lib.ListN.{length, length-set, length-replicate}
 use native.Mathlib.Omega.{arith}
 use borrow.Author.Needs.{needs}
 use denote.Ref.{now}
 use Rattle.note_words.specs.Store.{mostNames}
-use Rattle.name_checks.specs.Lookup.{Keyed}
-use Rattle.name_checks.proofs.ClashLaws.{keyed-next}
+use Rattle.name_checks.specs.Lookup.{keysTo}
+use Rattle.name_checks.proofs.ClashLaws.{keys-none, keys-turn}
 use Rattle.name_checks.proofs.places.keys_of.Statement.{statement}
 use Rattle.name_checks.proofs.places.keys_of.Tie as tie
 
 abbrev Inv-loop : tie.InvT-loop
-Inv-loop src notes n keys₀ i₀ keys i = (i ≤ n) × (length keys ≡ mostNames) × Keyed src notes i keys
+Inv-loop src notes n keys₀ i₀ keys i = (i ≤ n) × (length keys ≡ mostNames) × (keys ≡ keysTo src notes i)
 
 abbrev μ-loop : tie.MeasureT-loop
 μ-loop src notes n keys₀ i₀ keys i = n - i
 
 loop-holds : tie.Need-loop-holds Inv-loop μ-loop
-loop-holds c = (omega arith, length-replicate {A = ℕ} mostNames 0, λ j h. absurd (omega (arith, h)))
+loop-holds c = (omega arith, length-replicate {A = ℕ} mostNames 0, keys-none (now (c .before .before .args .src)) (now (c .before .before .args .notes)))
 
 key-at-requires : tie.Need-key-at-requires Inv-loop μ-loop
 key-at-requires c κs = search needs
@@ -38,10 +38,13 @@ loop-less c = search needs
 loop-again : tie.Need-loop-again Inv-loop μ-loop
 loop-again c =
     let l = c .before .before .loop in
-    (omega arith, length-set (l .keys) (l .i) (c .key-at .result) ∙ l .inv .1, keyed-next (now (c .before .before .before .before .before .args .src)) (now (c .before .before .before .before .before .args .notes)) (l .keys) (l .i) (c .key-at .result) (omega arith) (c .key-at .ensures) (l .inv .2))
+    (omega arith, length-set (l .keys) (l .i) (c .key-at .result) ∙ l .inv .1, keys-turn (now (c .before .before .before .before .before .args .src)) (now (c .before .before .before .before .before .args .notes)) (l .keys) (l .i) (c .key-at .result) (l .inv .2) (c .key-at .ensures))
 
 returns : tie.Need-returns Inv-loop μ-loop
-returns c = λ j h. c .before .loop .inv .2 j (omega (arith, h, c .loop-test .left))
+returns c =
+    let l = c .before .loop in
+    let e : l .i ≡ c .before .before .before .before .args .n = omega (arith, l .inv .0, c .loop-test .left) in
+    l .inv .2 ∙ ap (keysTo (now (c .before .before .before .before .args .src)) (now (c .before .before .before .before .args .notes))) e
 
 pub keys-of-spec : {M : Type 1} → statement M
 keys-of-spec =

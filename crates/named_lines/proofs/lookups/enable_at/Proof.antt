@@ -1,7 +1,7 @@
 -- Each arm by computing the table at its number; past them nothing stands.
 use borrow.Author.Needs.{needs}
 use Rattle.laws.proofs.Numbers.{apart-le}
-use Rattle.name_table.specs.Names.{meaningAt, meaningOf}
+use Rattle.name_table.specs.Places.{meaningAt, meaningOf}
 use Rattle.name_table.proofs.Laws.{meaning-past}
 use Rattle.line_rules.specs.Tables.{enables}
 use Rattle.named_lines.proofs.lookups.enable_at.Statement.{statement}

@@ -4,12 +4,10 @@ use borrow.Author.Needs.{needs}
 use denote.Ref.{now}
 use Rattle.laws.specs.Bytes.{isBlank}
 use Rattle.words.specs.Words.{words, grown, onto}
-use Rattle.name_table.specs.Names.{namesOf}
-use Rattle.line_rules.specs.Fields.{namedWord, orGiven}
+use Rattle.name_table.specs.Places.{namesOf}
+use Rattle.laws.specs.Said.{orElse}
 use Rattle.line_rules.specs.Tables.{enables}
-use Rattle.records.specs.declared.Enable.{Enable}
 use Rattle.records.specs.declared.Enable.the-variants.{NoEnable}
-use mathlib.Core.Option.{Option}
 use Rattle.named_lines.proofs.TableLaws.{word-found}
 use Rattle.named_lines.proofs.lookups.enable_of.Statement.{statement}
 use Rattle.named_lines.proofs.lookups.enable_of.Tie as tie
@@ -25,7 +23,7 @@ enable-at-requires c κs = search needs
 
 returns : tie.Need-returns
 unfolding words grown onto isBlank namesOf enables
-returns c = c .enable-at .ensures ∙ ap (λ (o : Option Enable). orGiven o NoEnable) (word-found enables (namedWord (now (c .before .before .before .before .args .w))) _ (c .before .word-in .ensures))
+returns c = c .enable-at .ensures ∙ ap (orElse NoEnable) (word-found enables (now (c .before .before .before .before .args .w)) _ (c .before .word-in .ensures))
 
 pub enable-of-spec : {M : Type 1} → statement M
 enable-of-spec =

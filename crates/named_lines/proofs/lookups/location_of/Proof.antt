@@ -4,10 +4,9 @@ use borrow.Author.Needs.{needs}
 use denote.Ref.{now}
 use Rattle.laws.specs.Bytes.{isBlank}
 use Rattle.words.specs.Words.{words, grown, onto}
-use Rattle.name_table.specs.Names.{namesOf}
-use Rattle.line_rules.specs.Fields.{namedWord}
+use Rattle.name_table.specs.Places.{namesOf}
 use Rattle.line_rules.specs.Tables.{locations}
-use Rattle.named_lines.specs.Views.{asLocation}
+use Rattle.named_lines.specs.Views.{locationRead}
 use Rattle.named_lines.proofs.TableLaws.{word-found}
 use Rattle.named_lines.proofs.lookups.location_of.Statement.{statement}
 use Rattle.named_lines.proofs.lookups.location_of.Tie as tie
@@ -23,7 +22,7 @@ location-at-requires c κs = search needs
 
 returns : tie.Need-returns
 unfolding words grown onto isBlank namesOf locations
-returns c = c .location-at .ensures ∙ ap asLocation (word-found locations (namedWord (now (c .before .before .before .before .args .w))) _ (c .before .word-in .ensures))
+returns c = c .location-at .ensures ∙ ap locationRead (word-found locations (now (c .before .before .before .before .args .w)) _ (c .before .word-in .ensures))
 
 pub location-of-spec : {M : Type 1} → statement M
 location-of-spec =

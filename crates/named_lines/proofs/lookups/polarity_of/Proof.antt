@@ -4,12 +4,10 @@ use borrow.Author.Needs.{needs}
 use denote.Ref.{now}
 use Rattle.laws.specs.Bytes.{isBlank}
 use Rattle.words.specs.Words.{words, grown, onto}
-use Rattle.name_table.specs.Names.{namesOf}
-use Rattle.line_rules.specs.Fields.{namedWord, orGiven}
+use Rattle.name_table.specs.Places.{namesOf}
+use Rattle.laws.specs.Said.{orElse}
 use Rattle.line_rules.specs.Tables.{polarities}
-use Rattle.records.specs.declared.Polarity.{Polarity}
 use Rattle.records.specs.declared.Polarity.the-variants.{NoPolarity}
-use mathlib.Core.Option.{Option}
 use Rattle.named_lines.proofs.TableLaws.{word-found}
 use Rattle.named_lines.proofs.lookups.polarity_of.Statement.{statement}
 use Rattle.named_lines.proofs.lookups.polarity_of.Tie as tie
@@ -25,7 +23,7 @@ polarity-at-requires c κs = search needs
 
 returns : tie.Need-returns
 unfolding words grown onto isBlank namesOf polarities
-returns c = c .polarity-at .ensures ∙ ap (λ (o : Option Polarity). orGiven o NoPolarity) (word-found polarities (namedWord (now (c .before .before .before .before .args .w))) _ (c .before .word-in .ensures))
+returns c = c .polarity-at .ensures ∙ ap (orElse NoPolarity) (word-found polarities (now (c .before .before .before .before .args .w)) _ (c .before .word-in .ensures))
 
 pub polarity-of-spec : {M : Type 1} → statement M
 polarity-of-spec =

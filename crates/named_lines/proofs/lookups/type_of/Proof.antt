@@ -4,10 +4,9 @@ use borrow.Author.Needs.{needs}
 use denote.Ref.{now}
 use Rattle.laws.specs.Bytes.{isBlank}
 use Rattle.words.specs.Words.{words, grown, onto}
-use Rattle.name_table.specs.Names.{namesOf}
-use Rattle.line_rules.specs.Fields.{namedWord}
+use Rattle.name_table.specs.Places.{namesOf}
 use Rattle.line_rules.specs.Tables.{modelTypes}
-use Rattle.named_lines.specs.Views.{asType}
+use Rattle.named_lines.specs.Views.{typeRead}
 use Rattle.named_lines.proofs.TableLaws.{word-found}
 use Rattle.named_lines.proofs.lookups.type_of.Statement.{statement}
 use Rattle.named_lines.proofs.lookups.type_of.Tie as tie
@@ -20,7 +19,7 @@ type-at-requires c κs = search needs
 
 returns : tie.Need-returns
 unfolding words grown onto isBlank namesOf modelTypes
-returns c = c .type-at .ensures ∙ ap asType (word-found modelTypes (namedWord (now (c .before .before .before .before .before .args .w))) _ (c .before .word-in .ensures))
+returns c = c .type-at .ensures ∙ ap typeRead (word-found modelTypes (now (c .before .before .before .before .before .args .w)) _ (c .before .word-in .ensures))
 
 pub type-of-spec : {M : Type 1} → statement M
 type-of-spec = tie.close (tie.spec word-in-requires type-at-requires returns)

@@ -5,8 +5,7 @@ use mathlib.Core.List.{List}
 use native.Mathlib.Omega.{arith}
 use borrow.Author.Needs.{needs}
 use denote.Ref.{now}
-use Rattle.words.specs.Words.{words}
-use Rattle.line_rules.specs.Fields.{firstWord}
+use Rattle.words.specs.Words.{word, words}
 use Rattle.records.specs.declared.Kind.the-variants.{OfComponent, OfSelector, OfModel}
 use Rattle.note_words.specs.Store.{kindOf, logIn}
 use Rattle.scan.proofs.EventLaws.{name-fits, told-section}
@@ -98,7 +97,7 @@ returns-2 c =
     let p = a .p in
     let argument = c .before .before .before .before .before .before .before .before .before .argument-in in
     let w = c .before .before .before .before .before .before .before .before .first-in in
-    (rw (c .before .before .before .before .before .before .enum-told2 .given .1) (told-section s (now (a .notes)) (a .l) (a .t) p (c .before .before .before .before .before .before .before .before .before .before .before .before .before .pre) OfSelector 2 (w .result .start) (w .result .end) (a .t .counts .choices) 0 _ (c .before .before .before .before .before .section-note2 .ensures) refl refl (w .ensures .text ∙ ap (λ (v : List ℕ). firstWord (words v)) (argument .ensures .text)) (c .before .before .before .put-section2 .ensures) (c .count-name2 .ensures .0)), c .count-name2 .ensures .1)
+    (rw (c .before .before .before .before .before .before .enum-told2 .given .1) (told-section s (now (a .notes)) (a .l) (a .t) p (c .before .before .before .before .before .before .before .before .before .before .before .before .before .pre) OfSelector 2 (w .result .start) (w .result .end) (a .t .counts .choices) 0 _ (c .before .before .before .before .before .section-note2 .ensures) refl refl (w .ensures .text ∙ ap (λ (v : List ℕ). word 0 (words v)) (argument .ensures .text)) (c .before .before .before .put-section2 .ensures) (c .count-name2 .ensures .0)), c .count-name2 .ensures .1)
 
 same-length-3 : tie.Need-same-length-3
 same-length-3 c = search needs
@@ -111,7 +110,7 @@ returns-3 c =
     let p = a .p in
     let argument = c .before .before .before .before .before .before .before .before .before .argument-in in
     let w = c .before .before .before .before .before .before .before .before .first-in in
-    (rw (c .before .before .before .before .before .before .enum-told3 .given .1) (told-section s (now (a .notes)) (a .l) (a .t) p (c .before .before .before .before .before .before .before .before .before .before .before .before .before .pre) OfModel 4 (w .result .start) (w .result .end) (a .t .counts .waveforms) (a .t .counts .rows) _ (c .before .before .before .before .before .section-note3 .ensures) refl refl (w .ensures .text ∙ ap (λ (v : List ℕ). firstWord (words v)) (argument .ensures .text)) (c .before .before .before .put-section3 .ensures) (c .count-name3 .ensures .0)), c .count-name3 .ensures .1)
+    (rw (c .before .before .before .before .before .before .enum-told3 .given .1) (told-section s (now (a .notes)) (a .l) (a .t) p (c .before .before .before .before .before .before .before .before .before .before .before .before .before .pre) OfModel 4 (w .result .start) (w .result .end) (a .t .counts .waveforms) (a .t .counts .rows) _ (c .before .before .before .before .before .section-note3 .ensures) refl refl (w .ensures .text ∙ ap (λ (v : List ℕ). word 0 (words v)) (argument .ensures .text)) (c .before .before .before .put-section3 .ensures) (c .count-name3 .ensures .0)), c .count-name3 .ensures .1)
 
 pub note-section-spec : {M : Type 1} → statement M
 note-section-spec =

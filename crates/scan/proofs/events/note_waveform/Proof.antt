@@ -1,9 +1,9 @@
 -- By whether the table is full.
-use Prim.Native.Nat.{_≤_, _<_}
+use Prim.Native.Nat.{_≤_, _<_, min}
 use native.Mathlib.Omega.{arith}
 use borrow.Author.Needs.{needs}
 use denote.Ref.{now}
-use Rattle.rules.specs.Whole.{waveformBound}
+use Rattle.records.specs.Bounds.{mostWaveforms}
 use Rattle.scan.proofs.EventLaws.{waveform-full, waveform-going, kept-waveform, names-small}
 use Rattle.scan.proofs.events.note_waveform.Statement.{statement}
 use Rattle.scan.proofs.events.note_waveform.Tie as tie
@@ -14,7 +14,7 @@ waveform-bound-requires c κs = search needs
 returns : tie.Need-returns
 returns c =
     let a = c .before .before .before .before .before .args in
-    let h : waveformBound (a .l) ≤ a .t .counts .waveforms = omega (arith, c .if1 .taken, c .before .waveform-bound .ensures) in
+    let h : min mostWaveforms (a .l .waveforms) ≤ a .t .counts .waveforms = omega (arith, c .if1 .taken, c .before .waveform-bound .ensures) in
     (waveform-full (now (a .src)) (now (a .notes)) (a .l) (a .t) (a .p) (c .before .before .before .before .before .pre) h, omega (arith, names-small (a .t) (c .before .before .before .before .before .pre .within)))
 
 cast-put-wave : tie.Need-cast-put-wave
@@ -41,7 +41,7 @@ same-length c = search needs
 returns-2 : tie.Need-returns-2
 returns-2 c =
     let a = c .before .before .before .before .before .before .before .before .before .before .before .before .before .before .args in
-    let h : a .t .counts .waveforms < waveformBound (a .l) = omega (arith, c .before .before .before .before .before .before .before .before .before .if1 .left, c .before .before .before .before .before .before .before .before .before .before .waveform-bound .ensures) in
+    let h : a .t .counts .waveforms < min mostWaveforms (a .l .waveforms) = omega (arith, c .before .before .before .before .before .before .before .before .before .if1 .left, c .before .before .before .before .before .before .before .before .before .before .waveform-bound .ensures) in
     (rw (c .before .before .put-wave .ensures) (waveform-going (now (a .src)) (now (a .notes)) (a .l) (a .t) (a .p) (c .before .before .before .before .before .before .before .before .before .before .before .before .before .before .pre) h), kept-waveform (now (a .src)) (now (a .notes)) (a .l) (a .t) (a .p) (c .before .before .before .before .before .before .before .before .before .before .before .before .before .before .pre) h)
 
 pub note-waveform-spec : {M : Type 1} → statement M

@@ -5,17 +5,17 @@ use Rattle.scan.proofs.PartLaws.{first-in}
 use Rattle.scan.proofs.places.first_in.Statement.{statement}
 use Rattle.scan.proofs.places.first_in.Tie as tie
 
-sub-first-word : tie.Need-sub-first-word
-sub-first-word c = search needs
+sub-word-at : tie.Need-sub-word-at
+sub-word-at c = search needs
 
-part-first-word-start : tie.Need-part-first-word-start
-part-first-word-start c = search needs
+part-word-at-start : tie.Need-part-word-at-start
+part-word-at-start c = search needs
 
-part-first-word-end : tie.Need-part-first-word-end
-part-first-word-end c = search needs
+part-word-at-end : tie.Need-part-word-at-end
+part-word-at-end c = search needs
 
-first-word-requires : tie.Need-first-word-requires
-first-word-requires c κs = search needs
+word-at-requires : tie.Need-word-at-requires
+word-at-requires c κs = search needs
 
 add-t6 : tie.Need-add-t6
 add-t6 c = search needs
@@ -24,16 +24,16 @@ add-t9 : tie.Need-add-t9
 add-t9 c = search needs
 
 returns : tie.Need-returns
-returns c = first-in (now (c .before .before .before .before .before .args .src)) (c .before .before .before .before .before .args .a) (c .before .before .before .before .before .args .e) (c .before .before .first-word .result) (c .before .before .before .before .before .pre .0) (c .before .before .before .before .before .pre .1) (c .before .before .first-word .ensures)
+returns c = first-in (now (c .before .before .before .before .before .args .src)) (c .before .before .before .before .before .args .a) (c .before .before .before .before .before .args .e) (c .before .before .word-at .result) (c .before .before .before .before .before .pre .0) (c .before .before .before .before .before .pre .1) (c .before .before .word-at .ensures)
 
 pub first-in-spec : {M : Type 1} → statement M
 first-in-spec =
     tie.close
     (tie.spec
-    sub-first-word
-    part-first-word-start
-    part-first-word-end
-    first-word-requires
+    sub-word-at
+    part-word-at-start
+    part-word-at-end
+    word-at-requires
     add-t6
     add-t9
     returns)

@@ -3,8 +3,7 @@ use mathlib.Core.Path.{_∙_, subst}
 use native.Mathlib.Omega.{arith}
 use borrow.Author.Needs.{needs}
 use denote.Ref.{now}
-use Rattle.cut_lines.specs.Texts.{past}
-use Rattle.cut_lines.specs.Cursors.{NextIs}
+use Rattle.cut_lines.specs.Cursors.{past, NextIs}
 use Rattle.scan.proofs.EventLaws.{names-small}
 use Rattle.scan.proofs.ScanLaws.{run-text, run-change, run-out, turn-is, ready}
 use Rattle.scan.proofs.reading.turn.Statement.{statement}

@@ -1,13 +1,12 @@
--- The words written and those from this cursor on are those from the first: `model-part` at a turn, `model-end` at the end.
+-- The words written and those from this cursor on are those from the first: `model-key` at a turn, `model-end` and `model-out` at the end.
 use Prim.Native.Nat.{_-_}
-use mathlib.Core.Path.{refl, subst}
+use mathlib.Core.Path.{refl, sym, _∙_}
 use lib.ListN.{length}
 use native.Mathlib.Omega.{arith}
 use borrow.Author.Needs.{needs}
-use denote.Ref.{now}
-use Rattle.table_rows.specs.Parts.{PartNextIs}
+use Rattle.lines_under.proofs.Keyed.{key-found, key-out}
 use Rattle.table_rows.proofs.Stores.{rest-room}
-use Rattle.table_rows.proofs.PartWalks.{FillsModel, model-start, model-length, model-fit, model-part, model-end}
+use Rattle.table_rows.proofs.PartWalks.{FillsModel, model-start, model-length, model-fit, model-key, model-end, model-out}
 use Rattle.table_rows.proofs.parts.fill_model.Statement.{statement}
 use Rattle.table_rows.proofs.parts.fill_model.Tie as tie
 
@@ -20,69 +19,73 @@ abbrev μ-loop : tie.MeasureT-loop
 loop-holds : tie.Need-loop-holds Inv-loop μ-loop
 loop-holds c = model-start _ _ _ (c .before .before .pre .0)
 
-next-part-requires : tie.Need-next-part-requires Inv-loop μ-loop
-next-part-requires c κs = c .loop .inv .placed
+next-key-requires : tie.Need-next-key-requires Inv-loop μ-loop
+next-key-requires c κs = c .loop .inv .placed
 
-enum-known-part : tie.Need-enum-known-part Inv-loop μ-loop
-enum-known-part c = search needs
+enum-known-keyword : tie.Need-enum-known-keyword Inv-loop μ-loop
+enum-known-keyword c = search needs
 
-mul-fill-part : tie.Need-mul-fill-part Inv-loop μ-loop
-mul-fill-part c =
-    let s = now (c .before .before .before .before .before .before .before .args .src) in
-    let l = subst (PartNextIs s (c .before .before .before .before .loop .d)) (c .before .part .given .1) (c .before .before .before .next-part .ensures) in
-    let f = model-fit (c .before .before .before .before .loop .inv) l (c .before .before .before .before .before .before .before .pre .1) in
-    omega (arith, f, model-length (c .before .before .before .before .loop .inv) (c .before .before .before .before .before .before .before .pre .1), c .before .before .before .before .before .before .before .good)
+ends-requires : tie.Need-ends-requires Inv-loop μ-loop
+ends-requires c κs = search needs
 
-sub-fill-part : tie.Need-sub-fill-part Inv-loop μ-loop
-sub-fill-part c =
-    let s = now (c .before .before .before .before .before .before .before .args .src) in
-    let l = subst (PartNextIs s (c .before .before .before .before .loop .d)) (c .before .part .given .1) (c .before .before .before .next-part .ensures) in
-    let f = model-fit (c .before .before .before .before .loop .inv) l (c .before .before .before .before .before .before .before .pre .1) in
+same-length : tie.Need-same-length Inv-loop μ-loop
+same-length c = model-length (c .before .before .before .before .before .before .loop .inv) (c .before .before .before .before .before .before .before .before .before .pre .1)
+
+returns : tie.Need-returns Inv-loop μ-loop
+returns c = model-end (c .before .before .before .before .before .before .loop .inv) (key-found (c .before .before .before .keyword .given .1) (c .before .before .before .before .before .next-key .ensures)) (sym (c .before .ends .ensures) ∙ c .if1 .taken)
+
+mul-fill-key : tie.Need-mul-fill-key Inv-loop μ-loop
+mul-fill-key c =
+    let l = key-found (c .before .before .before .keyword .given .1) (c .before .before .before .before .before .next-key .ensures) in
+    let f = model-fit (c .before .before .before .before .before .before .loop .inv) l (sym (c .before .ends .ensures) ∙ c .if1 .left) (c .before .before .before .before .before .before .before .before .before .pre .1) in
+    omega (arith, f, model-length (c .before .before .before .before .before .before .loop .inv) (c .before .before .before .before .before .before .before .before .before .pre .1), c .before .before .before .before .before .before .before .before .before .good)
+
+sub-fill-key : tie.Need-sub-fill-key Inv-loop μ-loop
+sub-fill-key c =
+    let l = key-found (c .before .before .before .keyword .given .1) (c .before .before .before .before .before .next-key .ensures) in
+    let f = model-fit (c .before .before .before .before .before .before .loop .inv) l (sym (c .before .ends .ensures) ∙ c .if1 .left) (c .before .before .before .before .before .before .before .before .before .pre .1) in
     omega (arith, f)
 
-part-fill-part-start : tie.Need-part-fill-part-start Inv-loop μ-loop
-part-fill-part-start c =
-    let s = now (c .before .before .before .before .before .before .before .args .src) in
-    let l = subst (PartNextIs s (c .before .before .before .before .loop .d)) (c .before .part .given .1) (c .before .before .before .next-part .ensures) in
-    let f = model-fit (c .before .before .before .before .loop .inv) l (c .before .before .before .before .before .before .before .pre .1) in
+part-fill-key-start : tie.Need-part-fill-key-start Inv-loop μ-loop
+part-fill-key-start c =
+    let l = key-found (c .before .before .before .keyword .given .1) (c .before .before .before .before .before .next-key .ensures) in
+    let f = model-fit (c .before .before .before .before .before .before .loop .inv) l (sym (c .before .ends .ensures) ∙ c .if1 .left) (c .before .before .before .before .before .before .before .before .before .pre .1) in
     omega (arith, f)
 
-part-fill-part-end : tie.Need-part-fill-part-end Inv-loop μ-loop
-part-fill-part-end c = search needs
+part-fill-key-end : tie.Need-part-fill-key-end Inv-loop μ-loop
+part-fill-key-end c = search needs
 
-fill-part-requires : tie.Need-fill-part-requires Inv-loop μ-loop
-fill-part-requires c κs =
-    let s = now (c .before .before .before .before .before .before .before .before .args .src) in
-    let l = subst (PartNextIs s (c .before .before .before .before .before .loop .d)) (c .before .before .part .given .1) (c .before .before .before .before .next-part .ensures) in
-    (l .placed, rest-room (c .before .before .before .before .before .loop .rows) (c .before .before .before .before .before .loop .used) _ (model-fit (c .before .before .before .before .before .loop .inv) l (c .before .before .before .before .before .before .before .before .pre .1)))
+fill-key-requires : tie.Need-fill-key-requires Inv-loop μ-loop
+fill-key-requires c κs =
+    let l = key-found (c .before .before .before .before .keyword .given .1) (c .before .before .before .before .before .before .next-key .ensures) in
+    let f = model-fit (c .before .before .before .before .before .before .before .loop .inv) l (sym (c .before .before .ends .ensures) ∙ c .before .if1 .left) (c .before .before .before .before .before .before .before .before .before .before .pre .1) in
+    (l .placed, rest-room (c .before .before .before .before .before .before .before .loop .rows) (c .before .before .before .before .before .before .before .loop .used) _ f)
 
 add-used : tie.Need-add-used Inv-loop μ-loop
 add-used c =
-    let s = now (c .before .before .before .before .before .before .before .before .before .before .before .before .args .src) in
-    let l = subst (PartNextIs s (c .before .before .before .before .before .before .before .before .before .loop .d)) (c .before .before .before .before .before .before .part .given .1) (c .before .before .before .before .before .before .before .before .next-part .ensures) in
-    let f = model-fit (c .before .before .before .before .before .before .before .before .before .loop .inv) l (c .before .before .before .before .before .before .before .before .before .before .before .before .pre .1) in
-    omega (arith, f, c .before .before .before .fill-part .ensures .words, model-length (c .before .before .before .before .before .before .before .before .before .loop .inv) (c .before .before .before .before .before .before .before .before .before .before .before .before .pre .1), c .before .before .before .before .before .before .before .before .before .before .before .before .good)
+    let l = key-found (c .before .before .before .before .before .before .before .before .keyword .given .1) (c .before .before .before .before .before .before .before .before .before .before .next-key .ensures) in
+    let f = model-fit (c .before .before .before .before .before .before .before .before .before .before .before .loop .inv) l (sym (c .before .before .before .before .before .before .ends .ensures) ∙ c .before .before .before .before .before .if1 .left) (c .before .before .before .before .before .before .before .before .before .before .before .before .before .before .pre .1) in
+    omega (arith, f, c .before .before .before .fill-key .ensures .words, model-length (c .before .before .before .before .before .before .before .before .before .before .before .loop .inv) (c .before .before .before .before .before .before .before .before .before .before .before .before .before .before .pre .1), c .before .before .before .before .before .before .before .before .before .before .before .before .before .before .good)
 
 loop-less : tie.Need-loop-less Inv-loop μ-loop
 loop-less c =
-    let s = now (c .before .before .before .before .before .before .before .before .before .before .before .before .before .args .src) in
-    let l = subst (PartNextIs s (c .before .before .before .before .before .before .before .before .before .before .loop .d)) (c .before .before .before .before .before .before .before .part .given .1) (c .before .before .before .before .before .before .before .before .before .next-part .ensures) in
-    omega (arith, l .rises, c .before .before .before .before .fill-part .ensures .rises, c .before .before .before .before .fill-part .ensures .placed .within)
+    let l = key-found (c .before .before .before .before .before .before .before .before .before .keyword .given .1) (c .before .before .before .before .before .before .before .before .before .before .before .next-key .ensures) in
+    let r = c .before .before .before .before .fill-key .ensures in
+    omega (arith, l .rises, r .rises, r .placed .within)
 
 loop-again : tie.Need-loop-again Inv-loop μ-loop
 loop-again c =
-    let s = now (c .before .before .before .before .before .before .before .before .before .before .before .before .before .args .src) in
-    let l = subst (PartNextIs s (c .before .before .before .before .before .before .before .before .before .before .loop .d)) (c .before .before .before .before .before .before .before .part .given .1) (c .before .before .before .before .before .before .before .before .before .next-part .ensures) in
-    model-part (c .before .before .before .before .before .before .before .before .before .before .loop .inv) l (c .before .before .before .before .before .before .before .before .before .before .before .before .before .pre .1) (c .before .before .before .before .fill-part .ensures) refl
+    let l = key-found (c .before .before .before .before .before .before .before .before .before .keyword .given .1) (c .before .before .before .before .before .before .before .before .before .before .before .next-key .ensures) in
+    model-key (c .before .before .before .before .before .before .before .before .before .before .before .before .loop .inv) l (sym (c .before .before .before .before .before .before .before .ends .ensures) ∙ c .before .before .before .before .before .before .if1 .left) (c .before .before .before .before .before .before .before .before .before .before .before .before .before .before .before .pre .1) (c .before .before .before .before .fill-key .ensures) refl
 
 enum-told : tie.Need-enum-told Inv-loop μ-loop
 enum-told c = search needs
 
-same-length : tie.Need-same-length Inv-loop μ-loop
-same-length c = model-length (c .before .before .before .loop .inv) (c .before .before .before .before .before .before .pre .1)
+same-length-2 : tie.Need-same-length-2 Inv-loop μ-loop
+same-length-2 c = model-length (c .before .before .before .loop .inv) (c .before .before .before .before .before .before .pre .1)
 
-returns : tie.Need-returns Inv-loop μ-loop
-returns c = model-end (c .before .before .before .loop .inv) (subst (PartNextIs (now (c .before .before .before .before .before .before .args .src)) (c .before .before .before .loop .d)) (c .enum-told .given .1) (c .before .before .next-part .ensures))
+returns-2 : tie.Need-returns-2 Inv-loop μ-loop
+returns-2 c = model-out (c .before .before .before .loop .inv) (key-out _ _ (c .enum-told .given .1) (c .before .before .next-key .ensures))
 
 pub fill-model-spec : {M : Type 1} → statement M
 fill-model-spec =
@@ -91,16 +94,19 @@ fill-model-spec =
     Inv-loop
     μ-loop
     loop-holds
-    next-part-requires
-    enum-known-part
-    mul-fill-part
-    sub-fill-part
-    part-fill-part-start
-    part-fill-part-end
-    fill-part-requires
+    next-key-requires
+    enum-known-keyword
+    ends-requires
+    same-length
+    returns
+    mul-fill-key
+    sub-fill-key
+    part-fill-key-start
+    part-fill-key-end
+    fill-key-requires
     add-used
     loop-less
     loop-again
     enum-told
-    same-length
-    returns)
+    same-length-2
+    returns-2)

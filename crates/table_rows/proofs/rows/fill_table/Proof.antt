@@ -12,13 +12,13 @@ use Rattle.table_rows.proofs.rows.fill_table.Statement.{statement}
 use Rattle.table_rows.proofs.rows.fill_table.Tie as tie
 
 abbrev Inv-loop : tie.InvT-loop
-Inv-loop rows₀ src named d₀ used₀ rows d used = Fills named src d₀ d rows₀ rows used
+Inv-loop rows₀ src d₀ used₀ rows d used = Fills src d₀ d rows₀ rows used
 
 abbrev μ-loop : tie.MeasureT-loop
-μ-loop rows₀ src named d₀ used₀ rows d used = length src - d .at
+μ-loop rows₀ src d₀ used₀ rows d used = length src - d .at
 
 loop-holds : tie.Need-loop-holds Inv-loop μ-loop
-loop-holds c = fills-start _ _ _ _ (c .before .before .pre .0)
+loop-holds c = fills-start _ _ _ (c .before .before .pre .0)
 
 next-line-requires : tie.Need-next-line-requires Inv-loop μ-loop
 next-line-requires c κs = c .loop .inv .gathers .along .placed
@@ -26,17 +26,17 @@ next-line-requires c κs = c .loop .inv .gathers .along .placed
 enum-known-start : tie.Need-enum-known-start Inv-loop μ-loop
 enum-known-start c = search needs
 
-sub-row-in : tie.Need-sub-row-in Inv-loop μ-loop
-sub-row-in c = line-starts (c .before .before .before .before .loop .inv .gathers) (c .before .start .given .1) (c .before .before .before .next-line .ensures)
+sub-row-of : tie.Need-sub-row-of Inv-loop μ-loop
+sub-row-of c = line-starts (c .before .before .before .before .loop .inv .gathers) (c .before .start .given .1) (c .before .before .before .next-line .ensures)
 
-part-row-in-start : tie.Need-part-row-in-start Inv-loop μ-loop
-part-row-in-start c = line-starts (c .before .before .before .before .loop .inv .gathers) (c .before .start .given .1) (c .before .before .before .next-line .ensures)
+part-row-of-start : tie.Need-part-row-of-start Inv-loop μ-loop
+part-row-of-start c = line-starts (c .before .before .before .before .loop .inv .gathers) (c .before .start .given .1) (c .before .before .before .next-line .ensures)
 
-part-row-in-end : tie.Need-part-row-in-end Inv-loop μ-loop
-part-row-in-end c = line-fits (c .before .before .before .before .loop .inv .gathers) (c .before .start .given .1) (c .before .before .before .next-line .ensures)
+part-row-of-end : tie.Need-part-row-of-end Inv-loop μ-loop
+part-row-of-end c = line-fits (c .before .before .before .before .loop .inv .gathers) (c .before .start .given .1) (c .before .before .before .next-line .ensures)
 
-row-in-requires : tie.Need-row-in-requires Inv-loop μ-loop
-row-in-requires c κs = search needs
+row-of-requires : tie.Need-row-of-requires Inv-loop μ-loop
+row-of-requires c κs = search needs
 
 enum-known-row : tie.Need-enum-known-row Inv-loop μ-loop
 enum-known-row c = search needs
@@ -44,7 +44,7 @@ enum-known-row c = search needs
 -- there is room for a row, and the store is as long as it was
 room : (c : tie.After-row Inv-loop μ-loop) → (c .before .before .before .before .before .before .before .before .loop .used + 4 ≤ length (c .before .before .before .before .before .before .before .before .loop .rows)) × (length (c .before .before .before .before .before .before .before .before .loop .rows) ≡ length (now (c .before .before .before .before .before .before .before .before .before .before .before .args .rows)))
 room c =
-    (fills-fit (c .before .before .before .before .before .before .before .before .loop .inv) (c .before .before .before .before .before .start .given .1) (c .before .before .before .before .before .before .before .next-line .ensures) (c .before .before .row-in .ensures) (c .row .given .1) (c .before .before .before .before .before .before .before .before .before .before .before .pre .1), fills-length (c .before .before .before .before .before .before .before .before .loop .inv) (c .before .before .before .before .before .before .before .before .before .before .before .pre .1))
+    (fills-fit (c .before .before .before .before .before .before .before .before .loop .inv) (c .before .before .before .before .before .start .given .1) (c .before .before .before .before .before .before .before .next-line .ensures) (c .before .before .row-of .ensures) (c .row .given .1) (c .before .before .before .before .before .before .before .before .before .before .before .pre .1), fills-length (c .before .before .before .before .before .before .before .before .loop .inv) (c .before .before .before .before .before .before .before .before .before .before .before .pre .1))
 
 mul-put-row : tie.Need-mul-put-row Inv-loop μ-loop
 mul-put-row c = omega (arith, room (c .before), c .before .before .before .before .before .before .before .before .before .before .before .before .good)
@@ -68,7 +68,7 @@ loop-less : tie.Need-loop-less Inv-loop μ-loop
 loop-less c = line-less (c .before .before .before .before .before .before .before .before .before .before .before .before .before .loop .inv .gathers) (c .before .before .before .before .before .before .before .before .before .before .start .given .1) (c .before .before .before .before .before .before .before .before .before .before .before .before .next-line .ensures)
 
 loop-again : tie.Need-loop-again Inv-loop μ-loop
-loop-again c = rw (c .before .before .put-row .ensures) (fills-row (c .before .before .before .before .before .before .before .before .before .before .before .before .before .loop .inv) (c .before .before .before .before .before .before .before .before .before .before .start .given .1) (c .before .before .before .before .before .before .before .before .before .before .before .before .next-line .ensures) (c .before .before .before .before .before .before .before .row-in .ensures) (c .before .before .before .before .before .row .given .1) (c .before .before .before .before .before .before .before .before .before .before .before .before .before .before .before .before .pre .1))
+loop-again c = rw (c .before .before .put-row .ensures) (fills-row (c .before .before .before .before .before .before .before .before .before .before .before .before .before .loop .inv) (c .before .before .before .before .before .before .before .before .before .before .start .given .1) (c .before .before .before .before .before .before .before .before .before .before .before .before .next-line .ensures) (c .before .before .before .before .before .before .before .row-of .ensures) (c .before .before .before .before .before .row .given .1) (c .before .before .before .before .before .before .before .before .before .before .before .before .before .before .before .before .pre .1))
 
 enum-known-fault : tie.Need-enum-known-fault Inv-loop μ-loop
 enum-known-fault c = search needs
@@ -77,7 +77,7 @@ loop-less-2 : tie.Need-loop-less-2 Inv-loop μ-loop
 loop-less-2 c = line-less (c .before .before .before .before .before .before .before .before .before .loop .inv .gathers) (c .before .before .before .before .before .before .start .given .1) (c .before .before .before .before .before .before .before .before .next-line .ensures)
 
 loop-again-2 : tie.Need-loop-again-2 Inv-loop μ-loop
-loop-again-2 c = fills-none (c .before .before .before .before .before .before .before .before .before .loop .inv) (c .before .before .before .before .before .before .start .given .1) (c .before .before .before .before .before .before .before .before .next-line .ensures) (c .before .before .before .row-in .ensures) (c .before .fault .given .1)
+loop-again-2 c = fills-none (c .before .before .before .before .before .before .before .before .before .loop .inv) (c .before .before .before .before .before .before .start .given .1) (c .before .before .before .before .before .before .before .before .next-line .ensures) (c .before .before .before .row-of .ensures) (c .before .fault .given .1)
 
 enum-known-next : tie.Need-enum-known-next Inv-loop μ-loop
 enum-known-next c = search needs
@@ -97,10 +97,10 @@ fill-table-spec =
     loop-holds
     next-line-requires
     enum-known-start
-    sub-row-in
-    part-row-in-start
-    part-row-in-end
-    row-in-requires
+    sub-row-of
+    part-row-of-start
+    part-row-of-end
+    row-of-requires
     enum-known-row
     mul-put-row
     sub-put-row

@@ -1,11 +1,11 @@
--- A fold over the lines (`waveform-fold`), whose record at the end is the one laid (`waveform-laid`).
+-- A fold over the lines (`waveform-fold`), whose record at the end is the one read (`waveform-is`).
 use Prim.Native.Nat.{_-_}
 use mathlib.Core.Path.{ap, _∙_}
 use lib.ListN.{length}
 use native.Mathlib.Omega.{arith}
 use borrow.Author.Needs.{needs}
 use Rattle.lines_under.proofs.Folds.{Gathers, gathers-start, line-starts, line-fits, line-less, gathers-line, gathers-room, gathers-end}
-use Rattle.table_rows.proofs.WaveformLaws.{waveform-laid, waveform-fold, line-count}
+use Rattle.table_rows.proofs.WaveformLaws.{waveform-fold, waveform-small, waveform-is}
 use Rattle.table_rows.proofs.waveforms.waveform_of.Statement.{statement}
 use Rattle.table_rows.proofs.waveforms.waveform_of.Tie as tie
 
@@ -37,7 +37,7 @@ part-with-line-end : tie.Need-part-with-line-end Inv-loop μ-loop
 part-with-line-end c = line-fits (c .before .before .before .before .loop .inv) (c .before .start .given .1) (c .before .before .before .next-line .ensures)
 
 with-line-requires : tie.Need-with-line-requires Inv-loop μ-loop
-with-line-requires c κs = omega (arith, gathers-room (c .before .before .before .before .before .loop .inv) (c .before .before .start .given .1) (c .before .before .before .before .next-line .ensures) _ line-count, ap (λ (x : _). x .rows .count) (c .before .before .before .before .before .before .bare-waveform .ensures), c .before .before .before .before .before .before .before .before .good)
+with-line-requires c κs = omega (arith, gathers-room (c .before .before .before .before .before .loop .inv) (c .before .before .start .given .1) (c .before .before .before .before .next-line .ensures) _ waveform-small, ap (λ (x : _). x .rows .count) (c .before .before .before .before .before .before .bare-waveform .ensures), c .before .before .before .before .before .before .before .before .good)
 
 loop-less : tie.Need-loop-less Inv-loop μ-loop
 loop-less c = line-less (c .before .before .before .before .before .before .loop .inv) (c .before .before .before .start .given .1) (c .before .before .before .before .before .next-line .ensures)
@@ -49,7 +49,7 @@ enum-known-next : tie.Need-enum-known-next Inv-loop μ-loop
 enum-known-next c = search needs
 
 returns : tie.Need-returns Inv-loop μ-loop
-returns c = gathers-end (c .before .before .before .before .loop .inv) (c .before .next .given .1) (c .before .before .before .next-line .ensures) .whole ∙ rw (c .before .before .before .before .before .bare-waveform .ensures) (waveform-laid _ _ _)
+returns c = gathers-end (c .before .before .before .before .loop .inv) (c .before .next .given .1) (c .before .before .before .next-line .ensures) .whole ∙ rw (c .before .before .before .before .before .bare-waveform .ensures) (waveform-is _ _ _)
 
 pub waveform-of-spec : {M : Type 1} → statement M
 waveform-of-spec =

@@ -1,61 +1,61 @@
--- By whether the line has a place; then field by field.
+-- By the place of the line's name, and by what the line says.
+use mathlib.Core.Path.{sym, ap, _∙_}
 use borrow.Author.Needs.{needs}
+use denote.Ref.{now}
+use Rattle.decimal.specs.Answers.{cellSays}
+use Rattle.decimal.proofs.Answers.{cell-said}
+use Rattle.line_rules.specs.Fields.{numberLine}
+use Rattle.table_rows.proofs.WaveformLaws.{fixture-named, fixture-bad, fixture-nothing}
 use Rattle.table_rows.proofs.waveforms.with_fixture.Statement.{statement}
 use Rattle.table_rows.proofs.waveforms.with_fixture.Tie as tie
 
-enum-known-found : tie.Need-enum-known-found
-enum-known-found c = search needs
+fixture-line-requires : tie.Need-fixture-line-requires
+fixture-line-requires c κs = search needs
+
+enum-known-n : tie.Need-enum-known-n
+enum-known-n c = search needs
+
+number-line-requires : tie.Need-number-line-requires
+number-line-requires c κs = search needs
+
+enum-known-number : tie.Need-enum-known-number
+enum-known-number c = search needs
+
+fixture-at-requires : tie.Need-fixture-at-requires
+fixture-at-requires c κs = search needs
 
 enum-told : tie.Need-enum-told
 enum-told c = search needs
 
+enum-told-2 : tie.Need-enum-told-2
+enum-told-2 c = search needs
+
 returns : tie.Need-returns
-returns c = rw (c .enum-told .given .1)
-
-cell-at-requires : tie.Need-cell-at-requires
-cell-at-requires c κs = search needs
-
-cell-at-requires-2 : tie.Need-cell-at-requires-2
-cell-at-requires-2 c κs = search needs
-
-cell-at-requires-3 : tie.Need-cell-at-requires-3
-cell-at-requires-3 c κs = search needs
-
-cell-at-requires-4 : tie.Need-cell-at-requires-4
-cell-at-requires-4 c κs = search needs
-
-cell-at-requires-5 : tie.Need-cell-at-requires-5
-cell-at-requires-5 c κs = search needs
-
-cell-at-requires-6 : tie.Need-cell-at-requires-6
-cell-at-requires-6 c κs = search needs
-
-cell-at-requires-7 : tie.Need-cell-at-requires-7
-cell-at-requires-7 c κs = search needs
-
-cell-at-requires-8 : tie.Need-cell-at-requires-8
-cell-at-requires-8 c κs = search needs
-
-cell-at-requires-9 : tie.Need-cell-at-requires-9
-cell-at-requires-9 c κs = search needs
+returns c =
+    let w = now (c .before .before .before .before .before .before .before .before .before .before .args .w) in
+    c .fixture-at .ensures
+    ∙ fixture-named (c .before .before .before .before .before .before .before .before .before .before .args .x) w _ _ (sym (c .before .before .before .before .before .before .before .before .fixture-line .ensures) ∙ c .before .before .before .before .before .before .n .given .1)
+    (sym (cell-said _ (numberLine w) (c .before .before .before .before .number-line .ensures)) ∙ ap cellSays (c .before .before .number .given .1))
 
 returns-2 : tie.Need-returns-2
-returns-2 c = rw (c .before .before .before .before .before .before .before .before .before .before .before .found .given .1, c .before .before .before .before .before .before .before .before .cell-at .ensures, c .before .before .before .before .before .before .before .cell-at2 .ensures, c .before .before .before .before .before .before .cell-at3 .ensures, c .before .before .before .before .before .cell-at4 .ensures, c .before .before .before .before .cell-at5 .ensures, c .before .before .before .cell-at6 .ensures, c .before .before .cell-at7 .ensures, c .before .cell-at8 .ensures, c .cell-at9 .ensures)
+returns-2 c =
+    let w = now (c .before .before .before .before .before .before .before .before .args .w) in
+    fixture-bad (c .before .before .before .before .before .before .before .before .args .x) w _ (sym (cell-said _ (numberLine w) (c .before .before .number-line .ensures)) ∙ ap cellSays (c .enum-told .given .1))
+
+returns-3 : tie.Need-returns-3
+returns-3 c = fixture-nothing (c .before .before .before .before .args .x) (now (c .before .before .before .before .args .w)) (sym (c .before .before .fixture-line .ensures) ∙ c .enum-told2 .given .1)
 
 pub with-fixture-spec : {M : Type 1} → statement M
 with-fixture-spec =
     tie.close
     (tie.spec
-    enum-known-found
+    fixture-line-requires
+    enum-known-n
+    number-line-requires
+    enum-known-number
+    fixture-at-requires
     enum-told
+    enum-told-2
     returns
-    cell-at-requires
-    cell-at-requires-2
-    cell-at-requires-3
-    cell-at-requires-4
-    cell-at-requires-5
-    cell-at-requires-6
-    cell-at-requires-7
-    cell-at-requires-8
-    cell-at-requires-9
-    returns-2)
+    returns-2
+    returns-3)

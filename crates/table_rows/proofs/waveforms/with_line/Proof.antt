@@ -1,50 +1,45 @@
--- By whether the line is a named one.
-use mathlib.Core.Path.{sym, _∙_}
+-- A row, or a line that may have a number: `line-row` and `line-fixture`.
+use mathlib.Core.Path.{_∙_}
 use borrow.Author.Needs.{needs}
-use Rattle.laws.proofs.Tests.{cond-yes, cond-no}
-use Rattle.table_rows.specs.Waveforms.{withLine}
+use denote.Ref.{now}
+use Rattle.table_rows.proofs.RowLaws.{row-is, no-row-is}
+use Rattle.table_rows.proofs.WaveformLaws.{line-row, line-fixture}
 use Rattle.table_rows.proofs.waveforms.with_line.Statement.{statement}
 use Rattle.table_rows.proofs.waveforms.with_line.Tie as tie
 
-named-line-requires : tie.Need-named-line-requires
-named-line-requires c κs = search needs
+row-of-requires : tie.Need-row-of-requires
+row-of-requires c κs = search needs
 
-assigned-number-requires : tie.Need-assigned-number-requires
-assigned-number-requires c κs = search needs
+enum-told : tie.Need-enum-told
+enum-told c = search needs
 
-number-is-requires : tie.Need-number-is-requires
-number-is-requires c κs = search needs
+with-row-requires : tie.Need-with-row-requires
+with-row-requires c κs = search needs
 
-fixture-line-requires : tie.Need-fixture-line-requires
-fixture-line-requires c κs = search needs
+enum-told-2 : tie.Need-enum-told-2
+enum-told-2 c = search needs
 
 with-fixture-requires : tie.Need-with-fixture-requires
 with-fixture-requires c κs = search needs
 
 returns : tie.Need-returns
-unfolding withLine
-returns c = c .with-fixture .ensures ∙ rw (c .before .before .number-is .ensures, c .before .before .before .assigned-number .ensures, c .before .fixture-line .ensures) (sym (cond-yes _ _ (sym (c .before .before .before .before .before .named-line .ensures) ∙ c .before .before .before .before .if1 .taken)))
-
-row-of-requires : tie.Need-row-of-requires
-row-of-requires c κs = search needs
-
-with-point-requires : tie.Need-with-point-requires
-with-point-requires c κs = search needs
+returns c =
+    let w = now (c .before .before .before .before .before .args .w) in
+    c .with-row .ensures ∙ line-row (c .before .before .before .before .before .args .x) w _ (row-is w (c .before .before .before .row-of .ensures) (c .before .enum-told .given .1))
 
 returns-2 : tie.Need-returns-2
-unfolding withLine
-returns-2 c = c .with-point .ensures ∙ rw (c .before .row-of .ensures) (sym (cond-no _ _ (sym (c .before .before .before .named-line .ensures) ∙ c .before .before .if1 .left)))
+returns-2 c =
+    let w = now (c .before .before .before .before .before .args .w) in
+    c .with-fixture .ensures ∙ line-fixture (c .before .before .before .before .before .args .x) w _ (no-row-is w (c .before .before .before .row-of .ensures) (c .before .enum-told2 .given .1))
 
 pub with-line-spec : {M : Type 1} → statement M
 with-line-spec =
     tie.close
     (tie.spec
-    named-line-requires
-    assigned-number-requires
-    number-is-requires
-    fixture-line-requires
+    row-of-requires
+    enum-told
+    with-row-requires
+    enum-told-2
     with-fixture-requires
     returns
-    row-of-requires
-    with-point-requires
     returns-2)

@@ -1,0 +1,78 @@
+-- Fewer than three words, then the names, then the cells or nothing: `row-few`, `row-fails`, `row-cells`, `row-short`, `row-names`.
+use mathlib.Core.Path.{sym, ap, _∙_}
+use native.Mathlib.Omega.{arith}
+use lib.ListN.{length, drop}
+use borrow.Author.Needs.{needs}
+use borrow.Author.Tests.{not-true, not-false}
+use denote.Ref.{now}
+use Rattle.laws.specs.Said.{faultIn}
+use Rattle.words.specs.Words.{words}
+use Rattle.words.proofs.Chains.{link, done, words-under, words-from, words-just}
+use Rattle.line_rules.proofs.Answers.{triple-said}
+use Rattle.rules.specs.Component.{pinCells}
+use Rattle.component_steps.proofs.Laws.{row-few, row-fails, row-cells, row-short, row-names}
+use Rattle.component_steps.proofs.pin_fault.Statement.{statement}
+use Rattle.component_steps.proofs.pin_fault.Tie as tie
+
+word-at-requires : tie.Need-word-at-requires
+word-at-requires c κs = search needs
+
+word-at-requires-2 : tie.Need-word-at-requires-2
+word-at-requires-2 c κs = search needs
+
+word-at-requires-3 : tie.Need-word-at-requires-3
+word-at-requires-3 c κs = search needs
+
+returns : tie.Need-returns
+returns c = row-few _ _ (words-under (link (c .before .before .before .before .word-at .ensures) (link (c .before .before .before .word-at2 .ensures) done)) (c .before .before .word-at3 .ensures) (c .if1 .taken))
+
+names-pass-requires : tie.Need-names-pass-requires
+names-pass-requires c κs = search needs
+
+returns-2 : tie.Need-returns-2
+returns-2 c =
+    row-fails _ (words-from (link (c .before .before .before .before .before .before .word-at .ensures) (link (c .before .before .before .before .before .word-at2 .ensures) done)) (c .before .before .before .before .word-at3 .ensures) (c .before .before .if1 .left))
+    (sym (c .before .names-pass .ensures) ∙ not-true (c .before .names-pass .result) (c .if2 .taken))
+
+pin-cells-requires : tie.Need-pin-cells-requires
+pin-cells-requires c κs = search needs
+
+triple-fault-requires : tie.Need-triple-fault-requires
+triple-fault-requires c κs = search needs
+
+returns-3 : tie.Need-returns-3
+returns-3 c =
+    c .triple-fault .ensures
+    ∙ ap faultIn (triple-said _ (pinCells (words (drop (c .before .before .before .before .before .before .before .word-at3 .result .end) (now (c .before .before .before .before .before .before .before .before .before .before .before .args .w))))) (c .before .pin-cells .ensures))
+    ∙ row-cells _ (words-from (link (c .before .before .before .before .before .before .before .before .before .word-at .ensures) (link (c .before .before .before .before .before .before .before .before .word-at2 .ensures) done)) (c .before .before .before .before .before .before .before .word-at3 .ensures) (c .before .before .before .before .before .if1 .left))
+    (sym (c .before .before .before .before .names-pass .ensures) ∙ not-false (c .before .before .before .before .names-pass .result) (c .before .before .before .if2 .left)) (c .before .before .if3 .taken)
+
+word-at-requires-4 : tie.Need-word-at-requires-4
+word-at-requires-4 c κs = search needs
+
+returns-4 : tie.Need-returns-4
+returns-4 c =
+    row-short _ (words-from (link (c .before .before .before .before .before .before .before .before .before .before .word-at .ensures) (link (c .before .before .before .before .before .before .before .before .before .word-at2 .ensures) done)) (c .before .before .before .before .before .before .before .before .word-at3 .ensures) (c .before .before .before .before .before .before .if1 .left)) (c .before .before .before .if3 .left)
+    (omega (arith, ap length (c .before .before .word-at4 .ensures .some (c .if4 .taken))))
+
+returns-5 : tie.Need-returns-5
+returns-5 c =
+    row-names _ (words-just (link (c .before .before .before .before .before .before .before .before .before .before .word-at .ensures) (link (c .before .before .before .before .before .before .before .before .before .word-at2 .ensures) done)) (c .before .before .before .before .before .before .before .before .word-at3 .ensures) (c .before .before .before .before .before .before .if1 .left) (c .before .before .word-at4 .ensures) (c .if4 .left))
+    (sym (c .before .before .before .before .before .names-pass .ensures) ∙ not-false (c .before .before .before .before .before .names-pass .result) (c .before .before .before .before .if2 .left))
+
+pub pin-fault-spec : {M : Type 1} → statement M
+pin-fault-spec =
+    tie.close
+    (tie.spec
+    word-at-requires
+    word-at-requires-2
+    word-at-requires-3
+    returns
+    names-pass-requires
+    returns-2
+    pin-cells-requires
+    triple-fault-requires
+    returns-3
+    word-at-requires-4
+    returns-4
+    returns-5)

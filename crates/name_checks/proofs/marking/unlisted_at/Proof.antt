@@ -1,0 +1,56 @@
+-- By the kind, and by the mark.
+use mathlib.Core.Path.{sym, ap, _∙_}
+use borrow.Author.Needs.{needs}
+use denote.Ref.{now}
+use Rattle.name_checks.specs.Lookup.{toldOf}
+use Rattle.name_checks.proofs.MarkLaws.{unmarked-kept, unmarked-told, unmarked-other}
+use Rattle.name_checks.proofs.marking.unlisted_at.Statement.{statement}
+use Rattle.name_checks.proofs.marking.unlisted_at.Tie as tie
+
+kind-at-requires : tie.Need-kind-at-requires
+kind-at-requires c κs = search needs
+
+model-or-selector-requires : tie.Need-model-or-selector-requires
+model-or-selector-requires c κs = search needs
+
+add-word : tie.Need-add-word
+add-word c = search needs
+
+word-requires : tie.Need-word-requires
+word-requires c κs = search needs
+
+returns : tie.Need-returns
+returns c =
+    let a = c .before .before .before .before .before .before .args in
+    unmarked-kept (now (a .notes)) (a .j) (c .before .before .before .before .kind-at .result) (a .later) (c .before .before .before .before .kind-at .ensures) (c .before .word .result) (sym (c .before .before .before .model-or-selector .ensures) ∙ c .before .before .if1 .taken) (c .before .word .ensures) (c .if2 .taken)
+
+line-at-requires : tie.Need-line-at-requires
+line-at-requires c κs = search needs
+
+told-requires : tie.Need-told-requires
+told-requires c κs = search needs
+
+returns-2 : tie.Need-returns-2
+returns-2 c =
+    let a = c .before .before .before .before .before .before .before .before .args in
+    c .told .ensures ∙ ap (toldOf 16) (c .before .line-at .ensures)
+    ∙ unmarked-told (now (a .notes)) (a .j) (c .before .before .before .before .before .before .kind-at .result) (a .later) (c .before .before .before .before .before .before .kind-at .ensures) (c .before .before .before .word .result) (sym (c .before .before .before .before .before .model-or-selector .ensures) ∙ c .before .before .before .before .if1 .taken) (c .before .before .before .word .ensures) (c .before .before .if2 .left)
+
+returns-3 : tie.Need-returns-3
+returns-3 c =
+    let a = c .before .before .before .before .args in
+    unmarked-other (now (a .notes)) (a .j) (c .before .before .kind-at .result) (a .later) (c .before .before .kind-at .ensures) (sym (c .before .model-or-selector .ensures) ∙ c .if1 .left)
+
+pub unlisted-at-spec : {M : Type 1} → statement M
+unlisted-at-spec =
+    tie.close
+    (tie.spec
+    kind-at-requires
+    model-or-selector-requires
+    add-word
+    word-requires
+    returns
+    line-at-requires
+    told-requires
+    returns-2
+    returns-3)
