@@ -1,0 +1,23 @@
+-- That the tables of every accepted file satisfy those facts.
+pub mod Run
+pub mod Checks
+pub mod Faults
+pub mod Named
+pub mod Rows
+pub mod ModelSteps
+pub mod First
+pub mod Lists
+pub mod Parts
+pub mod Sections
+pub mod Spans
+pub mod Models
+pub mod ComponentSteps
+pub mod Components
+pub mod Members
+pub mod Events
+pub mod Names
+pub mod Fresh
+pub mod Laying
+pub mod Tables
+pub mod Fallbacks
+pub mod Facts

@@ -1,0 +1,70 @@
+-- Where what is read falls back (a bad cell to a missing one, a bad row to none, no type to Terminator), the fallback never speaks in an accepted file.
+use Prim.Native.Nat.{ℕ}
+use mathlib.Core.Path.{_≡_}
+use mathlib.Core.List.{List}
+use mathlib.Core.Logic.{_⊎_}
+use mathlib.Core.Bool.{Bool, true, false}
+use Rattle.laws.specs.Bytes.{bytes}
+use Rattle.laws.specs.Said.{says, faultIn}
+use Rattle.words.specs.Words.{word, words}
+use Rattle.cut_lines.specs.Texts.{Text}
+use Rattle.records.specs.declared.ModelType.{ModelType}
+use Rattle.records.specs.declared.Row.{Row}
+use Rattle.line_rules.specs.Fields.{isModelName, oneOf, wordLine, cellsLine, numberLine, rowOf, lineSays}
+use Rattle.line_rules.specs.Tables.{locations, modelTypes, waveformKeywords}
+use Rattle.rules.specs.Component.{pinFault}
+use Rattle.rules.specs.Model.{firstFault, rampFault, beginsLetter}
+use Rattle.rules.specs.Reading.{under, linesUnder, TableIs, tablesIn, SectionIs, component, selector, model}
+use Rattle.accepted_tables.specs.Facts.{Every}
+
+-- ---- lines without a fault
+
+-- Si_location and Timing_location; R_pkg, L_pkg and C_pkg
+abbrev pub LocationLine : List ℕ → Type 0
+LocationLine w = faultIn (wordLine locations w) ≡ 0
+
+abbrev pub PackageLine : List ℕ → Type 0
+PackageLine w = faultIn (cellsLine w) ≡ 0
+
+-- a pin's row, under one heading or the other
+abbrev pub PinLine : List ℕ → Type 0
+PinLine w = (long : Bool) × (pinFault long (words w) ≡ 0)
+
+abbrev pub ChoiceLine : List ℕ → Type 0
+ChoiceLine w = isModelName (word 0 (words w)) ≡ true
+
+-- a number and three cells
+abbrev pub RowLine : List ℕ → Type 0
+RowLine w = (r : Row) × (rowOf (words w) ≡ says r)
+
+-- a waveform's named line, which begins with a letter
+abbrev pub FixtureLine : List ℕ → Type 0
+FixtureLine w = (beginsLetter (word 0 (words w)) ≡ true) × (faultIn (numberLine w) ≡ 0)
+
+-- a waveform's lines, and those of another table
+abbrev pub TableLines : Bool → List (List ℕ) → Type 0
+TableLines true ls = Every (λ (w : List ℕ). RowLine w ⊎ FixtureLine w) ls
+TableLines false ls = Every RowLine ls
+
+-- ---- a component's texts
+
+pub record ComponentSaid (ts : List Text) : Type 0 where
+  pub first : Every LocationLine (under ts)
+  pub packaged : Every PackageLine (linesUnder "package" ts)
+  pub pins : Every PinLine (linesUnder "pin" ts)
+
+-- ---- a model's texts
+
+pub record ModelSaid (ts : List Text) : Type 0 where
+  -- whatever else stood where no type is given, the type would be the same: it is given
+  pub type : (x y : ModelType) → lineSays "Model_type" (wordLine modelTypes) x (under ts) ≡ lineSays "Model_type" (wordLine modelTypes) y (under ts)
+  pub first : Every (λ (w : List ℕ). firstFault w ≡ 0) (under ts)
+  pub ramp : Every (λ (w : List ℕ). rampFault w ≡ 0) (linesUnder "ramp" ts)
+  pub tables : Every (λ (t : TableIs). TableLines (oneOf (t .key) (words (bytes waveformKeywords))) (t .lines)) (tablesIn ts)
+
+-- ---- a section
+
+abbrev pub SectionSaid : SectionIs → Type 0
+SectionSaid (component w ts) = ComponentSaid ts
+SectionSaid (selector w ts) = Every ChoiceLine (under ts)
+SectionSaid (model w ts) = ModelSaid ts

@@ -1,0 +1,1 @@
+// No code: what the tables of every accepted file satisfy.
