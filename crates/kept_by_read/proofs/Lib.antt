@@ -1,0 +1,2 @@
+-- The theorem, from the promise and from what equal tables say.
+pub mod Kept

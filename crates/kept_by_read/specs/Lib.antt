@@ -1,0 +1,2 @@
+-- "Kept is all that is read", over the promise of `read`.
+pub mod Kept
