@@ -1,0 +1,17 @@
+-- From word k on.
+use Prim.Native.Nat.{_-_}
+use borrow.Author.Needs.{needs}
+use Rattle.table_records.proofs.parts.name_at.Statement.{statement}
+use Rattle.table_records.proofs.parts.name_at.Tie as tie
+
+words-from-requires : tie.Need-words-from-requires
+words-from-requires c κs = search needs
+
+name-from-requires : tie.Need-name-from-requires
+name-from-requires c κs = search needs
+
+returns : tie.Need-returns
+returns c = cc
+
+pub name-at-spec : {M : Type 1} → statement M
+name-at-spec = tie.close (tie.spec words-from-requires name-from-requires returns)

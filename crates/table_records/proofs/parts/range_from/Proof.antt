@@ -1,0 +1,27 @@
+-- Part by part.
+use Prim.Native.Nat.{_-_}
+use borrow.Author.Needs.{needs}
+use Rattle.table_records.specs.Records.{rangeFrom}
+use Rattle.table_records.proofs.parts.range_from.Statement.{statement}
+use Rattle.table_records.proofs.parts.range_from.Tie as tie
+
+number-at-requires : tie.Need-number-at-requires
+number-at-requires c κs = search needs
+
+flag-in-requires : tie.Need-flag-in-requires
+flag-in-requires c κs = search needs
+
+words-from-requires : tie.Need-words-from-requires
+words-from-requires c κs = search needs
+
+triple-from-requires : tie.Need-triple-from-requires
+triple-from-requires c κs = search needs
+
+returns : tie.Need-returns
+unfolding rangeFrom
+returns c = cc
+
+pub range-from-spec : {M : Type 1} → statement M
+range-from-spec =
+    tie.close
+    (tie.spec number-at-requires flag-in-requires words-from-requires triple-from-requires returns)

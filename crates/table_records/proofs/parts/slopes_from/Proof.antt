@@ -1,0 +1,52 @@
+-- Part by part.
+use Prim.Native.Nat.{_-_}
+use borrow.Author.Needs.{needs}
+use Rattle.table_records.specs.Records.{slopesFrom}
+use Rattle.table_records.proofs.parts.slopes_from.Statement.{statement}
+use Rattle.table_records.proofs.parts.slopes_from.Tie as tie
+
+cell-at-requires : tie.Need-cell-at-requires
+cell-at-requires c κs = search needs
+
+cell-at-requires-2 : tie.Need-cell-at-requires-2
+cell-at-requires-2 c κs = search needs
+
+slope-in-requires : tie.Need-slope-in-requires
+slope-in-requires c κs = search needs
+
+cell-at-requires-3 : tie.Need-cell-at-requires-3
+cell-at-requires-3 c κs = search needs
+
+cell-at-requires-4 : tie.Need-cell-at-requires-4
+cell-at-requires-4 c κs = search needs
+
+slope-in-requires-2 : tie.Need-slope-in-requires-2
+slope-in-requires-2 c κs = search needs
+
+cell-at-requires-5 : tie.Need-cell-at-requires-5
+cell-at-requires-5 c κs = search needs
+
+cell-at-requires-6 : tie.Need-cell-at-requires-6
+cell-at-requires-6 c κs = search needs
+
+slope-in-requires-3 : tie.Need-slope-in-requires-3
+slope-in-requires-3 c κs = search needs
+
+returns : tie.Need-returns
+unfolding slopesFrom
+returns c = cc
+
+pub slopes-from-spec : {M : Type 1} → statement M
+slopes-from-spec =
+    tie.close
+    (tie.spec
+    cell-at-requires
+    cell-at-requires-2
+    slope-in-requires
+    cell-at-requires-3
+    cell-at-requires-4
+    slope-in-requires-2
+    cell-at-requires-5
+    cell-at-requires-6
+    slope-in-requires-3
+    returns)

@@ -1,0 +1,17 @@
+-- From word k on.
+use Prim.Native.Nat.{_-_}
+use borrow.Author.Needs.{needs}
+use Rattle.table_records.proofs.parts.table_at.Statement.{statement}
+use Rattle.table_records.proofs.parts.table_at.Tie as tie
+
+words-from-requires : tie.Need-words-from-requires
+words-from-requires c κs = search needs
+
+table-from-requires : tie.Need-table-from-requires
+table-from-requires c κs = search needs
+
+returns : tie.Need-returns
+returns c = cc
+
+pub table-at-spec : {M : Type 1} → statement M
+table-at-spec = tie.close (tie.spec words-from-requires table-from-requires returns)

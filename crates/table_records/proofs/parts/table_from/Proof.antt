@@ -1,0 +1,27 @@
+-- Part by part.
+use Prim.Native.Nat.{_-_}
+use borrow.Author.Needs.{needs}
+use Rattle.table_records.specs.Records.{tableFrom}
+use Rattle.table_records.proofs.parts.table_from.Statement.{statement}
+use Rattle.table_records.proofs.parts.table_from.Tie as tie
+
+number-at-requires : tie.Need-number-at-requires
+number-at-requires c κs = search needs
+
+flag-in-requires : tie.Need-flag-in-requires
+flag-in-requires c κs = search needs
+
+words-from-requires : tie.Need-words-from-requires
+words-from-requires c κs = search needs
+
+span-from-requires : tie.Need-span-from-requires
+span-from-requires c κs = search needs
+
+returns : tie.Need-returns
+unfolding tableFrom
+returns c = cc
+
+pub table-from-spec : {M : Type 1} → statement M
+table-from-spec =
+    tie.close
+    (tie.spec number-at-requires flag-in-requires words-from-requires span-from-requires returns)

@@ -1,0 +1,17 @@
+-- From word k on.
+use Prim.Native.Nat.{_-_}
+use borrow.Author.Needs.{needs}
+use Rattle.table_records.proofs.parts.triple_at.Statement.{statement}
+use Rattle.table_records.proofs.parts.triple_at.Tie as tie
+
+words-from-requires : tie.Need-words-from-requires
+words-from-requires c κs = search needs
+
+triple-from-requires : tie.Need-triple-from-requires
+triple-from-requires c κs = search needs
+
+returns : tie.Need-returns
+returns c = cc
+
+pub triple-at-spec : {M : Type 1} → statement M
+triple-at-spec = tie.close (tie.spec words-from-requires triple-from-requires returns)

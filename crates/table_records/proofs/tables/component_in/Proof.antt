@@ -1,0 +1,17 @@
+-- The record's words, then the record.
+use Prim.Native.Nat.{_-_}
+use borrow.Author.Needs.{needs}
+use Rattle.table_records.proofs.tables.component_in.Statement.{statement}
+use Rattle.table_records.proofs.tables.component_in.Tie as tie
+
+record-at-requires : tie.Need-record-at-requires
+record-at-requires c κs = search needs
+
+component-from-requires : tie.Need-component-from-requires
+component-from-requires c κs = search needs
+
+returns : tie.Need-returns
+returns c = cc
+
+pub component-in-spec : {M : Type 1} → statement M
+component-in-spec = tie.close (tie.spec record-at-requires component-from-requires returns)

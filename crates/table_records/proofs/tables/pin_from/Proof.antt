@@ -1,0 +1,40 @@
+-- Part by part.
+use Prim.Native.Nat.{_-_}
+use borrow.Author.Needs.{needs}
+use Rattle.table_records.specs.Records.{pinFrom}
+use Rattle.table_records.proofs.tables.pin_from.Statement.{statement}
+use Rattle.table_records.proofs.tables.pin_from.Tie as tie
+
+name-from-requires : tie.Need-name-from-requires
+name-from-requires c κs = search needs
+
+name-at-requires : tie.Need-name-at-requires
+name-at-requires c κs = search needs
+
+name-at-requires-2 : tie.Need-name-at-requires-2
+name-at-requires-2 c κs = search needs
+
+cell-at-requires : tie.Need-cell-at-requires
+cell-at-requires c κs = search needs
+
+cell-at-requires-2 : tie.Need-cell-at-requires-2
+cell-at-requires-2 c κs = search needs
+
+cell-at-requires-3 : tie.Need-cell-at-requires-3
+cell-at-requires-3 c κs = search needs
+
+returns : tie.Need-returns
+unfolding pinFrom
+returns c = cc
+
+pub pin-from-spec : {M : Type 1} → statement M
+pin-from-spec =
+    tie.close
+    (tie.spec
+    name-from-requires
+    name-at-requires
+    name-at-requires-2
+    cell-at-requires
+    cell-at-requires-2
+    cell-at-requires-3
+    returns)

@@ -1,0 +1,17 @@
+-- The record's words, then the record.
+use Prim.Native.Nat.{_-_}
+use borrow.Author.Needs.{needs}
+use Rattle.table_records.proofs.tables.pin_in.Statement.{statement}
+use Rattle.table_records.proofs.tables.pin_in.Tie as tie
+
+record-at-requires : tie.Need-record-at-requires
+record-at-requires c κs = search needs
+
+pin-from-requires : tie.Need-pin-from-requires
+pin-from-requires c κs = search needs
+
+returns : tie.Need-returns
+returns c = cc
+
+pub pin-in-spec : {M : Type 1} → statement M
+pin-in-spec = tie.close (tie.spec record-at-requires pin-from-requires returns)
