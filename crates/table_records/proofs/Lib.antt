@@ -4,3 +4,5 @@ pub mod Types
 pub mod Bytes
 pub mod Whole
 pub mod Back
+pub mod RecordsBack
+pub mod Laid

@@ -18,8 +18,12 @@ use Rattle.records.specs.declared.Span.{Span}
 use Rattle.records.specs.declared.Table.{Table}
 use Rattle.records.specs.declared.Triple.{Triple}
 use Rattle.records.specs.declared.Waveform.{Waveform}
+use Rattle.records.specs.declared.Words.{Words}
+use Rattle.records.specs.declared.Pin.{Pin}
+use Rattle.records.specs.declared.Selector.{Selector}
+use Rattle.records.specs.declared.Choice.{Choice}
 use Rattle.table_records.specs.Values.{numberAt, cellAt, locationIn, polarityIn, enableIn, edgeIn, typeIn}
-use Rattle.table_records.specs.Records.{nameFrom, spanFrom, tripleFrom, tableFrom, rangeFrom, rampFrom, componentFrom, modelFrom, waveformFrom}
+use Rattle.table_records.specs.Records.{nameFrom, spanFrom, tripleFrom, tableFrom, rangeFrom, rampFrom, textFrom, componentFrom, pinFrom, selectorFrom, choiceFrom, modelFrom, waveformFrom}
 
 pub component-is : (ws : List ℕ) (section : ℕ) (name : Name) (si timing : Location) (manufacturer : Name) (resistance inductance capacitance : Triple) (pins : Span) → section ≡ numberAt ws 0 → name ≡ nameFrom (drop 1 ws) → si ≡ locationIn (numberAt ws 7) → timing ≡ locationIn (numberAt ws 8) → manufacturer ≡ nameFrom (drop 9 ws) → resistance ≡ tripleFrom (drop 15 ws) → inductance ≡ tripleFrom (drop 18 ws) → capacitance ≡ tripleFrom (drop 21 ws) → pins ≡ spanFrom (drop 24 ws)
     → record { section = section; name = name; si = si; timing = timing; manufacturer = manufacturer; resistance = resistance; inductance = inductance; capacitance = capacitance; pins = pins } ≡ componentFrom ws
@@ -35,3 +39,18 @@ pub waveform-is : (ws : List ℕ) (edge : Edge) (rfixture vfixture vmin vmax cfi
     → record { edge = edge; rfixture = rfixture; vfixture = vfixture; vmin = vmin; vmax = vmax; cfixture = cfixture; lfixture = lfixture; rdut = rdut; ldut = ldut; cdut = cdut; rows = rows } ≡ waveformFrom ws
 unfolding waveformFrom
 waveform-is ws edge rfixture vfixture vmin vmax cfixture lfixture rdut ldut cdut rows h0 h1 h2 h3 h4 h5 h6 h7 h8 h9 h10 = rw (h0, h1, h2, h3, h4, h5, h6, h7, h8, h9, h10) refl
+
+pub pin-is : (ws : List ℕ) (name signal model : Name) (resistance inductance capacitance : Cell) → name ≡ nameFrom ws → signal ≡ nameFrom (drop 6 ws) → model ≡ nameFrom (drop 12 ws) → resistance ≡ cellAt ws 18 → inductance ≡ cellAt ws 19 → capacitance ≡ cellAt ws 20
+    → record { name = name; signal = signal; model = model; resistance = resistance; inductance = inductance; capacitance = capacitance } ≡ pinFrom ws
+unfolding pinFrom
+pin-is ws name signal model resistance inductance capacitance h0 h1 h2 h3 h4 h5 = rw (h0, h1, h2, h3, h4, h5) refl
+
+pub selector-is : (ws : List ℕ) (section : ℕ) (name : Name) (choices : Span) → section ≡ numberAt ws 0 → name ≡ nameFrom (drop 1 ws) → choices ≡ spanFrom (drop 7 ws)
+    → record { section = section; name = name; choices = choices } ≡ selectorFrom ws
+unfolding selectorFrom
+selector-is ws section name choices h0 h1 h2 = rw (h0, h1, h2) refl
+
+pub choice-is : (ws : List ℕ) (model : Name) (description : Words) → model ≡ nameFrom ws → description ≡ textFrom (drop 6 ws)
+    → record { model = model; description = description } ≡ choiceFrom ws
+unfolding choiceFrom
+choice-is ws model description h0 h1 = rw (h0, h1) refl
