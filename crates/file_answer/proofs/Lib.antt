@@ -3,3 +3,4 @@ pub mod Laws
 pub mod UpTo
 pub mod SortedLaws
 pub mod Accepts
+pub mod Made

@@ -1,14 +1,13 @@
 -- Laws of `upTo`: its length, its elements, and what is made of each.
 use Prim.Native.Nat.{ℕ, zero, suc, _+_, _-_, _≤_, _<_}
 use mathlib.Core.Path.{_≡_, refl, sym, ap, _∙_}
-use mathlib.Core.List.{List, [], _∷_, _++_, map, reverse, flatMap, map-append, append-assoc, append-nil, reverse-cons}
+use mathlib.Core.List.{List, [], _∷_, _++_, map, map-append}
 use mathlib.Core.Logic.{⊎-elim}
 use native.Mathlib.Omega.{arith}
 use native.Mathlib.Nat.{eq-or-lt-of-le, le-of-suc-le-suc, not-suc-le-zero}
 use native.Mathlib.Numerals.{add-one}
-use lib.ListN.{length, drop, set, getD, length-append, length-drop, List·getD-append}
-use lib.Seq.{getD-at, ext-getD, set-at, drop-cons}
-use Rattle.table_walks.specs.Filled.{filledTo}
+use lib.ListN.{length, getD, length-append, List·getD-append}
+use lib.Seq.{getD-at, ext-getD}
 use Rattle.file_answer.specs.Sorted.{upTo}
 
 module _ {A : Type 0} (f : ℕ → A) where
@@ -25,15 +24,6 @@ module _ {A : Type 0} (f : ℕ → A) where
       (λ same. rw same (getD-at (upTo f n) (f n) [] d n (upTo-length n)))
       (λ less. List·getD-append (upTo f n) (f n ∷ []) d i (rw (upTo-length n) less) ∙ upTo-at n i d less)
       (eq-or-lt-of-le (le-of-suc-le-suc h))
-
-  -- a table filled so far is the new records and then what stood behind
-  pub filled-upTo : (n : ℕ) (xs : List A) → n ≤ length xs → filledTo f n xs ≡ upTo f n ++ drop n xs
-  unfolding upTo
-  filled-upTo zero xs h = refl
-  filled-upTo (suc n) xs h =
-      ap (λ (l : List A). set l n (f n)) (filled-upTo n xs (omega (arith, h)) ∙ ap (λ (l : List A). upTo f n ++ l) (drop-cons xs n (f n) (omega (arith, h))))
-      ∙ set-at (upTo f n) _ (drop (suc n) xs) (f n) n (upTo-length n)
-      ∙ sym (append-assoc (upTo f n) (f n ∷ []) (drop (suc n) xs))
 
 pub map-upTo : {A B : Type 0} (g : A → B) (f : ℕ → A) (n : ℕ) → map g (upTo f n) ≡ upTo (λ (i : ℕ). g (f i)) n
 unfolding upTo

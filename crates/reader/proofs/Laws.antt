@@ -26,7 +26,8 @@ use Rattle.file_answer.specs.Sorted.{Sorted, SortedFor, Outlines}
 use Rattle.records.specs.declared.Answer.{Answer}
 use Rattle.reader.specs.Promise.{lengthsIn, left, Read}
 use Rattle.reader.specs.Filling.{rowsFit, rowsFilled, blankNotes}
-use Rattle.reader.proofs.Tables.{file, fit, over-filled, components-made, pins-made, selectors-made, choices-made, models-made, waveforms-made, rows-made, rows-fit}
+use Rattle.file_answer.proofs.Made.{file, fit, components-made, pins-made, selectors-made, choices-made, models-made, waveforms-made, rows-made, rows-fit}
+use Rattle.reader.proofs.Tables.{over-filled}
 
 abbrev FitsBy : List ℕ → List ℕ → Counts → List Component → List Pin → List Selector → List Choice → List Model → List Waveform → List ℕ → Type 0
 FitsBy s ns o cs ps ss hs ms ws rs =

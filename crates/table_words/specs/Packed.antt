@@ -35,7 +35,7 @@ answerWords a = countWords (faultLine (a .verdict)) (a .counts) ++ textWords (a 
 
 -- ---- the lent tables
 
-pub record Lent : Type 0 where
+pub record WordTables : Type 0 where
   pub components : List ℕ
   pub pins : List ℕ
   pub selectors : List ℕ
@@ -44,12 +44,12 @@ pub record Lent : Type 0 where
   pub waveforms : List ℕ
   pub rows : List ℕ
 
-abbrev pub lent : List ℕ → List ℕ → List ℕ → List ℕ → List ℕ → List ℕ → List ℕ → Lent
-lent cs ps ss hs ms ws rs = record { components = cs; pins = ps; selectors = ss; choices = hs; models = ms; waveforms = ws; rows = rs }
+abbrev pub wordTables : List ℕ → List ℕ → List ℕ → List ℕ → List ℕ → List ℕ → List ℕ → WordTables
+wordTables cs ps ss hs ms ws rs = record { components = cs; pins = ps; selectors = ss; choices = hs; models = ms; waveforms = ws; rows = rs }
 
 -- ---- what the fills ask, and leave of what is noted: ns are the notes, and o says how many records they hold
 
-pub record Room (s ns : List ℕ) (o : Counts) (t : Lent) : Type 0 where
+pub record Room (s ns : List ℕ) (o : Counts) (t : WordTables) : Type 0 where
   pub components : componentSize * o .components ≤ length (t .components)
   pub pins : pinSize * o .pins ≤ length (t .pins)
   pub selectors : selectorSize * o .selectors ≤ length (t .selectors)
@@ -58,7 +58,7 @@ pub record Room (s ns : List ℕ) (o : Counts) (t : Lent) : Type 0 where
   pub waveforms : waveformSize * o .waveforms ≤ length (t .waveforms)
   pub rows : length (stored (rowsAt s ns (o .models))) ≤ length (t .rows)
 
-abbrev pub filled : List ℕ → List ℕ → Counts → Lent → Lent
+abbrev pub filled : List ℕ → List ℕ → Counts → WordTables → WordTables
 filled s ns o t =
     record {
       components = over (t .components) (wordsTo (λ k. componentWords (componentAt s ns k)) (o .components));

@@ -1,6 +1,6 @@
 // The answer and the tables as words, for C: a record is as many words as its fields need, and a table has its records one after the other.
 ghost use mathlib.Core.Path.{_≡_};
-ghost use Rattle.table_words.specs.Packed.{faultNumber, faultLine, countWords, answerWords, lent, Room, filled};
+ghost use Rattle.table_words.specs.Packed.{faultNumber, faultLine, countWords, answerWords, wordTables, Room, filled};
 use record_words::ANSWER_WORDS;
 use record_words::COUNT_WORDS;
 use record_words::TEXT_WORDS;
@@ -70,8 +70,8 @@ pub fn fill_tables(
     waveforms: &mut [u64],
     rows: &mut [u64],
 )
-    requires { ⌜ Room (now src) (now notes) o (lent (now components) (now pins) (now selectors) (now choices) (now models) (now waveforms) (now rows)) ⌝ }
-    ensures { λ _. ⌜ lent (now (components .exit)) (now (pins .exit)) (now (selectors .exit)) (now (choices .exit)) (now (models .exit)) (now (waveforms .exit)) (now (rows .exit)) ≡ filled (now (src .entry)) (now (notes .entry)) o (lent (now (components .entry)) (now (pins .entry)) (now (selectors .entry)) (now (choices .entry)) (now (models .entry)) (now (waveforms .entry)) (now (rows .entry))) ⌝ }
+    requires { ⌜ Room (now src) (now notes) o (wordTables (now components) (now pins) (now selectors) (now choices) (now models) (now waveforms) (now rows)) ⌝ }
+    ensures { λ _. ⌜ wordTables (now (components .exit)) (now (pins .exit)) (now (selectors .exit)) (now (choices .exit)) (now (models .exit)) (now (waveforms .exit)) (now (rows .exit)) ≡ filled (now (src .entry)) (now (notes .entry)) o (wordTables (now (components .entry)) (now (pins .entry)) (now (selectors .entry)) (now (choices .entry)) (now (models .entry)) (now (waveforms .entry)) (now (rows .entry))) ⌝ }
 {
     fills::fill_components(components, src, notes, o.components);
     fills::fill_pins(pins, src, notes, o.pins);

@@ -1,0 +1,94 @@
+-- What an accepted file's notes make is what document 01 reads: each table is as noted, and what is noted lies as document 01 says.
+use Prim.Native.Nat.{ℕ, zero, suc, _+_, _*_, _/_, _≤_}
+use mathlib.Core.Path.{_≡_, refl, sym, ap, _∙_, subst}
+use mathlib.Core.List.{List, [], _∷_, _++_, map, reverse, flatMap, append-assoc, append-nil}
+use native.Mathlib.Omega.{arith}
+use lib.ListN.{length, drop, length-append, length-map, length-reverse}
+use Rattle.rules.specs.Reading.{fileIn}
+use Rattle.layout.specs.Laid.{Laid, laid, countsOf}
+use Rattle.records.specs.Stored.{stored, rowWords, over}
+use Rattle.rules.specs.Whole.{Outcome, passed, refused, outcome, textsOf}
+use Rattle.records.specs.declared.Lengths.{Lengths}
+use Rattle.records.specs.declared.Row.{Row}
+use Rattle.records.specs.declared.Kind.the-variants.{OfComponent, OfPin, OfSelector, OfChoice, OfModel}
+use Rattle.notes.specs.Noted.{Note}
+use Rattle.records.specs.declared.Counts.{Counts}
+use Rattle.note_words.specs.Store.{waveAt}
+use Rattle.layout_by_notes.specs.Lies.{noted, componentNoted, pinNoted, selectorNoted, choiceNoted, modelNoted, waveNoted, rowsNoted, Lies, Fits}
+use Rattle.layout_by_notes.proofs.Lists.{flat-append}
+use Rattle.layout_by_notes.proofs.Tables.{lies, fits}
+use Rattle.from_notes.specs.Made.{noteBy, componentAt, pinAt, selectorAt, choiceAt, modelAt, waveformAt, rowsAt}
+use Rattle.file_answer.specs.Sorted.{upTo, Sorted}
+use Rattle.file_answer.proofs.UpTo.{upTo-length, map-upTo}
+
+-- ---- a table as noted is what is made of its notes
+
+made-upTo : {A B : Type 0} (g : A → B) (f : ℕ → A) (l : List A) (new : List B) → new ≡ map g l → l ≡ upTo f (length l) → new ≡ upTo (λ (i : ℕ). g (f i)) (length new)
+made-upTo g f l new e h =
+    let m : new ≡ upTo (λ (i : ℕ). g (f i)) (length l) = e ∙ ap (map g) h ∙ map-upTo g f (length l) in
+    let n : length new ≡ length l = ap length m ∙ upTo-length (λ (i : ℕ). g (f i)) (length l) in
+    m ∙ ap (upTo (λ (i : ℕ). g (f i))) (sym n)
+
+-- ---- rows
+
+rows-upTo : (s ns : List ℕ) (n : ℕ) → rowsAt s ns n ≡ flatMap rowsNoted (upTo (noteBy s ns OfModel) n)
+unfolding rowsAt upTo flatMap
+rows-upTo s ns zero = refl
+rows-upTo s ns (suc n) =
+    ap (λ (l : List Row). l ++ rowsNoted (noteBy s ns OfModel n)) (rows-upTo s ns n)
+    ∙ ap (λ (l : List Row). flatMap rowsNoted (upTo (noteBy s ns OfModel) n) ++ l) (sym (append-nil (rowsNoted (noteBy s ns OfModel n))))
+    ∙ sym (flat-append rowsNoted (upTo (noteBy s ns OfModel) n) (noteBy s ns OfModel n ∷ []))
+
+stored-length : (l : List Row) → length (stored l) ≡ 4 * length l
+unfolding stored
+stored-length [] = refl
+stored-length (r ∷ l) = let e : length (stored l) ≡ 4 * length l = stored-length l in omega (arith, length-append (rowWords r) (stored l), e)
+
+whole-rows : (n : ℕ) → 4 * (n / 4) ≤ n
+whole-rows n = omega arith
+
+module _ (l : Lengths) (s ns : List ℕ) (sorted : Sorted l s ns) where
+  abbrev pub file : Laid
+  file = laid (fileIn (textsOf s))
+
+  lie : Lies (sorted .log) file
+  lie = lies l (sorted .past) (textsOf s) (sorted .log) (sorted .run)
+
+  pub fit : Fits l (countsOf file)
+  fit = subst (Fits l) (lie .counts) (fits l (sorted .past) (textsOf s) (sorted .log) (sorted .run))
+
+  pub components-made : file .components ≡ upTo (componentAt s ns) (length (file .components))
+  unfolding componentAt
+  components-made = made-upTo componentNoted (noteBy s ns OfComponent) (noted OfComponent (sorted .log)) (file .components) (lie .components) (sorted .names OfComponent)
+
+  pub pins-made : file .pins ≡ upTo (pinAt s ns) (length (file .pins))
+  unfolding pinAt
+  pins-made = made-upTo pinNoted (noteBy s ns OfPin) (noted OfPin (sorted .log)) (file .pins) (lie .pins) (sorted .names OfPin)
+
+  pub selectors-made : file .selectors ≡ upTo (selectorAt s ns) (length (file .selectors))
+  unfolding selectorAt
+  selectors-made = made-upTo selectorNoted (noteBy s ns OfSelector) (noted OfSelector (sorted .log)) (file .selectors) (lie .selectors) (sorted .names OfSelector)
+
+  pub choices-made : file .choices ≡ upTo (choiceAt s ns) (length (file .choices))
+  unfolding choiceAt
+  choices-made = made-upTo choiceNoted (noteBy s ns OfChoice) (noted OfChoice (sorted .log)) (file .choices) (lie .choices) (sorted .names OfChoice)
+
+  pub models-made : file .models ≡ upTo (modelAt s ns) (length (file .models))
+  unfolding modelAt
+  models-made = made-upTo modelNoted (noteBy s ns OfModel) (noted OfModel (sorted .log)) (file .models) (lie .models) (sorted .names OfModel)
+
+  pub waveforms-made : file .waveforms ≡ upTo (waveformAt s ns) (length (file .waveforms))
+  unfolding waveformAt
+  waveforms-made =
+      made-upTo waveNoted (waveAt s ns) (reverse (sorted .log .waves)) (file .waveforms) (lie .waveforms)
+      (sorted .waves ∙ ap (upTo (waveAt s ns)) (sym (length-reverse (sorted .log .waves))))
+
+  -- ---- rows
+
+  pub rows-made : file .rows ≡ rowsAt s ns (length (file .models))
+  rows-made =
+      let n : length (file .models) ≡ length (noted OfModel (sorted .log)) = ap length (lie .models) ∙ length-map (noted OfModel (sorted .log)) modelNoted in
+      lie .rows ∙ ap (flatMap rowsNoted) (sorted .names OfModel) ∙ sym (rows-upTo s ns (length (noted OfModel (sorted .log)))) ∙ ap (rowsAt s ns) (sym n)
+
+  pub rows-fit : (rs : List ℕ) → l .rows ≡ length rs / 4 → length (stored (rowsAt s ns (length (file .models)))) ≤ length rs
+  rows-fit rs e = rw (sym rows-made) (omega (arith, stored-length (file .rows), fit .rows, e, whole-rows (length rs)))

@@ -1,0 +1,89 @@
+-- What the notes of a reading give: the words fit into the lent tables, and the fills leave what is promised. By whether the file is accepted.
+use Prim.Native.Nat.{ℕ, zero, suc, zero-le}
+use mathlib.Core.Path.{_≡_, refl, sym, ap, _∙_, subst}
+use mathlib.Core.List.{List, [], _∷_, _++_, flatMap, append-nil}
+use native.Mathlib.Omega.{arith}
+use lib.ListN.{length}
+use Rattle.rules.specs.Reading.{fileIn}
+use Rattle.records.specs.Stored.{stored, over}
+use Rattle.rules.specs.Whole.{Outcome, passed, refused, outcome, textsOf}
+use Rattle.records.specs.declared.Lengths.{Lengths}
+use Rattle.layout_by_notes.proofs.Lists.{flat-append}
+use Rattle.from_notes.specs.Made.{componentAt, pinAt, selectorAt, choiceAt, modelAt, waveformAt, rowsAt}
+use Rattle.file_answer.specs.Answered.{answerFor, answerOf}
+use Rattle.file_answer.specs.Sorted.{upTo, Sorted, SortedFor, Outlines}
+use Rattle.records.specs.declared.Answer.{Answer}
+use Rattle.file_answer.proofs.Made.{file, fit, components-made, pins-made, selectors-made, choices-made, models-made, waveforms-made, rows-made, rows-fit}
+use Rattle.record_words.specs.Records.{componentWords, pinWords, selectorWords, choiceWords, modelWords, waveformWords}
+use Rattle.table_words.specs.Packed.{wordsTo, WordTables, Room, filled}
+use Rattle.table_reader.specs.ReadInWords.{roomIn, ReadInWords}
+
+-- ---- the words of a table that is as noted
+
+flat-upTo : {A : Type 0} (g : A → List ℕ) (f : ℕ → A) (n : ℕ) → flatMap g (upTo f n) ≡ wordsTo (λ (k : ℕ). g (f k)) n
+unfolding upTo wordsTo flatMap
+flat-upTo g f zero = refl
+flat-upTo g f (suc n) =
+    flat-append g (upTo f n) (f n ∷ [])
+    ∙ ap (λ (l : List ℕ). flatMap g (upTo f n) ++ l) (append-nil (g (f n)))
+    ∙ ap (λ (l : List ℕ). l ++ g (f n)) (flat-upTo g f n)
+
+made-words : {A : Type 0} (g : A → List ℕ) (f : ℕ → A) (new : List A) → new ≡ upTo f (length new) → flatMap g new ≡ wordsTo (λ (k : ℕ). g (f k)) (length new)
+made-words g f new e = ap (flatMap g) e ∙ flat-upTo g f (length new)
+
+-- ---- by the outcome
+
+module _ (s : List ℕ) (t : WordTables) (ns : List ℕ) where
+  abbrev l : Lengths
+  l = roomIn t
+
+  fits-for : (o : Outcome) → SortedFor l s ns o → Room s ns (answerFor (fileIn (textsOf s)) o .counts) t
+  unfolding rowsAt stored
+  fits-for (passed h) sorted =
+      let f = fit l s ns sorted in
+      record {
+        components = omega (arith, f .components);
+        pins = omega (arith, f .pins);
+        selectors = omega (arith, f .selectors);
+        choices = omega (arith, f .choices);
+        models = omega (arith, f .models);
+        waveforms = omega (arith, f .waveforms);
+        rows = rows-fit l s ns sorted (t .rows) refl;
+      }
+  fits-for (refused n k) u =
+      record { components = zero-le; pins = zero-le; selectors = zero-le; choices = zero-le; models = zero-le; waveforms = zero-le; rows = zero-le }
+
+  abbrev LeftBy : Answer → Type 0
+  LeftBy a = ReadInWords s t a (filled s ns (a .counts) t)
+
+  left-whole : (h : _) → outcome l s ≡ passed h → Sorted l s ns → LeftBy (answerOf l s)
+  unfolding answerOf
+  left-whole h is sorted =
+      record {
+        answer = refl;
+        tables =
+            rw is
+            rw (made-words componentWords (componentAt s ns) _ (components-made l s ns sorted))
+            rw (made-words pinWords (pinAt s ns) _ (pins-made l s ns sorted))
+            rw (made-words selectorWords (selectorAt s ns) _ (selectors-made l s ns sorted))
+            rw (made-words choiceWords (choiceAt s ns) _ (choices-made l s ns sorted))
+            rw (made-words modelWords (modelAt s ns) _ (models-made l s ns sorted))
+            rw (made-words waveformWords (waveformAt s ns) _ (waveforms-made l s ns sorted))
+            rw (rows-made l s ns sorted) refl;
+      }
+
+  left-none : (n k : ℕ) → outcome l s ≡ refused n k → LeftBy (answerOf l s)
+  unfolding answerOf wordsTo rowsAt stored over
+  left-none n k is = record { answer = refl; tables = rw is refl }
+
+  left-for : (o : Outcome) → outcome l s ≡ o → SortedFor l s ns o → LeftBy (answerOf l s)
+  left-for (passed h) is sorted = left-whole h is sorted
+  left-for (refused n k) is u = left-none n k is
+
+  module _ (r : Answer) (said : Outlines l s r ns) where
+    pub fits : Room s ns (r .counts) t
+    unfolding answerOf
+    fits = subst (λ (z : Answer). Room s ns (z .counts) t) (sym (said .answer)) (fits-for (outcome l s) (said .sorted))
+
+    pub finishes : LeftBy r
+    finishes = subst LeftBy (sym (said .answer)) (left-for (outcome l s) refl (said .sorted))

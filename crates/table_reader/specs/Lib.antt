@@ -1,0 +1,2 @@
+-- What is promised of a reading into tables of words.
+pub mod ReadInWords
