@@ -1,4 +1,2 @@
--- Laws of names, rows and searches, and a search as the walks have it.
+-- Laws of what is asked.
 pub mod Laws
-pub mod Stored
-pub mod Records

@@ -1,2 +1,5 @@
--- What a user of the filled tables asks.
+-- What users ask of filled tables in words.
+pub mod Named
+pub mod Searched
 pub mod Chosen
+pub mod Valued

@@ -1,0 +1,2 @@
+-- What a user of the filled tables asks.
+pub mod Chosen
