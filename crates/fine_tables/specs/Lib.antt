@@ -1,0 +1,2 @@
+-- Every record that is read is fine.
+pub mod FineTables
