@@ -4,3 +4,4 @@ pub mod Texts
 pub mod Cells
 pub mod Records
 pub mod Fine
+pub mod Out

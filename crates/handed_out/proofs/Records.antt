@@ -28,10 +28,10 @@ use Rattle.rules.specs.Component.{keptModel, pinCells, pinIn}
 use Rattle.rules.specs.Model.{numberOr, defaultVinl, defaultVinh}
 use Rattle.rules.specs.Reading.{under, linesUnder, keySays, pinsIn, componentIn, choiceIn, choicesIn, numberSaid, threshold, rangeIn, noRange, rampIn, noRamp, modelIn, waveformIn}
 use Rattle.table_records.specs.Fine.{AreBytes, FineName, FineWords, FineTriple, FineSlopes, FineComponent, FinePin, FineChoice, FineModel, FineWaveform}
-use Rattle.fine_tables.specs.FineTables.{Each}
-use Rattle.fine_tables.proofs.Parts.{each-take, each-drop, each-after, each-both, each-same, each-map}
-use Rattle.fine_tables.proofs.Texts.{TextHas, each-word, each-under, each-lines-under, key-says}
-use Rattle.fine_tables.proofs.Cells.{Says, or-says, line-says, cells-say, three-cells-say, cells-line, slopes-line, number-line}
+use Rattle.handed_out.specs.FineTables.{Each}
+use Rattle.handed_out.proofs.Parts.{each-take, each-drop, each-after, each-both, each-same, each-map}
+use Rattle.handed_out.proofs.Texts.{TextHas, each-word, each-under, each-lines-under, key-says}
+use Rattle.handed_out.proofs.Cells.{Says, or-says, line-says, cells-say, three-cells-say, cells-line, slopes-line, number-line}
 
 -- ---- texts
 

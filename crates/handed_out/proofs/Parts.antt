@@ -10,7 +10,7 @@ use Rattle.laws.proofs.Tests.{cond-all}
 use Rattle.laws.proofs.Fronts.{front-take, after-drop}
 use Rattle.laws.proofs.Trims.{trim-take}
 use Rattle.words.specs.Words.{onto, grown, words}
-use Rattle.fine_tables.specs.FineTables.{Each}
+use Rattle.handed_out.specs.FineTables.{Each}
 
 module _ {A : Type 0} (P : A → Type 0) where
   pub each-take : (n : ℕ) (l : List A) → Each P l → Each P (take n l)

@@ -18,8 +18,8 @@ use Rattle.cut_lines.specs.Texts as texts
 use Rattle.line_rules.specs.Fields.{isBracketed}
 use Rattle.rules.specs.Whole.{textsOf}
 use Rattle.rules.specs.Reading.{isKey, argumentAt, under, linesUnder, keySays, SectionIs, component, selector, model, isWithin, sectionsIn}
-use Rattle.fine_tables.specs.FineTables.{Each}
-use Rattle.fine_tables.proofs.Parts.{each-drop, each-front, each-after, each-trim, each-at, each-if, each-words}
+use Rattle.handed_out.specs.FineTables.{Each}
+use Rattle.handed_out.proofs.Parts.{each-drop, each-front, each-after, each-trim, each-at, each-if, each-words}
 
 module _ (P : ℕ → Type 0) where
   abbrev LineHas : Physical → Type 0

@@ -12,11 +12,11 @@ use Rattle.rules.specs.Whole.{textsOf}
 use Rattle.rules.specs.Reading.{pinsIn, choicesIn, TableIs, tablesIn, ontoRows, rowsIn, edgeOf, SectionIs, component, selector, model, fileIn}
 use Rattle.layout.specs.Laid.{Laid, rowsOf, waveformsLaid, withSection, laidFrom, laid}
 use Rattle.table_records.specs.Fine.{FineComponent, FinePin, FineSelector, FineChoice, FineModel, FineWaveform, FineRow}
-use Rattle.fine_tables.specs.FineTables.{Each, FineTables, ReadFine}
-use Rattle.fine_tables.proofs.Parts.{each-both, each-if}
-use Rattle.fine_tables.proofs.Texts.{SectionHas, each-text, each-section}
-use Rattle.fine_tables.proofs.Cells.{Says, row-says}
-use Rattle.fine_tables.proofs.Records.{IsByte, each-byte, name-fine, component-fine, pins-fine, choices-fine, model-fine, waveform-fine}
+use Rattle.handed_out.specs.FineTables.{Each, FineTables, ReadFine}
+use Rattle.handed_out.proofs.Parts.{each-both, each-if}
+use Rattle.handed_out.proofs.Texts.{SectionHas, each-text, each-section}
+use Rattle.handed_out.proofs.Cells.{Says, row-says}
+use Rattle.handed_out.proofs.Records.{IsByte, each-byte, name-fine, component-fine, pins-fine, choices-fine, model-fine, waveform-fine}
 
 -- ---- the tables of a model
 
