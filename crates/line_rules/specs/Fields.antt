@@ -57,7 +57,7 @@ isPinName w = isSized 8 w && not (isBracketed w)
 unfoldable pub oneWord : (List ℕ → Bool) → List (List ℕ) → Bool
 oneWord p ws = eqb (length ws) 1 && p (word 0 ws)
 
--- "1 to 40 of a–z, 0–9, _^$~!#%&-{})(@'`", "then `.ibs`"
+-- "1 to 40 of a–z, 0–9, ``_^$~!#%&-{})(@'` `` then `.ibs`"
 unfoldable pub isFileByte : ℕ → Bool
 isFileByte b = isSmall b || (isDigit b || among b (bytes "_^$~!#%&-{})(@'`"))
 
