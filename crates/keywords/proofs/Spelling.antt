@@ -22,6 +22,7 @@ use Rattle.keywords.specs.declared.Section.the-variants.{Component, Sele
 use Rattle.keywords.specs.declared.ComponentPart.the-variants.{Manufacturer, Package, Pin}
 use Rattle.keywords.specs.declared.ModelPart.the-variants.{VoltageRange, TemperatureRange, Current, Ramp, Waveform}
 use Rattle.keywords.specs.declared.CurrentTable.the-variants.{Pulldown, Pullup, GndClamp, PowerClamp}
+use Rattle.keywords.specs.declared.KeyRead.{KeyRead}
 use Rattle.keywords.specs.declared.KeyRead.the-variants.{Malformed}
 use Rattle.records.specs.declared.Edge.the-variants.{Rising, Falling}
 
@@ -118,3 +119,7 @@ unfolding keyRead keyOf
 key-said w =
     cond-map keywordSays (isFormed w) _ Malformed
     ∙ ap (λ (x : Said Keyword). cond (isFormed w) x (fault 5)) (known-says _ (meaning (spelled (inside w)) carried))
+
+-- what is read of the line, and what it says
+pub said-too : (w : List ℕ) (r : KeyRead) → keyRead w ≡ r → (r ≡ keyRead w) × (keywordSays r ≡ keyOf w)
+said-too w r e = (sym e, ap keywordSays (sym e) ∙ key-said w)

@@ -7,8 +7,8 @@ ghost use Rattle.laws.specs.Lists.{eqs};
 ghost use Rattle.name_table.specs.Names.{meaning};
 ghost use Rattle.name_table.specs.Places.{meaningAt};
 ghost use Rattle.keywords.specs.Form.{plain, spelled, isJoint, inParts, isClosed};
-ghost use Rattle.keywords.specs.Carried.{carried};
-ghost use Rattle.keywords.specs.Answers.{keyRead, named};
+ghost use Rattle.keywords.specs.Carried.{carried, keyOf};
+ghost use Rattle.keywords.specs.Answers.{keywordSays, keyRead, named};
 use name_table::Found;
 use records::Edge;
 
@@ -229,6 +229,7 @@ pub fn keyword_named(w: &[u8]) -> Named
 // What a keyword line is. Its text begins with `[`.
 pub fn key_of(w: &[u8]) -> KeyRead
     ensures { λ r. ⌜ r ≡ keyRead (now (w .entry)) ⌝ }
+    ensures { λ r. ⌜ keywordSays r ≡ keyOf (now (w .entry)) ⌝ }
 {
     if w.len() == 0 {
         return KeyRead::Malformed;
