@@ -14,7 +14,7 @@ use Rattle.laws.specs.Bytes.{bytes, isBlank}
 use Rattle.laws.specs.Lists.{eqs, front}
 use Rattle.laws.specs.Said.{says}
 use Rattle.laws.proofs.Tests.{by-test, cond-all, cond-no, and-first, and-second, never, impossible}
-use Rattle.words.specs.Words.{word, words, grown, onto}
+use Rattle.words.specs.Words.{word, words, grown, ontoWord}
 use Rattle.name_table.specs.Names.{placeFrom}
 use Rattle.name_table.specs.declared.Found.the-variants.{At}
 use Rattle.keywords.specs.Form.{argument}
@@ -83,15 +83,15 @@ list-shuts (PackageLines o g) s = (λ x q. q (s .0), λ x q. q (s .1), λ x q. q
 list-shuts (PinRows o long any) s = (λ h. absurd (never any s h), tt)
 
 resistance-place : placeFrom 0 (bytes "R_pkg") (words (bytes packageLines)) ≡ At 0
-unfolding placeFrom words grown onto isBlank eqs
+unfolding placeFrom words grown ontoWord isBlank eqs
 resistance-place = refl
 
 inductance-place : placeFrom 0 (bytes "L_pkg") (words (bytes packageLines)) ≡ At 1
-unfolding placeFrom words grown onto isBlank eqs
+unfolding placeFrom words grown ontoWord isBlank eqs
 inductance-place = refl
 
 capacitance-place : placeFrom 0 (bytes "C_pkg") (words (bytes packageLines)) ≡ At 2
-unfolding placeFrom words grown onto isBlank eqs
+unfolding placeFrom words grown ontoWord isBlank eqs
 capacitance-place = refl
 
 list-line : (c n : ComponentState) (w : List ℕ) (e : Event) (ls : List (List ℕ)) → ComponentText c w n e → ListReads (n .list) ls → ListReads (c .list) (w ∷ ls)

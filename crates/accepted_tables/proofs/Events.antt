@@ -22,7 +22,7 @@ use Rattle.keywords.specs.declared.HeaderPart.{HeaderPart}
 use Rattle.keywords.specs.declared.ComponentPart.{ComponentPart}
 use Rattle.keywords.specs.declared.ModelPart.{ModelPart}
 use Rattle.cut_lines.specs.Change.{isChange, changeOf}
-use Rattle.cut_lines.specs.Texts.{Text, plain, change, onto, textsFrom}
+use Rattle.cut_lines.specs.Texts.{Text, plain, change, ontoTexts, textsFrom}
 use Rattle.line_rules.specs.Fields.{isBracketed, isSized, isPinName, isModelName, needsNoModel, isNoModel, lineAt, oneWord, rowOf}
 use Rattle.line_rules.specs.Tables.{componentLines, packageLines, modelLines, rampLines, fixtures}
 use Rattle.given.specs.declared.Given.{Given}
@@ -236,8 +236,8 @@ fine-after h t ts (Ended alone) l n so = so
 abbrev Numbered : Text → Type 0
 Numbered t = 1 ≤ lineOf t
 
-numbered-onto : (k : ℕ) (w : List ℕ) (ts : List Text) → 1 ≤ k → Every Numbered ts → Every Numbered (onto k w ts)
-unfolding onto
+numbered-onto : (k : ℕ) (w : List ℕ) (ts : List Text) → 1 ≤ k → Every Numbered ts → Every Numbered (ontoTexts k w ts)
+unfolding ontoTexts
 numbered-onto k [] ts h so = so
 numbered-onto k (b ∷ bs) ts h so = (h, so)
 

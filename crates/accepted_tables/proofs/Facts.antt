@@ -9,7 +9,7 @@ use Rattle.layout.specs.Laid.{laid}
 use Rattle.records.specs.declared.Lengths.{Lengths}
 use Rattle.notes.specs.Noted.{heldOf}
 use Rattle.accepted_tables.specs.Fallbacks.{SectionSaid}
-use Rattle.accepted_tables.specs.Facts.{Every, Accepted}
+use Rattle.accepted_tables.specs.Facts.{Every, AcceptedTables}
 use Rattle.accepted_tables.proofs.Checks.{runs-on}
 use Rattle.accepted_tables.proofs.Run.{Passed, passes, laying, counting}
 use Rattle.accepted_tables.proofs.Sections.{SectionPasses, sections-pass}
@@ -22,7 +22,7 @@ module _ (l : Lengths) (s : List ℕ) (p : Passed l s) where
   unfolding fileIn
   all-pass = sections-pass l (textsOf s) nothingHeld BeforeVersion (runs-on l (p .past) (textsOf s) BeforeVersion nothingHeld (heldOf (p .log)) (p .read))
 
-pub accepted : (l : Lengths) (s : List ℕ) (h : Held) → outcome l s ≡ passed h → Accepted l (laid (fileIn (textsOf s)))
+pub accepted : (l : Lengths) (s : List ℕ) (h : Held) → outcome l s ≡ passed h → AcceptedTables l (laid (fileIn (textsOf s)))
 accepted l s h q =
     let p : Passed l s = passes l s h q in
     let so : Sound (laid (fileIn (textsOf s))) = sound l (fileIn (textsOf s)) (all-pass l s p) in

@@ -10,7 +10,7 @@ use Rattle.laws.specs.Bytes.{bytes, isBlank}
 use Rattle.laws.specs.Lists.{eqs, front}
 use Rattle.laws.specs.Said.{says}
 use Rattle.laws.proofs.Tests.{by-test, cond-yes}
-use Rattle.words.specs.Words.{words, grown, onto}
+use Rattle.words.specs.Words.{words, grown, ontoWord}
 use Rattle.name_table.specs.declared.Found.the-variants.{At}
 use Rattle.keywords.specs.Form.{argument}
 use Rattle.keywords.specs.Carried.{keyOf}
@@ -152,7 +152,7 @@ says-line m n k w ts b y so =
     }
 
 table-said : (k : ℕ) (ls : List (List ℕ)) (p : ModelPart) → ListSaid (modelOpens k p) ls → (more : List TableIs) → Every TableSaid more → Every TableSaid (withTable k ls p more)
-unfolding oneOf eqs words grown onto isBlank
+unfolding oneOf eqs words grown ontoWord isBlank
 table-said k ls VoltageRange r more so = so
 table-said k ls TemperatureRange r more so = so
 table-said k ls (Current Pulldown) r more so = (r, so)

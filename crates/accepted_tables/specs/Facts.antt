@@ -195,7 +195,7 @@ pub record NameFacts (a : Laid) : Type 0 where
 
 -- ---- the tables
 
-pub record Accepted (l : Lengths) (a : Laid) : Type 0 where
+pub record AcceptedTables (l : Lengths) (a : Laid) : Type 0 where
   -- every count is within document 01's bound and within what was lent
   pub counts : Bounded l (countsOf a)
   pub names : NameFacts a
