@@ -49,6 +49,8 @@ MADE_UP = (
     ("r ≡ g (r, 3)", set()),
     ("now (x .exit) ≡ sets (now (x .exit)) 3", set()),
     ("now (x .exit) ≡ h r", set()),
+    ("now (x .exit) ≡ now (y .exit)", set()),
+    ("Read (now (x .entry)) r (half (now (y .exit)))", set()),
     ("Put (now (x .entry)) (now (x .exit)) at (now (x .exit)) r", set()),
     ("(r ≡ g", set()),
     ("r ≡ record { at = 3 )", set()),
