@@ -19,7 +19,7 @@ key-of-requires c κs = search needs
 
 returns-2 : tie.Need-returns-2
 unfolding textRead
-returns-2 c = c .key-of .ensures ∙ sym (cond-yes _ _ (sym (c .before .before .bracketed .ensures) ∙ not-false (c .before .before .bracketed .result) (c .before .if1 .left)))
+returns-2 c = c .key-of .ensures .0 ∙ sym (cond-yes _ _ (sym (c .before .before .bracketed .ensures) ∙ not-false (c .before .before .bracketed .result) (c .before .if1 .left)))
 
 pub key-in-spec : {M : Type 1} → statement M
 key-in-spec = tie.close (tie.spec bracketed-requires returns key-of-requires returns-2)

@@ -4,7 +4,7 @@ use denote.Ref.{now}
 use borrow.Author.Needs.{needs}
 use Rattle.laws.specs.Bytes.{isBlank}
 use Rattle.laws.specs.Lists.{eqs}
-use Rattle.words.specs.Words.{words, grown, onto}
+use Rattle.words.specs.Words.{words, grown, ontoWord}
 use Rattle.name_table.specs.Names.{placeFrom}
 use Rattle.line_rules.specs.Fields.{slopesLine, numberLine}
 use Rattle.line_rules.specs.Tables.{rampLines}
@@ -35,7 +35,7 @@ number-after-requires : tie.Need-number-after-requires
 number-after-requires c κs = search needs
 
 returns-2 : tie.Need-returns-2
-unfolding placeFrom words grown onto isBlank eqs
+unfolding placeFrom words grown ontoWord isBlank eqs
 returns-2 c =
     let r = c .before .before .before .before .before .before .before .before .before .before .args .r in
     let w = now (c .before .before .before .before .before .before .before .before .before .before .args .w) in

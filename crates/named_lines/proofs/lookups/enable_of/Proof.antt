@@ -3,7 +3,7 @@ use mathlib.Core.Path.{ap, _∙_}
 use borrow.Author.Needs.{needs}
 use denote.Ref.{now}
 use Rattle.laws.specs.Bytes.{isBlank}
-use Rattle.words.specs.Words.{words, grown, onto}
+use Rattle.words.specs.Words.{words, grown, ontoWord}
 use Rattle.name_table.specs.Places.{namesOf}
 use Rattle.laws.specs.Said.{orElse}
 use Rattle.line_rules.specs.Tables.{enables}
@@ -22,7 +22,7 @@ enable-at-requires : tie.Need-enable-at-requires
 enable-at-requires c κs = search needs
 
 returns : tie.Need-returns
-unfolding words grown onto isBlank namesOf enables
+unfolding words grown ontoWord isBlank namesOf enables
 returns c = c .enable-at .ensures ∙ ap (orElse NoEnable) (word-found enables (now (c .before .before .before .before .args .w)) _ (c .before .word-in .ensures))
 
 pub enable-of-spec : {M : Type 1} → statement M
