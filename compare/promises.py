@@ -20,6 +20,8 @@ OPERATORS = {"≡", "≤", "<", "+", "-", "*", "/", "%", "∷", "++", "[]", "=",
 MADE_UP = (
     ("r ≡ g (now (x .entry))", {"result"}),
     ("r ≡ record { at = 2; end = at + 3 }", {"result"}),
+    ("now r ≡ g (now (x .entry))", {"result"}),
+    ("now r ≡ drop 2 (now r)", set()),
     ("now (x .exit) ≡ h", {"x"}),
     ("(r ≡ g) × (now (x .exit) ≡ h)", {"result", "x"}),
     ("(r ≡ g) × (at ≤ r) × (now (x .exit) ≡ h)", {"result", "x"}),
@@ -27,8 +29,8 @@ MADE_UP = (
     ("WordAt (now (x .entry)) at r", {"result"}),
     ("Put (now (x .entry)) (now (x .exit)) at (byte ∷ []) r", {"result", "x"}),
     ("Read (now (x .entry)) r (now (y .exit))", {"result", "y"}),
-    ("lent (now (x .exit)) (now (y .exit)) ≡ h r", set()),
-    ("lent (now (x .exit)) (now (y .exit)) ≡ h", {"x", "y"}),
+    ("wordTables (now (x .exit)) (now (y .exit)) ≡ h r", set()),
+    ("wordTables (now (x .exit)) (now (y .exit)) ≡ h", {"x", "y"}),
     ("r ≡ r", set()),
     ("r ≡ g ⊎ Unit", set()),
     ("r ≡ g → Unit", set()),
@@ -136,7 +138,7 @@ def left(term):
     """The lent names that a term is the content at exit of, and nothing else: one, or several side by side."""
     if len(term) == 2 and term[0] == "now" and isinstance(term[1], list) and len(term[1]) == 2 and term[1][1] == ".exit":
         return exits(term)
-    if term and term[0] == "lent" and all(left(part) for part in term[1:]):
+    if term and term[0] == "wordTables" and all(left(part) for part in term[1:]):
         return exits(term)
     return set()
 
@@ -149,7 +151,7 @@ def equation(terms, result):
     before, behind = terms[:at], terms[at + 1 :]
     if not plain(behind, result):
         return set()
-    if before == [result]:
+    if before in ([result], ["now", result]):
         return {"result"}
     return left(before)
 
@@ -161,11 +163,11 @@ def by_cases(terms, result):
         before, after, at, text, place = parts
         if place == result and left(after) and plain([before, at, text], result):
             return {"result"} | left(after)
-    if head in ("Read", "Exports") and result in parts:
+    if head in ("Read", "ReadInWords", "Exports") and result in parts:
         at = parts.index(result)
         if plain(parts[:at], result) and all(left(part) for part in parts[at + 1 :]):
             return {"result"} | exits(parts)
-    if isinstance(head, str) and (head == "Loaded" or head in proved()) and parts and parts[-1] == result and plain(parts[:-1], result):
+    if isinstance(head, str) and head in proved() and parts and parts[-1] == result and plain(parts[:-1], result):
         return {"result"}
     return set()
 
