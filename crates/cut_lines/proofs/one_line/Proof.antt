@@ -37,10 +37,10 @@ part-line-end : tie.Need-part-line-end
 part-line-end c = handed _ _ _ (c .before .before .pre .1) (c .line-at .ensures) .ends
 
 changes-requires : tie.Need-changes-requires
-changes-requires c κs = search needs
+changes-requires c κs = tt
 
 change-of-requires : tie.Need-change-of-requires
-change-of-requires c κs = search needs
+change-of-requires c κs = tt
 
 changed-requires : tie.Need-changed-requires
 changed-requires c κs = search needs
@@ -63,7 +63,7 @@ returns c =
     })
 
 cut-length-requires : tie.Need-cut-length-requires
-cut-length-requires c κs = search needs
+cut-length-requires c κs = tt
 
 add-t9 : tie.Need-add-t9
 add-t9 c = search needs

@@ -17,7 +17,7 @@ find-requires : tie.Need-find-requires
 find-requires c κs = search needs
 
 closed-at-requires : tie.Need-closed-at-requires
-closed-at-requires c κs = search needs
+closed-at-requires c κs = tt
 
 returns-2 : tie.Need-returns-2
 returns-2 c = said-too _ _ (key-open (now (c .before .before .before .before .before .args .w)) _ (c .before .before .find .ensures .0) (sym (c .before .closed-at .ensures) ∙ not-true (c .before .closed-at .result) (c .if2 .taken)))
@@ -32,13 +32,13 @@ part-name-end : tie.Need-part-name-end
 part-name-end c = search needs
 
 in-parts-requires : tie.Need-in-parts-requires
-in-parts-requires c κs = search needs
+in-parts-requires c κs = tt
 
 returns-3 : tie.Need-returns-3
 returns-3 c = said-too _ _ (key-apart (now (c .before .before .before .before .before .before .before .before .args .w)) _ (c .before .before .before .before .before .find .ensures .0) (sym (c .before .in-parts .ensures) ∙ not-true (c .before .in-parts .result) (c .if3 .taken)))
 
 keyword-named-requires : tie.Need-keyword-named-requires
-keyword-named-requires c κs = search needs
+keyword-named-requires c κs = tt
 
 enum-known-keyword : tie.Need-enum-known-keyword
 enum-known-keyword c = search needs

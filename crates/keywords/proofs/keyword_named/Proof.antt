@@ -25,13 +25,13 @@ slice-aggregate-place : tie.Need-slice-aggregate-place
 slice-aggregate-place c = sym (length-take-le _ _ (spelled-fits (now (c .before .before .before .before .before .before .args .w)) (c .before .before .before .spell .result .bytes) (c .before .before .before .spell .ensures)))
 
 place-requires : tie.Need-place-requires
-place-requires c κs = search needs
+place-requires c κs = tt
 
 enum-known-k : tie.Need-enum-known-k
 enum-known-k c = search needs
 
 keyword-at-requires : tie.Need-keyword-at-requires
-keyword-at-requires c κs = search needs
+keyword-at-requires c κs = tt
 
 enum-told : tie.Need-enum-told
 enum-told c = search needs

@@ -31,7 +31,7 @@ shared-slice-read-lowered : tie.Need-shared-slice-read-lowered Inv-loop μ-loop
 shared-slice-read-lowered c = search needs
 
 lowered-requires : tie.Need-lowered-requires Inv-loop μ-loop
-lowered-requires c κs = search needs
+lowered-requires c κs = tt
 
 shared-slice-read-if2 : tie.Need-shared-slice-read-if2 Inv-loop μ-loop
 shared-slice-read-if2 c = search needs

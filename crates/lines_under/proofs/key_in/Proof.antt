@@ -1,6 +1,5 @@
 -- By the definition's test.
 use mathlib.Core.Path.{sym, _∙_}
-use borrow.Author.Needs.{needs}
 use borrow.Author.Tests.{not-true, not-false}
 use Rattle.laws.proofs.Tests.{cond-yes, cond-no}
 use Rattle.lines_under.specs.Under.{textRead}
@@ -8,14 +7,14 @@ use Rattle.lines_under.proofs.key_in.Statement.{statement}
 use Rattle.lines_under.proofs.key_in.Tie as tie
 
 bracketed-requires : tie.Need-bracketed-requires
-bracketed-requires c κs = search needs
+bracketed-requires c κs = tt
 
 returns : tie.Need-returns
 unfolding textRead
 returns c = sym (cond-no _ _ (sym (c .before .bracketed .ensures) ∙ not-true (c .before .bracketed .result) (c .if1 .taken)))
 
 key-of-requires : tie.Need-key-of-requires
-key-of-requires c κs = search needs
+key-of-requires c κs = tt
 
 returns-2 : tie.Need-returns-2
 unfolding textRead

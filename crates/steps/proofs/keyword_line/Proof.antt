@@ -8,7 +8,7 @@ use Rattle.steps.proofs.keyword_line.Statement.{statement}
 use Rattle.steps.proofs.keyword_line.Tie as tie
 
 key-of-requires : tie.Need-key-of-requires
-key-of-requires c κs = search needs
+key-of-requires c κs = tt
 
 enum-known-keyword : tie.Need-enum-known-keyword
 enum-known-keyword c = search needs
@@ -25,19 +25,19 @@ part-on-keyword-end : tie.Need-part-on-keyword-end
 part-on-keyword-end c = search needs
 
 on-keyword-requires : tie.Need-on-keyword-requires
-on-keyword-requires c κs = search needs
+on-keyword-requires c κs = tt
 
 enum-told : tie.Need-enum-told
 enum-told c = search needs
 
 stopped-requires : tie.Need-stopped-requires
-stopped-requires c κs = search needs
+stopped-requires c κs = tt
 
 enum-told-2 : tie.Need-enum-told-2
 enum-told-2 c = search needs
 
 stopped-requires-2 : tie.Need-stopped-requires-2
-stopped-requires-2 c κs = search needs
+stopped-requires-2 c κs = tt
 
 returns : tie.Need-returns
 returns c =

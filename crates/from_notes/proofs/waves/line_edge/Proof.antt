@@ -8,19 +8,19 @@ use Rattle.from_notes.proofs.waves.line_edge.Statement.{statement}
 use Rattle.from_notes.proofs.waves.line_edge.Tie as tie
 
 bracketed-requires : tie.Need-bracketed-requires
-bracketed-requires c κs = search needs
+bracketed-requires c κs = tt
 
 returns : tie.Need-returns
 returns c = edge-none (now (c .before .before .before .args .w)) (sym (c .before .bracketed .ensures) ∙ not-true (c .before .bracketed .result) (c .if1 .taken))
 
 key-of-requires : tie.Need-key-of-requires
-key-of-requires c κs = search needs
+key-of-requires c κs = tt
 
 enum-known-keyword : tie.Need-enum-known-keyword
 enum-known-keyword c = search needs
 
 key-edge-requires : tie.Need-key-edge-requires
-key-edge-requires c κs = search needs
+key-edge-requires c κs = tt
 
 enum-told : tie.Need-enum-told
 enum-told c = search needs

@@ -16,10 +16,10 @@ slice-aggregate-word-in : tie.Need-slice-aggregate-word-in
 slice-aggregate-word-in c = search needs
 
 word-in-requires : tie.Need-word-in-requires
-word-in-requires c κs = search needs
+word-in-requires c κs = tt
 
 enable-at-requires : tie.Need-enable-at-requires
-enable-at-requires c κs = search needs
+enable-at-requires c κs = tt
 
 returns : tie.Need-returns
 unfolding words grown ontoWord isBlank namesOf enables

@@ -15,10 +15,10 @@ slice-aggregate-word-in : tie.Need-slice-aggregate-word-in
 slice-aggregate-word-in c = search needs
 
 word-in-requires : tie.Need-word-in-requires
-word-in-requires c κs = search needs
+word-in-requires c κs = tt
 
 location-at-requires : tie.Need-location-at-requires
-location-at-requires c κs = search needs
+location-at-requires c κs = tt
 
 returns : tie.Need-returns
 unfolding words grown ontoWord isBlank namesOf locations

@@ -16,10 +16,10 @@ slice-aggregate-word-in : tie.Need-slice-aggregate-word-in
 slice-aggregate-word-in c = search needs
 
 word-in-requires : tie.Need-word-in-requires
-word-in-requires c κs = search needs
+word-in-requires c κs = tt
 
 polarity-at-requires : tie.Need-polarity-at-requires
-polarity-at-requires c κs = search needs
+polarity-at-requires c κs = tt
 
 returns : tie.Need-returns
 unfolding words grown ontoWord isBlank namesOf polarities

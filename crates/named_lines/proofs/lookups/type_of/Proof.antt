@@ -1,6 +1,5 @@
 -- The words in the code are the table's, by computing both, so the place found stands for the meaning.
 use mathlib.Core.Path.{ap, _∙_}
-use borrow.Author.Needs.{needs}
 use denote.Ref.{now}
 use Rattle.laws.specs.Bytes.{isBlank}
 use Rattle.words.specs.Words.{words, grown, ontoWord}
@@ -12,10 +11,10 @@ use Rattle.named_lines.proofs.lookups.type_of.Statement.{statement}
 use Rattle.named_lines.proofs.lookups.type_of.Tie as tie
 
 word-in-requires : tie.Need-word-in-requires
-word-in-requires c κs = search needs
+word-in-requires c κs = tt
 
 type-at-requires : tie.Need-type-at-requires
-type-at-requires c κs = search needs
+type-at-requires c κs = tt
 
 returns : tie.Need-returns
 unfolding words grown ontoWord isBlank namesOf modelTypes
