@@ -1,3 +1,2 @@
 -- Laws of the promise to C.
-pub mod Tables
 pub mod Strength

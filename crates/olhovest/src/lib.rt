@@ -2,20 +2,14 @@
 ghost use mathlib.Core.Path.{_≡_};
 ghost use Rattle.rules.specs.Whole.{outcome};
 ghost use Rattle.file_answer.specs.Answered.{verdictOf};
-ghost use Rattle.table_words.specs.Packed.{faultNumber, faultLine, lent};
-ghost use Rattle.olhovest.specs.Exported.{lengthsOf, Exports};
-use note_words::STORE_LENGTH;
+ghost use Rattle.table_words.specs.Packed.{faultNumber, faultLine, wordTables};
+ghost use Rattle.olhovest.specs.Exported.{lengthsAre, Exports};
 use record_words::ANSWER_WORDS;
-use record_words::CHOICE_WORDS;
-use record_words::COMPONENT_WORDS;
-use record_words::MODEL_WORDS;
-use record_words::PIN_WORDS;
-use record_words::ROW_WORDS;
-use record_words::SELECTOR_WORDS;
-use record_words::WAVEFORM_WORDS;
 use records::Lengths;
 
-fn lengths_of(
+pub mod asked; // asked.rt: what is asked of filled tables
+
+fn lengths_are(
     components: usize,
     pins: usize,
     selectors: usize,
@@ -24,7 +18,7 @@ fn lengths_of(
     waveforms: usize,
     rows: usize,
 ) -> Lengths
-    ensures { λ r. ⌜ r ≡ lengthsOf components pins selectors choices models waveforms rows ⌝ }
+    ensures { λ r. ⌜ r ≡ lengthsAre components pins selectors choices models waveforms rows ⌝ }
 {
     Lengths {
         components: components,
@@ -50,10 +44,10 @@ pub extern "C" fn olhovest_check(
     rows: usize,
     line: &mut u64,
 ) -> u8
-    ensures { λ r. ⌜ r ≡ faultNumber (verdictOf (outcome (lengthsOf components pins selectors choices models waveforms rows) (now (src .entry)))) ⌝ }
-    ensures { λ _. ⌜ now (line .exit) ≡ faultLine (verdictOf (outcome (lengthsOf components pins selectors choices models waveforms rows) (now (src .entry)))) ⌝ }
+    ensures { λ r. ⌜ r ≡ faultNumber (verdictOf (outcome (lengthsAre components pins selectors choices models waveforms rows) (now (src .entry)))) ⌝ }
+    ensures { λ _. ⌜ now (line .exit) ≡ faultLine (verdictOf (outcome (lengthsAre components pins selectors choices models waveforms rows) (now (src .entry)))) ⌝ }
 {
-    let l = lengths_of(
+    let l = lengths_are(
         components,
         pins,
         selectors,
@@ -80,23 +74,10 @@ pub extern "C" fn olhovest_read(
     rows: &mut [u64],
     answer: &mut [u64; ANSWER_WORDS],
 ) -> u8
-    ensures { λ r. ⌜ Exports (now (src .entry)) (lent (now (components .entry)) (now (pins .entry)) (now (selectors .entry)) (now (choices .entry)) (now (models .entry)) (now (waveforms .entry)) (now (rows .entry))) r (now (answer .exit)) (lent (now (components .exit)) (now (pins .exit)) (now (selectors .exit)) (now (choices .exit)) (now (models .exit)) (now (waveforms .exit)) (now (rows .exit))) ⌝ }
+    ensures { λ r. ⌜ Exports (now (src .entry)) (wordTables (now (components .entry)) (now (pins .entry)) (now (selectors .entry)) (now (choices .entry)) (now (models .entry)) (now (waveforms .entry)) (now (rows .entry))) r (now (answer .exit)) (wordTables (now (components .exit)) (now (pins .exit)) (now (selectors .exit)) (now (choices .exit)) (now (models .exit)) (now (waveforms .exit)) (now (rows .exit))) ⌝ }
 {
-    let mut notes = [0u32; STORE_LENGTH];
-    let l = lengths_of(
-        components.len() / COMPONENT_WORDS,
-        pins.len() / PIN_WORDS,
-        selectors.len() / SELECTOR_WORDS,
-        choices.len() / CHOICE_WORDS,
-        models.len() / MODEL_WORDS,
-        waveforms.len() / WAVEFORM_WORDS,
-        rows.len() / ROW_WORDS,
-    );
-    let a = file_answer::outlined(src, l, &mut notes);
-    table_words::fill_tables(
+    let a = table_reader::read(
         src,
-        &notes,
-        a.counts,
         components,
         pins,
         selectors,

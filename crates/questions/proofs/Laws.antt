@@ -8,12 +8,16 @@ use native.Mathlib.Numerals.{add-one}
 use native.Mathlib.Omega.{arith}
 use lib.Dec.{ltb}
 use lib.ListN.{length, take}
-use lib.Seq.{take-all}
+use lib.Seq.{take-all, length-take-le}
 use borrow.Author.Tests.{lt-ltb, le-ltb}
 use Rattle.laws.proofs.Tests.{by-order}
-use Rattle.laws.proofs.Same.{map-same}
+use Rattle.laws.proofs.Same.{map-same, eqs-apart}
 use Rattle.name_table.specs.declared.Found.{Found}
 use Rattle.name_table.specs.declared.Found.the-variants.{At, Nothing}
+use Rattle.records.specs.declared.Name.{Name}
+use Rattle.table_records.specs.Records.{nameFrom}
+use Rattle.table_records.proofs.Bytes.{bytes-length}
+use Rattle.questions.specs.Named.{nameBytes, isNamed}
 use Rattle.questions.specs.Searched.{firstPlace}
 
 -- ---- names
@@ -68,3 +72,14 @@ module _ (test : ℕ → Bool) (from n : ℕ) where
   pub seeks-none : (i : ℕ) → n ≤ i → Seeks i → Nothing ≡ firstPlace test from n
   unfolding firstPlace
   seeks-none i h inv = let e : n - i ≡ 0 = omega arith in sym (ap (firstPlace test (from + i)) e) ∙ inv
+
+-- ---- what the length of a name decides
+
+-- a name's length is that of its bytes, where it has all of them
+pub other-length : (n : Name) (w : List ℕ) → n .len ≤ length (n .bytes) → (n .len ≡ length w → ⊥) → isNamed n w ≡ false
+unfolding isNamed nameBytes
+other-length n w h apart = eqs-apart (take (n .len) (n .bytes)) w (λ e. apart (sym (length-take-le (n .len) (n .bytes) h) ∙ e))
+
+pub name-sized : (ws : List ℕ) → nameFrom ws .len ≤ length (nameFrom ws .bytes)
+unfolding nameFrom
+name-sized ws = omega (arith, bytes-length ws 40)

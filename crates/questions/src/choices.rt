@@ -62,7 +62,13 @@ pub fn model_for(selectors: &[u64], choices: &[u64], models: &[u64], p: Pin) -> 
 }
 
 // The same for the pin at a place.
-pub fn model_of_pin(pins: &[u64], selectors: &[u64], choices: &[u64], models: &[u64], k: usize) -> Found
+pub fn model_of_pin(
+    pins: &[u64],
+    selectors: &[u64],
+    choices: &[u64],
+    models: &[u64],
+    k: usize,
+) -> Found
     ensures { λ r. ⌜ r ≡ modelOfPin (now (pins .entry)) (now (selectors .entry)) (now (choices .entry)) (now (models .entry)) k ⌝ }
 {
     if k < pins.len() / PIN_WORDS {

@@ -71,7 +71,14 @@ pub fn model_named(models: &[u64], name: &[u8]) -> Found
 pub fn selector_named(selectors: &[u64], name: &[u8]) -> Found
     ensures { λ r. ⌜ r ≡ selectorNamed (now (selectors .entry)) (now (name .entry)) ⌝ }
 {
-    first_named(selectors, SELECTOR_WORDS, 1, 0, selectors.len() / SELECTOR_WORDS, name)
+    first_named(
+        selectors,
+        SELECTOR_WORDS,
+        1,
+        0,
+        selectors.len() / SELECTOR_WORDS,
+        name,
+    )
 }
 
 // The component that has the pin at a place.

@@ -75,7 +75,7 @@ pub fn text_words(t: Words) -> [u64; TEXT_WORDS]
     ]
 }
 
-fn triple_words(t: Triple) -> [u64; TRIPLE_WORDS]
+pub fn triple_words(t: Triple) -> [u64; TRIPLE_WORDS]
     ensures { λ r. ⌜ r ≡ tripleWords t ⌝ }
 {
     [typ_word(t), min_word(t), max_word(t)]

@@ -13,10 +13,10 @@ use Rattle.olhovest.proofs.olhovest_check.Lts as lts
 use Rattle.file_answer.proofs.check.Reads as check-reads
 use Rattle.table_words.proofs.fault_line.Reads as fault-line-reads
 use Rattle.table_words.proofs.fault_number.Reads as fault-number-reads
-use Rattle.olhovest.proofs.lengths_of.Reads as lengths-of-reads
+use Rattle.olhovest.proofs.lengths_are.Reads as lengths-are-reads
 
-lengths-of-requires : tie.Need-lengths-of-requires
-lengths-of-requires c κs = search needs
+lengths-are-requires : tie.Need-lengths-are-requires
+lengths-are-requires c κs = search needs
 
 check-requires : tie.Need-check-requires
 check-requires c κs = search needs
@@ -29,10 +29,10 @@ fault-number-requires c κs = search needs
 
 returns : tie.Need-returns
 returns c =
-    let v = c .before .before .check .ensures ∙ ap (λ (l : Lengths). verdictOf (outcome l (now (c .before .before .before .before .before .args .src)))) (c .before .before .before .lengths-of .ensures) in
+    let v = c .before .before .check .ensures ∙ ap (λ (l : Lengths). verdictOf (outcome l (now (c .before .before .before .before .before .args .src)))) (c .before .before .before .lengths-are .ensures) in
     (c .fault-number .ensures ∙ ap faultNumber v, c .before .fault-line .ensures ∙ ap faultLine v)
 
 pub olhovest-check-spec : {M : Type 1} → statement M
 olhovest-check-spec =
     tie.close
-    (tie.spec lengths-of-requires check-requires fault-line-requires fault-number-requires returns)
+    (tie.spec lengths-are-requires check-requires fault-line-requires fault-number-requires returns)

@@ -1,0 +1,3 @@
+-- Every record that is read is fine.
+pub mod FineTables
+pub mod HandedOut

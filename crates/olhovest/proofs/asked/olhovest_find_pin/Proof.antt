@@ -1,0 +1,17 @@
+-- The place that was found.
+use Prim.Native.Nat.{_-_}
+use borrow.Author.Needs.{needs}
+use Rattle.olhovest.proofs.asked.olhovest_find_pin.Statement.{statement}
+use Rattle.olhovest.proofs.asked.olhovest_find_pin.Tie as tie
+
+pin-named-requires : tie.Need-pin-named-requires
+pin-named-requires c κs = search needs
+
+place-number-requires : tie.Need-place-number-requires
+place-number-requires c κs = search needs
+
+returns : tie.Need-returns
+returns c = cc
+
+pub olhovest-find-pin-spec : {M : Type 1} → statement M
+olhovest-find-pin-spec = tie.close (tie.spec pin-named-requires place-number-requires returns)

@@ -1,0 +1,18 @@
+-- The place that was found.
+use Prim.Native.Nat.{_-_}
+use borrow.Author.Needs.{needs}
+use Rattle.olhovest.proofs.asked.olhovest_model_of_pin.Statement.{statement}
+use Rattle.olhovest.proofs.asked.olhovest_model_of_pin.Tie as tie
+
+model-of-pin-requires : tie.Need-model-of-pin-requires
+model-of-pin-requires c κs = search needs
+
+place-number-requires : tie.Need-place-number-requires
+place-number-requires c κs = search needs
+
+returns : tie.Need-returns
+returns c = cc
+
+pub olhovest-model-of-pin-spec : {M : Type 1} → statement M
+olhovest-model-of-pin-spec =
+    tie.close (tie.spec model-of-pin-requires place-number-requires returns)
