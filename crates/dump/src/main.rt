@@ -1,10 +1,10 @@
 // Standard input is read into tables at document 01's bounds with 1,000 rows lent, and all that they keep is printed.
-use program_output::CHOICE_TABLE;
-use program_output::COMPONENT_TABLE;
-use program_output::MODEL_TABLE;
-use program_output::PIN_TABLE;
-use program_output::SELECTOR_TABLE;
-use program_output::WAVEFORM_TABLE;
+use program_output::tables::CHOICE_TABLE;
+use program_output::tables::COMPONENT_TABLE;
+use program_output::tables::MODEL_TABLE;
+use program_output::tables::PIN_TABLE;
+use program_output::tables::SELECTOR_TABLE;
+use program_output::tables::WAVEFORM_TABLE;
 
 fn main() {
     let mut src = program_output::file_buffer();

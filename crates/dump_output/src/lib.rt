@@ -4,6 +4,7 @@ use dump_text::components::end_line;
 use dump_text::components::header_lines;
 use program_output::print_refusal;
 use program_output::put_out;
+use program_output::tables::used;
 use record_words::COMPONENT_WORDS;
 use record_words::MODEL_WORDS;
 use record_words::SELECTOR_WORDS;
@@ -14,18 +15,6 @@ use sections::put_sections;
 
 mod parts; // parts.rt: a record's lines, with those of what is its own in other tables
 mod sections; // sections.rt: the sections in file order
-
-// The words of the records in use, as many as there are: a record has `size` words.
-fn used(table: &[u64], size: usize, count: usize) -> &[u64] {
-    if size == 0 {
-        return &table[0..0];
-    }
-    if count < table.len() / size {
-        let end = count * size;
-        return &table[0..end];
-    }
-    table
-}
 
 // The dump of an accepted file.
 fn print_dump(

@@ -11,6 +11,7 @@ use dump_text::components::component_lines;
 use dump_text::components::pin_line;
 use dump_text::components::selector_lines;
 use program_output::flushed;
+use program_output::tables::end_in;
 use record_words::CHOICE_WORDS;
 use record_words::PIN_WORDS;
 use record_words::ROW_WORDS;
@@ -26,20 +27,9 @@ use table_records::tables::waveform_in;
 use table_records::values::number_at;
 use table_records::values::record_at;
 
-// Where a span ends in a table of n records.
-fn end_of(s: Span, n: usize) -> usize {
-    if n < s.start {
-        return n;
-    }
-    if s.count < n - s.start {
-        return s.start + s.count;
-    }
-    n
-}
-
 fn put_pins(out: &mut [u8], at: usize, pins: &[u64], span: Span) -> usize {
     let start = span.start;
-    let end = end_of(span, pins.len() / PIN_WORDS);
+    let end = end_in(span, pins.len() / PIN_WORDS);
     let mut next = at;
     for i in start..end {
         let line = pin_line(out, next, pin_in(pins, i));
@@ -48,14 +38,20 @@ fn put_pins(out: &mut [u8], at: usize, pins: &[u64], span: Span) -> usize {
     next
 }
 
-pub(crate) fn put_component(out: &mut [u8], at: usize, i: usize, c: Component, pins: &[u64]) -> usize {
+pub(crate) fn put_component(
+    out: &mut [u8],
+    at: usize,
+    i: usize,
+    c: Component,
+    pins: &[u64],
+) -> usize {
     let own = component_lines(out, at, i, c);
     put_pins(out, own, pins, c.pins)
 }
 
 fn put_choices(out: &mut [u8], at: usize, choices: &[u64], span: Span) -> usize {
     let start = span.start;
-    let end = end_of(span, choices.len() / CHOICE_WORDS);
+    let end = end_in(span, choices.len() / CHOICE_WORDS);
     let mut next = at;
     for i in start..end {
         let line = choice_line(out, next, choice_in(choices, i));
@@ -64,7 +60,13 @@ fn put_choices(out: &mut [u8], at: usize, choices: &[u64], span: Span) -> usize 
     next
 }
 
-pub(crate) fn put_selector(out: &mut [u8], at: usize, i: usize, s: Selector, choices: &[u64]) -> usize {
+pub(crate) fn put_selector(
+    out: &mut [u8],
+    at: usize,
+    i: usize,
+    s: Selector,
+    choices: &[u64],
+) -> usize {
     let own = selector_lines(out, at, i, s);
     put_choices(out, own, choices, s.choices)
 }
@@ -82,7 +84,7 @@ fn put_row(out: &mut [u8], at: usize, words: &[u64]) -> usize {
 
 fn put_rows(out: &mut [u8], at: usize, rows: &[u64], span: Span) -> usize {
     let start = span.start;
-    let end = end_of(span, rows.len() / ROW_WORDS);
+    let end = end_in(span, rows.len() / ROW_WORDS);
     let mut next = at;
     for i in start..end {
         let line = put_row(out, next, record_at(rows, ROW_WORDS, i));
@@ -98,7 +100,7 @@ fn put_table(out: &mut [u8], at: usize, name: &[u8], t: Table, rows: &[u64]) -> 
 
 fn put_waveforms(out: &mut [u8], at: usize, waveforms: &[u64], span: Span, rows: &[u64]) -> usize {
     let start = span.start;
-    let end = end_of(span, waveforms.len() / WAVEFORM_WORDS);
+    let end = end_in(span, waveforms.len() / WAVEFORM_WORDS);
     let mut next = at;
     for i in start..end {
         let w = waveform_in(waveforms, i);
@@ -116,7 +118,14 @@ fn put_tables(out: &mut [u8], at: usize, m: Model, rows: &[u64]) -> usize {
     put_table(out, ground, b"POWER_Clamp", m.power, rows)
 }
 
-pub(crate) fn put_model(out: &mut [u8], at: usize, i: usize, m: Model, waveforms: &[u64], rows: &[u64]) -> usize {
+pub(crate) fn put_model(
+    out: &mut [u8],
+    at: usize,
+    i: usize,
+    m: Model,
+    waveforms: &[u64],
+    rows: &[u64],
+) -> usize {
     let own = model_lines(out, at, i, m);
     let tables = put_tables(out, own, m, rows);
     let ramp = ramp_lines(out, tables, m.ramp);

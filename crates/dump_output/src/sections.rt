@@ -41,7 +41,14 @@ fn try_selector(out: &mut [u8], at: usize, k: usize, selectors: &[u64], choices:
     }
 }
 
-fn try_model(out: &mut [u8], at: usize, k: usize, models: &[u64], waveforms: &[u64], rows: &[u64]) -> usize {
+fn try_model(
+    out: &mut [u8],
+    at: usize,
+    k: usize,
+    models: &[u64],
+    waveforms: &[u64],
+    rows: &[u64],
+) -> usize {
     match with_section(models, MODEL_WORDS, k) {
         Found::At(i) => put_model(out, at, i, model_in(models, i), waveforms, rows),
         Found::Nothing => at,
@@ -50,7 +57,9 @@ fn try_model(out: &mut [u8], at: usize, k: usize, models: &[u64], waveforms: &[u
 
 // How many sections there are: one a record.
 fn sections_in(components: &[u64], selectors: &[u64], models: &[u64]) -> usize {
-    components.len() / COMPONENT_WORDS + selectors.len() / SELECTOR_WORDS + models.len() / MODEL_WORDS
+    components.len() / COMPONENT_WORDS
+        + selectors.len() / SELECTOR_WORDS
+        + models.len() / MODEL_WORDS
 }
 
 // All sections of tables that hold no other records than those in use.

@@ -12,8 +12,8 @@ Inv-loop out₀ at waveforms rows start end next₀ i₀ out next i = length out
 abbrev μ-loop : tie.MeasureT-loop
 μ-loop out₀ at waveforms rows start end next₀ i₀ out next i = end - i
 
-end-of-requires : tie.Need-end-of-requires Inv-loop μ-loop
-end-of-requires c κs = search needs
+end-in-requires : tie.Need-end-in-requires Inv-loop μ-loop
+end-in-requires c κs = search needs
 
 loop-holds : tie.Need-loop-holds Inv-loop μ-loop
 loop-holds c = search needs
@@ -51,7 +51,7 @@ put-waveforms-spec =
     (tie.spec
     Inv-loop
     μ-loop
-    end-of-requires
+    end-in-requires
     loop-holds
     waveform-in-requires
     waveform-lines-requires

@@ -1,8 +1,8 @@
 -- A byte is below 256.
 use native.Mathlib.Omega.{arith}
 use borrow.Author.Needs.{needs}
-use Rattle.batch.proofs.byte_at.Statement.{statement}
-use Rattle.batch.proofs.byte_at.Tie as tie
+use Rattle.batch.proofs.heads.byte_at.Statement.{statement}
+use Rattle.batch.proofs.heads.byte_at.Tie as tie
 
 shared-slice-read-b : tie.Need-shared-slice-read-b
 shared-slice-read-b c = search needs
