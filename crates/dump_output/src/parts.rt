@@ -12,6 +12,7 @@ use dump_text::components::pin_line;
 use dump_text::components::selector_lines;
 use program_output::flushed;
 use program_output::tables::end_in;
+use program_output::tables::records_in;
 use record_words::CHOICE_WORDS;
 use record_words::PIN_WORDS;
 use record_words::ROW_WORDS;
@@ -29,7 +30,7 @@ use table_records::values::record_at;
 
 fn put_pins(out: &mut [u8], at: usize, pins: &[u64], span: Span) -> usize {
     let start = span.start;
-    let end = end_in(span, pins.len() / PIN_WORDS);
+    let end = end_in(span, records_in(pins, PIN_WORDS));
     let mut next = at;
     for i in start..end {
         let line = pin_line(out, next, pin_in(pins, i));
@@ -51,7 +52,7 @@ pub(crate) fn put_component(
 
 fn put_choices(out: &mut [u8], at: usize, choices: &[u64], span: Span) -> usize {
     let start = span.start;
-    let end = end_in(span, choices.len() / CHOICE_WORDS);
+    let end = end_in(span, records_in(choices, CHOICE_WORDS));
     let mut next = at;
     for i in start..end {
         let line = choice_line(out, next, choice_in(choices, i));
@@ -84,7 +85,7 @@ fn put_row(out: &mut [u8], at: usize, words: &[u64]) -> usize {
 
 fn put_rows(out: &mut [u8], at: usize, rows: &[u64], span: Span) -> usize {
     let start = span.start;
-    let end = end_in(span, rows.len() / ROW_WORDS);
+    let end = end_in(span, records_in(rows, ROW_WORDS));
     let mut next = at;
     for i in start..end {
         let line = put_row(out, next, record_at(rows, ROW_WORDS, i));
@@ -100,7 +101,7 @@ fn put_table(out: &mut [u8], at: usize, name: &[u8], t: Table, rows: &[u64]) -> 
 
 fn put_waveforms(out: &mut [u8], at: usize, waveforms: &[u64], span: Span, rows: &[u64]) -> usize {
     let start = span.start;
-    let end = end_in(span, waveforms.len() / WAVEFORM_WORDS);
+    let end = end_in(span, records_in(waveforms, WAVEFORM_WORDS));
     let mut next = at;
     for i in start..end {
         let w = waveform_in(waveforms, i);

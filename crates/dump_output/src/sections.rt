@@ -4,6 +4,7 @@ use crate::parts::put_model;
 use crate::parts::put_selector;
 use name_table::Found;
 use program_output::flushed;
+use program_output::tables::records_in;
 use record_words::COMPONENT_WORDS;
 use record_words::MODEL_WORDS;
 use record_words::SELECTOR_WORDS;
@@ -15,10 +16,7 @@ use table_records::values::record_at;
 
 // The place of the record of section k: the section's number is a record's first word.
 fn with_section(table: &[u64], size: usize, k: usize) -> Found {
-    if size == 0 {
-        return Found::Nothing;
-    }
-    let n = table.len() / size;
+    let n = records_in(table, size);
     for i in 0..n {
         if number_at(record_at(table, size, i), 0) == k as u64 {
             return Found::At(i);

@@ -28,9 +28,17 @@ pub const MODEL_TABLE: usize = MOST_MODELS * MODEL_WORDS;
 
 pub const WAVEFORM_TABLE: usize = MOST_WAVEFORMS * WAVEFORM_WORDS;
 
-// ---- parts of tables
+// ---- parts of tables: a record has `size` words
 
-// How many words so many records have, in a table of so many words: all of them where it has no more records. A record has `size` words.
+// How many whole records a table has.
+pub fn records_in(table: &[u64], size: usize) -> usize {
+    if size == 0 {
+        return 0;
+    }
+    table.len() / size
+}
+
+// How many words so many records have, in a table of so many words: all of them where it has no more records.
 pub fn words_in(words: usize, size: usize, count: usize) -> usize
     ensures { λ r. ⌜ r ≤ words ⌝ }
 {

@@ -12,6 +12,9 @@ Inv-loop out₀ at pins start end next₀ i₀ out next i = length out ≡ lengt
 abbrev μ-loop : tie.MeasureT-loop
 μ-loop out₀ at pins start end next₀ i₀ out next i = end - i
 
+records-in-requires : tie.Need-records-in-requires Inv-loop μ-loop
+records-in-requires c κs = search needs
+
 end-in-requires : tie.Need-end-in-requires Inv-loop μ-loop
 end-in-requires c κs = search needs
 
@@ -48,6 +51,7 @@ put-pins-spec =
     (tie.spec
     Inv-loop
     μ-loop
+    records-in-requires
     end-in-requires
     loop-holds
     pin-in-requires

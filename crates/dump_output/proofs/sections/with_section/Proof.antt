@@ -1,25 +1,20 @@
 -- A place at a time, up to the table's end.
 use Prim.Native.Nat.{_-_, _≤_}
-use lib.ListN.{length}
 use borrow.Author.Needs.{needs}
-use native.Mathlib.Nat.{div-le-self}
 use Rattle.dump_output.proofs.sections.with_section.Statement.{statement}
 use Rattle.dump_output.proofs.sections.with_section.Tie as tie
 
 abbrev Inv-loop : tie.InvT-loop
-Inv-loop table size k n i₀ i = (i ≤ n) × (n ≤ length table)
+Inv-loop table size k n i₀ i = i ≤ n
 
 abbrev μ-loop : tie.MeasureT-loop
 μ-loop table size k n i₀ i = n - i
 
-returns : tie.Need-returns Inv-loop μ-loop
-returns c = search needs
-
-div-n : tie.Need-div-n Inv-loop μ-loop
-div-n c = search needs
+records-in-requires : tie.Need-records-in-requires Inv-loop μ-loop
+records-in-requires c κs = search needs
 
 loop-holds : tie.Need-loop-holds Inv-loop μ-loop
-loop-holds c = (search needs, div-le-self _ _)
+loop-holds c = search needs
 
 record-at-requires : tie.Need-record-at-requires Inv-loop μ-loop
 record-at-requires c κs = search needs
@@ -27,8 +22,8 @@ record-at-requires c κs = search needs
 number-at-requires : tie.Need-number-at-requires Inv-loop μ-loop
 number-at-requires c κs = search needs
 
-returns-2 : tie.Need-returns-2 Inv-loop μ-loop
-returns-2 c = search needs
+returns : tie.Need-returns Inv-loop μ-loop
+returns c = search needs
 
 add-i : tie.Need-add-i Inv-loop μ-loop
 add-i c = search needs
@@ -39,8 +34,8 @@ loop-less c = search needs
 loop-again : tie.Need-loop-again Inv-loop μ-loop
 loop-again c = search needs
 
-returns-3 : tie.Need-returns-3 Inv-loop μ-loop
-returns-3 c = search needs
+returns-2 : tie.Need-returns-2 Inv-loop μ-loop
+returns-2 c = search needs
 
 pub with-section-spec : {M : Type 1} → statement M
 with-section-spec =
@@ -48,13 +43,12 @@ with-section-spec =
     (tie.spec
     Inv-loop
     μ-loop
-    returns
-    div-n
+    records-in-requires
     loop-holds
     record-at-requires
     number-at-requires
-    returns-2
+    returns
     add-i
     loop-less
     loop-again
-    returns-3)
+    returns-2)
