@@ -1,90 +1,199 @@
 // Many files in one run. Standard input holds records: seven lent lengths and n, four bytes each, lowest first, then the n bytes of a file.
-// Each file's dump is printed. A record that is cut off ends the run.
-ghost use mathlib.Core.Path.{_≡_};
-ghost use Prim.Native.Nat.{_≤_, _<_};
-ghost use lib.ListN.{length};
-use dump_output::print_file;
+// Each file's dump is printed. A record that is cut off ends the run. The tables hold a pattern where nothing is read: a word that a reading
+// changes beyond what it uses is told, by a line of its own that no dump has.
+use heads::Next;
+use heads::lengths_in;
+use heads::next_file;
+use patterns::PATTERN;
+use patterns::is_plain;
+use patterns::renewed;
+use program_output::put_out;
+use program_output::tables::CHOICE_TABLE;
+use program_output::tables::COMPONENT_TABLE;
+use program_output::tables::MODEL_TABLE;
+use program_output::tables::PIN_TABLE;
+use program_output::tables::SELECTOR_TABLE;
+use program_output::tables::WAVEFORM_TABLE;
+use program_output::tables::words_in;
+use record_words::CHOICE_WORDS;
+use record_words::COMPONENT_WORDS;
+use record_words::MODEL_WORDS;
+use record_words::PIN_WORDS;
+use record_words::ROW_WORDS;
+use record_words::SELECTOR_WORDS;
+use record_words::WAVEFORM_WORDS;
+use records::Counts;
 use records::Lengths;
-use records::MOST_CHOICES;
-use records::MOST_COMPONENTS;
-use records::MOST_MODELS;
-use records::MOST_PINS;
-use records::MOST_SELECTORS;
-use records::MOST_WAVEFORMS;
 
-// A byte of the head; what is past the end counts as 0.
-fn byte_at(head: &[u8], at: usize) -> usize
-    ensures { λ r. ⌜ r < 256 ⌝ }
-{
-    if at < head.len() {
-        let b = head[at];
-        return b as usize;
-    }
-    0
+mod heads; // heads.rt: records of standard input
+mod patterns; // patterns.rt: tables that hold a pattern where nothing is read
+
+const ROW_TABLE: usize = 8192 * ROW_WORDS;
+
+fn tell_changed() {
+    put_out(b"CHANGED\n", 8);
 }
 
-// The four bytes from a place on as a number.
-fn number_at(head: &[u8], at: usize) -> usize
-    requires { ⌜ at ≤ 28 ⌝ }
-{
-    byte_at(head, at)
-        + 256 * byte_at(head, at + 1)
-        + 65536 * byte_at(head, at + 2)
-        + 16777216 * byte_at(head, at + 3)
+// Prints a file's dump. Of each table so many records are lent, and no more than it has.
+fn print_lent(
+    out: &mut [u8],
+    src: &[u8],
+    l: Lengths,
+    components: &mut [u64],
+    pins: &mut [u64],
+    selectors: &mut [u64],
+    choices: &mut [u64],
+    models: &mut [u64],
+    waveforms: &mut [u64],
+    rows: &mut [u64],
+) -> Counts {
+    let c = words_in(components.len(), COMPONENT_WORDS, l.components);
+    let p = words_in(pins.len(), PIN_WORDS, l.pins);
+    let s = words_in(selectors.len(), SELECTOR_WORDS, l.selectors);
+    let h = words_in(choices.len(), CHOICE_WORDS, l.choices);
+    let m = words_in(models.len(), MODEL_WORDS, l.models);
+    let w = words_in(waveforms.len(), WAVEFORM_WORDS, l.waveforms);
+    let r = words_in(rows.len(), ROW_WORDS, l.rows);
+    dump_output::print_file(
+        out,
+        src,
+        &mut components[0..c],
+        &mut pins[0..p],
+        &mut selectors[0..s],
+        &mut choices[0..h],
+        &mut models[0..m],
+        &mut waveforms[0..w],
+        &mut rows[0..r],
+    )
 }
 
-fn lesser(a: usize, b: usize) -> usize
-    ensures { λ r. ⌜ r ≤ b ⌝ }
-{
-    if a < b {
-        return a;
-    }
-    b
+// Every table as it was before so much of it was used; false where more had changed than that.
+fn renew(
+    used: Counts,
+    components: &mut [u64; COMPONENT_TABLE],
+    pins: &mut [u64; PIN_TABLE],
+    selectors: &mut [u64; SELECTOR_TABLE],
+    choices: &mut [u64; CHOICE_TABLE],
+    models: &mut [u64; MODEL_TABLE],
+    waveforms: &mut [u64; WAVEFORM_TABLE],
+    rows: &mut [u64; ROW_TABLE],
+) -> bool {
+    let c = renewed(components, COMPONENT_WORDS, used.components);
+    let p = renewed(pins, PIN_WORDS, used.pins);
+    let s = renewed(selectors, SELECTOR_WORDS, used.selectors);
+    let h = renewed(choices, CHOICE_WORDS, used.choices);
+    let m = renewed(models, MODEL_WORDS, used.models);
+    let w = renewed(waveforms, WAVEFORM_WORDS, used.waveforms);
+    let r = renewed(rows, ROW_WORDS, used.rows);
+    c && p && s && h && m && w && r
 }
 
-// A length above document 01's bound, or above 8,192 rows, counts as that.
-fn lengths_in(head: &[u8]) -> Lengths {
-    Lengths {
-        components: lesser(number_at(head, 0), MOST_COMPONENTS),
-        pins: lesser(number_at(head, 4), MOST_PINS),
-        selectors: lesser(number_at(head, 8), MOST_SELECTORS),
-        choices: lesser(number_at(head, 12), MOST_CHOICES),
-        models: lesser(number_at(head, 16), MOST_MODELS),
-        waveforms: lesser(number_at(head, 20), MOST_WAVEFORMS),
-        rows: lesser(number_at(head, 24), 8192),
+// The first n bytes.
+fn front(src: &[u8], n: usize) -> &[u8] {
+    if n < src.len() {
+        return &src[0..n];
+    }
+    src
+}
+
+fn print_next(
+    out: &mut [u8; 65536],
+    src: &[u8],
+    l: Lengths,
+    components: &mut [u64; COMPONENT_TABLE],
+    pins: &mut [u64; PIN_TABLE],
+    selectors: &mut [u64; SELECTOR_TABLE],
+    choices: &mut [u64; CHOICE_TABLE],
+    models: &mut [u64; MODEL_TABLE],
+    waveforms: &mut [u64; WAVEFORM_TABLE],
+    rows: &mut [u64; ROW_TABLE],
+) {
+    let used = print_lent(
+        out,
+        src,
+        l,
+        components,
+        pins,
+        selectors,
+        choices,
+        models,
+        waveforms,
+        rows,
+    );
+    if !renew(
+        used,
+        components,
+        pins,
+        selectors,
+        choices,
+        models,
+        waveforms,
+        rows,
+    ) {
+        tell_changed();
     }
 }
 
-fn file_buffer() -> [u8; 131072]
-    ensures { λ r. ⌜ 131072 ≡ length r ⌝ }
-{
-    [0; 131072]
-}
-
-// Reads the next record and prints its file's dump; false where the record is cut off.
-fn next_file(head: &mut [u8], src: &mut [u8]) -> bool {
-    let got = io::read_full(0, head);
-    if got < 32 {
-        return false;
+// The tables whole, once no file is left.
+fn look(
+    components: &[u64; COMPONENT_TABLE],
+    pins: &[u64; PIN_TABLE],
+    selectors: &[u64; SELECTOR_TABLE],
+    choices: &[u64; CHOICE_TABLE],
+    models: &[u64; MODEL_TABLE],
+    waveforms: &[u64; WAVEFORM_TABLE],
+    rows: &[u64; ROW_TABLE],
+) {
+    if is_plain(components)
+        && is_plain(pins)
+        && is_plain(selectors)
+        && is_plain(choices)
+        && is_plain(models)
+        && is_plain(waveforms)
+        && is_plain(rows)
+    {
+        return;
     }
-    let n = lesser(number_at(head, 28), src.len());
-    let m = io::read_full(0, &mut src[0..n]);
-    if m < n {
-        return false;
-    }
-    let l = lengths_in(head);
-    print_file(&src[0..n], l);
-    true
+    tell_changed();
 }
 
 fn main() {
-    let mut src = file_buffer();
+    let mut src = [0u8; 131072];
+    let mut out = io::large_buffer();
     let mut head = [0u8; 32];
+    let mut components = [PATTERN; COMPONENT_TABLE];
+    let mut pins = [PATTERN; PIN_TABLE];
+    let mut selectors = [PATTERN; SELECTOR_TABLE];
+    let mut choices = [PATTERN; CHOICE_TABLE];
+    let mut models = [PATTERN; MODEL_TABLE];
+    let mut waveforms = [PATTERN; WAVEFORM_TABLE];
+    let mut rows = [PATTERN; ROW_TABLE];
     let mut files: u64 = 0;
     while files < 1000000 {
-        if !next_file(&mut head, &mut src) {
-            return;
-        }
+        let Next::File(n) = next_file(&mut head, &mut src) else {
+            break;
+        };
+        print_next(
+            &mut out,
+            front(&src, n),
+            lengths_in(&head),
+            &mut components,
+            &mut pins,
+            &mut selectors,
+            &mut choices,
+            &mut models,
+            &mut waveforms,
+            &mut rows,
+        );
         files += 1;
     }
+    look(
+        &components,
+        &pins,
+        &selectors,
+        &choices,
+        &models,
+        &waveforms,
+        &rows,
+    );
 }

@@ -6,7 +6,7 @@ use lib.ListN.{length, replicate}
 use native.Mathlib.Omega.{arith}
 use Rattle.reader.specs.Promise.{Lent, Reads}
 use Rattle.examples.specs.Starred.{atBounds}
-use Rattle.program_tables.specs.Shelved.{blankComponents, blankPins, blankSelectors, blankChoices, blankModels, blankWaveforms}
+use Rattle.blank_records.specs.Blank.{blankComponents, blankPins, blankSelectors, blankChoices, blankModels, blankWaveforms}
 use Rattle.cheats.specs.Files.{listed, misnamed, altered, clamped}
 use Rattle.demand_three.specs.Demand.{AcceptedFile}
 use Rattle.cheats.specs.Cheats.{Reader, KeepsPromise, AtBounds, nameLength, MakesUpAllRows, ShutsOut}

@@ -1,9 +1,31 @@
 // Standard input is read into tables at document 01's bounds with 1,000 rows lent, and all that they keep is printed.
-use program_output::file_buffer;
-use program_output::lent_lengths;
+use program_output::tables::CHOICE_TABLE;
+use program_output::tables::COMPONENT_TABLE;
+use program_output::tables::MODEL_TABLE;
+use program_output::tables::PIN_TABLE;
+use program_output::tables::SELECTOR_TABLE;
+use program_output::tables::WAVEFORM_TABLE;
 
 fn main() {
-    let mut src = file_buffer();
+    let mut src = program_output::file_buffer();
     let n = io::read_full(0, &mut src);
-    dump_output::print_file(&src[..n], lent_lengths(1000));
+    let mut out = io::large_buffer();
+    let mut components = [0u64; COMPONENT_TABLE];
+    let mut pins = [0u64; PIN_TABLE];
+    let mut selectors = [0u64; SELECTOR_TABLE];
+    let mut choices = [0u64; CHOICE_TABLE];
+    let mut models = [0u64; MODEL_TABLE];
+    let mut waveforms = [0u64; WAVEFORM_TABLE];
+    let mut rows = [0u64; 4000];
+    dump_output::print_file(
+        &mut out,
+        &src[..n],
+        &mut components,
+        &mut pins,
+        &mut selectors,
+        &mut choices,
+        &mut models,
+        &mut waveforms,
+        &mut rows,
+    );
 }

@@ -1,11 +1,9 @@
 -- The dump of models: their own lines, tables, ramps, waveforms and rows.
 use Prim.Native.Nat.{ℕ}
-use mathlib.Core.List.{List, [], _++_}
+use mathlib.Core.List.{List, _++_}
 use mathlib.Core.Bool.{cond}
-use lib.ListN.{getD}
 use Rattle.laws.specs.Bytes.{bytes}
 use Rattle.decimal.specs.Answers.{cellIn}
-use Rattle.records.specs.Types.{typeNumber}
 use Rattle.records.specs.declared.Edge.{Edge}
 use Rattle.records.specs.declared.Edge.the-variants.{Rising, Falling}
 use Rattle.records.specs.declared.Polarity.{Polarity}
@@ -20,17 +18,12 @@ use Rattle.records.specs.declared.RampTable.{RampTable}
 use Rattle.records.specs.declared.RampTriple.{RampTriple}
 use Rattle.records.specs.declared.Table.{Table}
 use Rattle.records.specs.declared.Waveform.{Waveform}
-use Rattle.name_table.specs.Places.{namesOf}
-use Rattle.line_rules.specs.Tables.{modelTypes}
+use Rattle.type_text.specs.Types.{typeText}
 use Rattle.text_buffer.specs.Lines.{countText, nextCell}
 use Rattle.text_buffer.specs.Numerals.{decimalText}
 use Rattle.dump_text.specs.Labelled.{cellLine, tripleLine, countLine, sectionLine, rangeLine}
 
 -- ---- a model's own lines
-
--- as document 01 spells it: the name at its place in document 01's list
-unfoldable pub typeText : ModelType → List ℕ
-typeText k = getD (namesOf modelTypes) (typeNumber k) []
 
 unfoldable pub typeLine : ModelType → List ℕ
 typeLine k = bytes "MODEL_TYPE " ++ typeText k ++ bytes "\n"

@@ -1,6 +1,6 @@
 // The dump's lines of a model: its own, and those of its tables, ramp, waveforms and rows.
 ghost use Rattle.text_buffer.specs.Put.{Put};
-ghost use Rattle.dump_model_text.specs.Models.{typeText, typeLine, polarityLine, enableLine, headLines, levelLines, rangeLines, modelDump, tableText, tableLine, slopeText, slopesDump, rampDump, waveformsLine, edgeText, fixtureLines, deviceLines, waveformLines, wordText, rowDump};
+ghost use Rattle.dump_model_text.specs.Models.{typeLine, polarityLine, enableLine, headLines, levelLines, rangeLines, modelDump, tableText, tableLine, slopeText, slopesDump, rampDump, waveformsLine, edgeText, fixtureLines, deviceLines, waveformLines, wordText, rowDump};
 use decimal::cell_in;
 use dump_text::labelled::cell_line;
 use dump_text::labelled::count_line;
@@ -17,22 +17,12 @@ use records::RampTable;
 use records::RampTriple;
 use records::Table;
 use records::Waveform;
-use records::type_number;
 use text_buffer::put_byte;
 use text_buffer::put_bytes;
 use text_buffer::put_count;
 use text_buffer::put_decimal;
 use text_buffer::put_next_cell;
-use text_buffer::put_part;
-
-// A model type as document 01 spells it.
-pub fn put_type(out: &mut [u8], at: usize, kind: ModelType) -> usize
-    ensures { λ r. ⌜ Put (now (out .entry)) (now (out .exit)) at (typeText kind) r ⌝ }
-{
-    let names = b"Input Output I/O 3-state Open_drain I/O_open_drain Open_sink I/O_open_sink \
-        Open_source I/O_open_source Input_ECL Output_ECL I/O_ECL 3-state_ECL Terminator";
-    put_part(out, at, names, b' ', type_number(kind) as usize)
-}
+use type_text::put_type;
 
 fn type_line(out: &mut [u8], at: usize, kind: ModelType) -> usize
     ensures { λ r. ⌜ Put (now (out .entry)) (now (out .exit)) at (typeLine kind) r ⌝ }

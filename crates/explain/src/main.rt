@@ -1,21 +1,80 @@
 // Standard input is read as a file and told to a person: a summary, or the fault and its line. All rows that a file can have are lent.
 // The first argument is the file's name.
-mod summary; // summary.rt: the summary of a shelf
-
+use program_output::put_out;
+use program_output::tables::CHOICE_TABLE;
+use program_output::tables::COMPONENT_TABLE;
+use program_output::tables::MODEL_TABLE;
+use program_output::tables::PIN_TABLE;
+use program_output::tables::SELECTOR_TABLE;
+use program_output::tables::WAVEFORM_TABLE;
+use records::Answer;
 use records::Fault;
 use records::Verdict;
 
-fn print_refusal(name: &[u8], src: &[u8], fault: Fault) {
-    let mut out = io::large_buffer();
-    let n = explain_text::put_refusal(&mut out, 0, name, src, fault);
-    program_output::put_out(&out, n);
+mod summary; // summary.rt: the summary of an accepted file
+
+fn print_refusal(out: &mut [u8], name: &[u8], src: &[u8], fault: Fault) {
+    let n = explain_text::put_refusal(out, 0, name, src, fault);
+    put_out(out, n);
+}
+
+fn print_answer(
+    out: &mut [u8],
+    name: &[u8],
+    src: &[u8],
+    answer: Answer,
+    components: &[u64],
+    pins: &[u64],
+    selectors: &[u64],
+    choices: &[u64],
+    models: &[u64],
+) {
+    let verdict = answer.verdict;
+    match verdict {
+        Verdict::Accepted => summary::print_summary(
+            out,
+            name,
+            answer,
+            components,
+            pins,
+            selectors,
+            choices,
+            models,
+        ),
+        Verdict::Refused(f) => print_refusal(out, name, src, f),
+    }
 }
 
 fn print_file(name: &[u8], src: &[u8]) {
-    match file_answer::check(src, program_output::lent_lengths(8192)) {
-        Verdict::Accepted => summary::print_summary(name, program_tables::loaded(src)),
-        Verdict::Refused(f) => print_refusal(name, src, f),
-    }
+    let mut out = io::large_buffer();
+    let mut components = [0u64; COMPONENT_TABLE];
+    let mut pins = [0u64; PIN_TABLE];
+    let mut selectors = [0u64; SELECTOR_TABLE];
+    let mut choices = [0u64; CHOICE_TABLE];
+    let mut models = [0u64; MODEL_TABLE];
+    let mut waveforms = [0u64; WAVEFORM_TABLE];
+    let mut rows = [0u64; 32768];
+    let answer = table_reader::read(
+        src,
+        &mut components,
+        &mut pins,
+        &mut selectors,
+        &mut choices,
+        &mut models,
+        &mut waveforms,
+        &mut rows,
+    );
+    print_answer(
+        &mut out,
+        name,
+        src,
+        answer,
+        &components,
+        &pins,
+        &selectors,
+        &choices,
+        &models,
+    );
 }
 
 fn main() {

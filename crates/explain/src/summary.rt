@@ -1,21 +1,25 @@
-// The summary of a shelf on standard output: the file, and each component with its pins in columns as wide as their names.
+// The summary of an accepted file on standard output: the file, and each component with its pins in columns as wide as their names.
 use explain_text::Widths;
+use name_table::Found;
+use program_output::flushed;
 use program_output::put_out;
-use program_tables::Shelf;
-use questions::Chosen;
-use records::Choice;
+use program_output::tables::end_in;
+use program_output::tables::records_in;
+use program_output::tables::used;
+use questions::choices::model_for;
+use record_words::CHOICE_WORDS;
+use record_words::COMPONENT_WORDS;
+use record_words::MODEL_WORDS;
+use record_words::PIN_WORDS;
+use record_words::SELECTOR_WORDS;
+use records::Answer;
 use records::Component;
-use records::Counts;
-use records::MOST_CHOICES;
-use records::MOST_COMPONENTS;
-use records::MOST_MODELS;
-use records::MOST_PINS;
-use records::MOST_SELECTORS;
-use records::Model;
 use records::Name;
 use records::Pin;
-use records::Selector;
 use records::Span;
+use table_records::tables::component_in;
+use table_records::tables::model_in;
+use table_records::tables::pin_in;
 
 // ---- how wide the columns are: as their headings, or as the longest name
 
@@ -24,26 +28,24 @@ fn wider(width: usize, name: Name) -> usize {
     if width < n { n } else { width }
 }
 
-fn model_width(models: [Model; MOST_MODELS], used: usize) -> usize {
+fn model_width(models: &[u64]) -> usize {
+    let n = records_in(models, MODEL_WORDS);
     let mut width: usize = 5;
-    for i in 0..MOST_MODELS {
-        let m = models[i];
-        if i < used {
-            width = wider(width, m.name);
-        }
+    for i in 0..n {
+        let m = model_in(models, i);
+        width = wider(width, m.name);
     }
     width
 }
 
-fn widths_of(pins: [Pin; MOST_PINS], used: usize, model: usize) -> Widths {
+fn widths_of(pins: &[u64], model: usize) -> Widths {
+    let n = records_in(pins, PIN_WORDS);
     let mut pin: usize = 3;
     let mut signal: usize = 6;
-    for i in 0..MOST_PINS {
-        let p = pins[i];
-        if i < used {
-            pin = wider(pin, p.name);
-            signal = wider(signal, p.signal);
-        }
+    for i in 0..n {
+        let p = pin_in(pins, i);
+        pin = wider(pin, p.name);
+        signal = wider(signal, p.signal);
     }
     Widths {
         pin: pin,
@@ -54,81 +56,111 @@ fn widths_of(pins: [Pin; MOST_PINS], used: usize, model: usize) -> Widths {
 
 // ---- components and their pins
 
-fn print_bare_pin(w: Widths, p: Pin) {
-    let mut out = io::buffer();
-    let n = explain_text::put_bare_pin(&mut out, 0, w, p);
-    put_out(&out, n);
-}
-
-fn print_pin(w: Widths, p: Pin, models: [Model; MOST_MODELS], choice: Chosen) {
-    match choice {
-        Chosen::Model(k) => {
-            if k < MOST_MODELS {
-                let mut out = io::buffer();
-                let n = explain_text::put_pin(&mut out, 0, w, p, models[k]);
-                put_out(&out, n);
-            }
-        }
-        Chosen::Nobody => print_bare_pin(w, p),
+fn put_pin(
+    out: &mut [u8],
+    at: usize,
+    w: Widths,
+    p: Pin,
+    selectors: &[u64],
+    choices: &[u64],
+    models: &[u64],
+) -> usize {
+    match model_for(selectors, choices, models, p) {
+        Found::At(k) => explain_text::put_pin(out, at, w, p, model_in(models, k)),
+        Found::Nothing => explain_text::put_bare_pin(out, at, w, p),
     }
 }
 
-fn print_pins(
+fn put_pins(
+    out: &mut [u8],
+    at: usize,
     w: Widths,
-    pins: [Pin; MOST_PINS],
+    pins: &[u64],
     span: Span,
-    selectors: [Selector; MOST_SELECTORS],
-    choices: [Choice; MOST_CHOICES],
-    models: [Model; MOST_MODELS],
-    counts: Counts,
-) {
-    for i in 0..MOST_PINS {
-        let p = pins[i];
-        if questions::in_span(span, i) {
-            let choice = questions::tables::model_for(selectors, choices, models, counts, p);
-            print_pin(w, p, models, choice);
-        }
+    selectors: &[u64],
+    choices: &[u64],
+    models: &[u64],
+) -> usize {
+    let start = span.start;
+    let end = end_in(span, records_in(pins, PIN_WORDS));
+    let mut next = at;
+    for i in start..end {
+        let line = put_pin(out, next, w, pin_in(pins, i), selectors, choices, models);
+        next = flushed(out, line);
     }
+    next
 }
 
-fn print_component(c: Component, w: Widths) {
-    let mut out = io::buffer();
-    let n = explain_text::put_component(&mut out, 0, c);
-    let m = explain_text::put_heading(&mut out, n, w);
-    put_out(&out, m);
-}
-
-fn print_components(
+fn put_component(
+    out: &mut [u8],
+    at: usize,
     w: Widths,
-    components: [Component; MOST_COMPONENTS],
-    pins: [Pin; MOST_PINS],
-    selectors: [Selector; MOST_SELECTORS],
-    choices: [Choice; MOST_CHOICES],
-    models: [Model; MOST_MODELS],
-    counts: Counts,
-) {
-    for i in 0..MOST_COMPONENTS {
-        let c = components[i];
-        if i < counts.components {
-            print_component(c, w);
-            print_pins(w, pins, c.pins, selectors, choices, models, counts);
-        }
+    c: Component,
+    pins: &[u64],
+    selectors: &[u64],
+    choices: &[u64],
+    models: &[u64],
+) -> usize {
+    let named = explain_text::put_component(out, at, c);
+    let heading = explain_text::put_heading(out, named, w);
+    put_pins(out, heading, w, pins, c.pins, selectors, choices, models)
+}
+
+fn put_components(
+    out: &mut [u8],
+    at: usize,
+    w: Widths,
+    components: &[u64],
+    pins: &[u64],
+    selectors: &[u64],
+    choices: &[u64],
+    models: &[u64],
+) -> usize {
+    let n = records_in(components, COMPONENT_WORDS);
+    let mut next = at;
+    for i in 0..n {
+        let c = component_in(components, i);
+        next = put_component(out, next, w, c, pins, selectors, choices, models);
     }
+    next
+}
+
+// The components in tables that hold no other records than those in use.
+fn put_tables(
+    out: &mut [u8],
+    at: usize,
+    components: &[u64],
+    pins: &[u64],
+    selectors: &[u64],
+    choices: &[u64],
+    models: &[u64],
+) -> usize {
+    let w = widths_of(pins, model_width(models));
+    put_components(out, at, w, components, pins, selectors, choices, models)
 }
 
 // The summary of an accepted file.
-pub(crate) fn print_summary(name: &[u8], t: Shelf) {
-    let a = t.answer;
-    let counts = a.counts;
-    let components = t.components;
-    let pins = t.pins;
-    let selectors = t.selectors;
-    let choices = t.choices;
-    let models = t.models;
-    let mut out = io::large_buffer();
-    let n = explain_text::put_header(&mut out, 0, name, a.header);
-    let m = explain_text::put_counts(&mut out, n, counts);
-    put_out(&out, m);
-    let w = widths_of(pins, counts.pins, model_width(models, counts.models));
-    print_components(w, components, pins, selectors, choices, models, counts);
+pub(crate) fn print_summary(
+    out: &mut [u8],
+    name: &[u8],
+    answer: Answer,
+    components: &[u64],
+    pins: &[u64],
+    selectors: &[u64],
+    choices: &[u64],
+    models: &[u64],
+) {
+    let counts = answer.counts;
+    let header = explain_text::put_header(out, 0, name, answer.header);
+    let first = explain_text::put_counts(out, header, counts);
+    let last = put_tables(
+        out,
+        first,
+        used(components, COMPONENT_WORDS, counts.components),
+        used(pins, PIN_WORDS, counts.pins),
+        used(selectors, SELECTOR_WORDS, counts.selectors),
+        used(choices, CHOICE_WORDS, counts.choices),
+        used(models, MODEL_WORDS, counts.models),
+    );
+    put_out(out, last);
 }

@@ -15,8 +15,8 @@ use Rattle.records.specs.declared.Name.{Name}
 use Rattle.records.specs.declared.Pin.{Pin}
 use Rattle.text_buffer.specs.Lines.{nameText, wordsText}
 use Rattle.text_buffer.specs.Numerals.{numeralOf, plainText}
-use Rattle.dump_model_text.specs.Models.{typeText}
-use Rattle.questions.specs.Chosen.{sameName}
+use Rattle.type_text.specs.Types.{typeText}
+use Rattle.questions.specs.Named.{sameName}
 use Rattle.explain_text.specs.declared.summaries.Widths.{Widths}
 
 -- ---- the file

@@ -3,7 +3,7 @@ ghost use mathlib.Core.Path.{_≡_};
 ghost use Prim.Native.Nat.{_-_};
 ghost use Rattle.text_buffer.specs.Lines.{nameText};
 ghost use Rattle.text_buffer.specs.Put.{Put};
-ghost use Rattle.dump_model_text.specs.Models.{typeText};
+ghost use Rattle.type_text.specs.Types.{typeText};
 ghost use Rattle.explain_text.specs.Summaries.{headerText, labelledText, countsText, gapText, column, levelText, componentText, headingText, pinColumns, selectorText, pinText, bareText};
 use decimal::Cell;
 use records::Component;
@@ -94,7 +94,7 @@ fn put_name_column(out: &mut [u8], at: usize, name: Name, width: usize) -> usize
 fn put_type_column(out: &mut [u8], at: usize, kind: ModelType) -> usize
     ensures { λ r. ⌜ Put (now (out .entry)) (now (out .exit)) at (column 15 (typeText kind)) r ⌝ }
 {
-    let end = dump_model_text::put_type(out, at, kind);
+    let end = type_text::put_type(out, at, kind);
     put_gap(out, end, at, 15)
 }
 
@@ -149,7 +149,7 @@ fn put_pin_columns(out: &mut [u8], at: usize, w: Widths, p: Pin, model: Name) ->
 fn put_selector(out: &mut [u8], at: usize, p: Pin, m: Model) -> usize
     ensures { λ r. ⌜ Put (now (out .entry)) (now (out .exit)) at (selectorText p m) r ⌝ }
 {
-    if questions::same_name(m.name, p.model) {
+    if questions::names::same_name(m.name, p.model) {
         return put_bytes(out, at, b"");
     }
     let label = put_bytes(out, at, b"  by selector ");

@@ -12,7 +12,7 @@ use Rattle.records.specs.declared.Model.{Model}
 use Rattle.records.specs.declared.Waveform.{Waveform}
 use Rattle.records.specs.declared.Answer.{Answer}
 use Rattle.reader.specs.Promise.{Read}
-use Rattle.program_tables.specs.Shelved.{blankComponent, blankSelector, blankChoice, blankModel, blankWaveform}
+use Rattle.blank_records.specs.Blank.{blankComponent, blankSelector, blankChoice, blankModel, blankWaveform}
 use Rattle.lending.specs.declared.Enough.{Enough}
 use Rattle.lending.specs.declared.Scant.{Scant}
 

@@ -48,7 +48,7 @@ struct Scant {
 fn one_component() -> [Component; 1]
     ensures { λ r. ⌜ r ≡ oneComponent ⌝ }
 {
-    let component = program_tables::blank_component();
+    let component = blank_records::blank_component();
     [component; 1]
 }
 
@@ -60,7 +60,7 @@ fn spare_pin() -> Pin
         bytes: [b'x'; 40],
         len: 5,
     };
-    let mut pin = program_tables::blank_pin();
+    let mut pin = blank_records::blank_pin();
     pin.name = name;
     pin
 }
@@ -75,28 +75,28 @@ fn three_pins() -> [Pin; 3]
 fn no_selectors() -> [Selector; 0]
     ensures { λ r. ⌜ r ≡ noSelectors ⌝ }
 {
-    let selector = program_tables::blank_selector();
+    let selector = blank_records::blank_selector();
     [selector; 0]
 }
 
 fn no_choices() -> [Choice; 0]
     ensures { λ r. ⌜ r ≡ noChoices ⌝ }
 {
-    let choice = program_tables::blank_choice();
+    let choice = blank_records::blank_choice();
     [choice; 0]
 }
 
 fn two_models() -> [Model; 2]
     ensures { λ r. ⌜ r ≡ twoModels ⌝ }
 {
-    let model = program_tables::blank_model();
+    let model = blank_records::blank_model();
     [model; 2]
 }
 
 fn one_waveform() -> [Waveform; 1]
     ensures { λ r. ⌜ r ≡ oneWaveform ⌝ }
 {
-    let waveform = program_tables::blank_waveform();
+    let waveform = blank_records::blank_waveform();
     [waveform; 1]
 }
 

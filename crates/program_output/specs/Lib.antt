@@ -1,2 +1,2 @@
--- What the programs lend.
-pub mod Lent
+-- Where the programs keep a file.
+pub mod Kept

@@ -1,35 +1,16 @@
-// What every program needs: where a file's bytes are kept, what is lent to the reader, and bytes and refusals written to standard output.
+// What every program needs: where a file's bytes are kept, the tables and the parts of them that are in use, and bytes and refusals written to
+// standard output.
 ghost use mathlib.Core.Path.{_≡_};
-ghost use Rattle.program_output.specs.Lent.{lentLengths, fileBuffer};
+ghost use Rattle.program_output.specs.Kept.{fileBuffer};
 use records::Fault;
-use records::Lengths;
-use records::MOST_CHOICES;
-use records::MOST_COMPONENTS;
-use records::MOST_MODELS;
-use records::MOST_PINS;
-use records::MOST_SELECTORS;
-use records::MOST_WAVEFORMS;
+
+pub mod tables; // tables.rt: how long tables are, and the parts of them that are in use
 
 // The bytes of a file, and one more: a longer file is too long anyhow.
 pub fn file_buffer() -> [u8; 65537]
     ensures { λ r. ⌜ r ≡ fileBuffer ⌝ }
 {
     [0; 65537]
-}
-
-// What the programs lend: tables at document 01's bounds, and so many rows.
-pub fn lent_lengths(rows: usize) -> Lengths
-    ensures { λ r. ⌜ r ≡ lentLengths rows ⌝ }
-{
-    Lengths {
-        components: MOST_COMPONENTS,
-        pins: MOST_PINS,
-        selectors: MOST_SELECTORS,
-        choices: MOST_CHOICES,
-        models: MOST_MODELS,
-        waveforms: MOST_WAVEFORMS,
-        rows: rows,
-    }
 }
 
 // Writes the first n bytes.
@@ -39,8 +20,16 @@ pub fn put_out(out: &[u8], n: usize) {
     }
 }
 
-pub fn print_refusal(f: Fault) {
-    let mut out = io::buffer();
-    let n = text_buffer::refused_line(&mut out, 0, f);
-    put_out(&out, n);
+// Writes the first n bytes once they are more than half of the buffer; answers where the next text goes.
+pub fn flushed(out: &[u8], n: usize) -> usize {
+    if n <= out.len() / 2 {
+        return n;
+    }
+    put_out(out, n);
+    0
+}
+
+pub fn print_refusal(out: &mut [u8], f: Fault) {
+    let n = text_buffer::refused_line(out, 0, f);
+    put_out(out, n);
 }

@@ -1,6 +1,6 @@
 -- By computing.
 use mathlib.Core.Path.{refl}
-use Rattle.program_output.specs.Lent.{fileBuffer}
+use Rattle.program_output.specs.Kept.{fileBuffer}
 use Rattle.program_output.proofs.file_buffer.Statement.{statement}
 use Rattle.program_output.proofs.file_buffer.Tie as tie
 

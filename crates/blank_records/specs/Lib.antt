@@ -1,0 +1,2 @@
+-- Blank records.
+pub mod Blank

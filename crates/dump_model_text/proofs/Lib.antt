@@ -1,2 +1,0 @@
--- What the dump's definitions must keep.
-pub mod Sanity

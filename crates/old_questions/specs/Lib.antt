@@ -1,2 +1,0 @@
--- What a user of the filled tables asks.
-pub mod Chosen

@@ -1,0 +1,69 @@
+// How long a program's tables are, and the parts of them that are in use.
+ghost use Prim.Native.Nat.{_≤_};
+use record_words::CHOICE_WORDS;
+use record_words::COMPONENT_WORDS;
+use record_words::MODEL_WORDS;
+use record_words::PIN_WORDS;
+use record_words::SELECTOR_WORDS;
+use record_words::WAVEFORM_WORDS;
+use records::MOST_CHOICES;
+use records::MOST_COMPONENTS;
+use records::MOST_MODELS;
+use records::MOST_PINS;
+use records::MOST_SELECTORS;
+use records::MOST_WAVEFORMS;
+use records::Span;
+
+// ---- the words of tables at document 01's bounds
+
+pub const COMPONENT_TABLE: usize = MOST_COMPONENTS * COMPONENT_WORDS;
+
+pub const PIN_TABLE: usize = MOST_PINS * PIN_WORDS;
+
+pub const SELECTOR_TABLE: usize = MOST_SELECTORS * SELECTOR_WORDS;
+
+pub const CHOICE_TABLE: usize = MOST_CHOICES * CHOICE_WORDS;
+
+pub const MODEL_TABLE: usize = MOST_MODELS * MODEL_WORDS;
+
+pub const WAVEFORM_TABLE: usize = MOST_WAVEFORMS * WAVEFORM_WORDS;
+
+// ---- parts of tables: a record has `size` words
+
+// How many whole records a table has.
+pub fn records_in(table: &[u64], size: usize) -> usize {
+    if size == 0 {
+        return 0;
+    }
+    table.len() / size
+}
+
+// How many words so many records have, in a table of so many words: all of them where it has no more records.
+pub fn words_in(words: usize, size: usize, count: usize) -> usize
+    ensures { λ r. ⌜ r ≤ words ⌝ }
+{
+    if size == 0 {
+        return 0;
+    }
+    if count < words / size {
+        return count * size;
+    }
+    words
+}
+
+// The words of the first records of a table.
+pub fn used(table: &[u64], size: usize, count: usize) -> &[u64] {
+    let n = words_in(table.len(), size, count);
+    &table[0..n]
+}
+
+// Where a span ends in a table of n records.
+pub fn end_in(s: Span, n: usize) -> usize {
+    if n < s.start {
+        return n;
+    }
+    if s.count < n - s.start {
+        return s.start + s.count;
+    }
+    n
+}

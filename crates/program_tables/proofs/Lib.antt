@@ -1,2 +1,0 @@
--- Laws on the tables of a shelf.
-pub mod Laws

@@ -1,2 +1,0 @@
--- What a shelf holds.
-pub mod Shelved

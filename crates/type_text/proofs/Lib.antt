@@ -1,0 +1,2 @@
+-- What the definition must keep.
+pub mod Sanity

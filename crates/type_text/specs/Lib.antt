@@ -1,0 +1,2 @@
+-- The text of a model type.
+pub mod Types
