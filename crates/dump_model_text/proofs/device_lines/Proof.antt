@@ -9,19 +9,19 @@ slice-aggregate-cell-line : tie.Need-slice-aggregate-cell-line
 slice-aggregate-cell-line c = search needs
 
 cell-line-requires : tie.Need-cell-line-requires
-cell-line-requires c κs = search needs
+cell-line-requires c κs = tt
 
 slice-aggregate-cell-line-2 : tie.Need-slice-aggregate-cell-line-2
 slice-aggregate-cell-line-2 c = search needs
 
 cell-line-requires-2 : tie.Need-cell-line-requires-2
-cell-line-requires-2 c κs = search needs
+cell-line-requires-2 c κs = tt
 
 slice-aggregate-cell-line-3 : tie.Need-slice-aggregate-cell-line-3
 slice-aggregate-cell-line-3 c = search needs
 
 cell-line-requires-3 : tie.Need-cell-line-requires-3
-cell-line-requires-3 c κs = search needs
+cell-line-requires-3 c κs = tt
 
 returns : tie.Need-returns
 unfolding deviceLines

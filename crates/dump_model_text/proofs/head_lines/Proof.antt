@@ -9,22 +9,22 @@ slice-aggregate-section-line : tie.Need-slice-aggregate-section-line
 slice-aggregate-section-line c = search needs
 
 section-line-requires : tie.Need-section-line-requires
-section-line-requires c κs = search needs
+section-line-requires c κs = tt
 
 type-line-requires : tie.Need-type-line-requires
-type-line-requires c κs = search needs
+type-line-requires c κs = tt
 
 polarity-line-requires : tie.Need-polarity-line-requires
-polarity-line-requires c κs = search needs
+polarity-line-requires c κs = tt
 
 enable-line-requires : tie.Need-enable-line-requires
-enable-line-requires c κs = search needs
+enable-line-requires c κs = tt
 
 slice-aggregate-triple-line : tie.Need-slice-aggregate-triple-line
 slice-aggregate-triple-line c = search needs
 
 triple-line-requires : tie.Need-triple-line-requires
-triple-line-requires c κs = search needs
+triple-line-requires c κs = tt
 
 returns : tie.Need-returns
 unfolding headLines

@@ -9,37 +9,37 @@ slice-aggregate-cell-line : tie.Need-slice-aggregate-cell-line
 slice-aggregate-cell-line c = search needs
 
 cell-line-requires : tie.Need-cell-line-requires
-cell-line-requires c κs = search needs
+cell-line-requires c κs = tt
 
 slice-aggregate-cell-line-2 : tie.Need-slice-aggregate-cell-line-2
 slice-aggregate-cell-line-2 c = search needs
 
 cell-line-requires-2 : tie.Need-cell-line-requires-2
-cell-line-requires-2 c κs = search needs
+cell-line-requires-2 c κs = tt
 
 slice-aggregate-cell-line-3 : tie.Need-slice-aggregate-cell-line-3
 slice-aggregate-cell-line-3 c = search needs
 
 cell-line-requires-3 : tie.Need-cell-line-requires-3
-cell-line-requires-3 c κs = search needs
+cell-line-requires-3 c κs = tt
 
 slice-aggregate-cell-line-4 : tie.Need-slice-aggregate-cell-line-4
 slice-aggregate-cell-line-4 c = search needs
 
 cell-line-requires-4 : tie.Need-cell-line-requires-4
-cell-line-requires-4 c κs = search needs
+cell-line-requires-4 c κs = tt
 
 slice-aggregate-cell-line-5 : tie.Need-slice-aggregate-cell-line-5
 slice-aggregate-cell-line-5 c = search needs
 
 cell-line-requires-5 : tie.Need-cell-line-requires-5
-cell-line-requires-5 c κs = search needs
+cell-line-requires-5 c κs = tt
 
 slice-aggregate-cell-line-6 : tie.Need-slice-aggregate-cell-line-6
 slice-aggregate-cell-line-6 c = search needs
 
 cell-line-requires-6 : tie.Need-cell-line-requires-6
-cell-line-requires-6 c κs = search needs
+cell-line-requires-6 c κs = tt
 
 returns : tie.Need-returns
 unfolding levelLines

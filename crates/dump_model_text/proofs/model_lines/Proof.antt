@@ -1,18 +1,17 @@
 -- One text behind another.
-use borrow.Author.Needs.{needs}
 use Rattle.dump_model_text.specs.Models.{modelDump}
 use Rattle.text_buffer.proofs.Laws.{put-then, put-kept}
 use Rattle.dump_model_text.proofs.model_lines.Statement.{statement}
 use Rattle.dump_model_text.proofs.model_lines.Tie as tie
 
 head-lines-requires : tie.Need-head-lines-requires
-head-lines-requires c κs = search needs
+head-lines-requires c κs = tt
 
 level-lines-requires : tie.Need-level-lines-requires
-level-lines-requires c κs = search needs
+level-lines-requires c κs = tt
 
 range-lines-requires : tie.Need-range-lines-requires
-range-lines-requires c κs = search needs
+range-lines-requires c κs = tt
 
 returns : tie.Need-returns
 unfolding modelDump

@@ -6,13 +6,13 @@ use Rattle.dump_model_text.proofs.put_table.Statement.{statement}
 use Rattle.dump_model_text.proofs.put_table.Tie as tie
 
 put-count-requires : tie.Need-put-count-requires
-put-count-requires c κs = search needs
+put-count-requires c κs = tt
 
 slice-aggregate-put-bytes : tie.Need-slice-aggregate-put-bytes
 slice-aggregate-put-bytes c = search needs
 
 put-bytes-requires : tie.Need-put-bytes-requires
-put-bytes-requires c κs = search needs
+put-bytes-requires c κs = tt
 
 returns : tie.Need-returns
 unfolding tableText

@@ -1,16 +1,15 @@
 -- The cell is the one that the word holds.
 use mathlib.Core.Path.{sym}
-use borrow.Author.Needs.{needs}
 use Rattle.dump_model_text.specs.Models.{wordText}
 use Rattle.text_buffer.proofs.Laws.{put-kept}
 use Rattle.dump_model_text.proofs.put_word.Statement.{statement}
 use Rattle.dump_model_text.proofs.put_word.Tie as tie
 
 cell-in-requires : tie.Need-cell-in-requires
-cell-in-requires c κs = search needs
+cell-in-requires c κs = tt
 
 put-next-cell-requires : tie.Need-put-next-cell-requires
-put-next-cell-requires c κs = search needs
+put-next-cell-requires c κs = tt
 
 returns : tie.Need-returns
 unfolding wordText

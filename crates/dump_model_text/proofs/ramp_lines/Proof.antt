@@ -9,31 +9,31 @@ slice-aggregate-put-bytes : tie.Need-slice-aggregate-put-bytes
 slice-aggregate-put-bytes c = search needs
 
 put-bytes-requires : tie.Need-put-bytes-requires
-put-bytes-requires c κs = search needs
+put-bytes-requires c κs = tt
 
 slice-aggregate-slopes-line : tie.Need-slice-aggregate-slopes-line
 slice-aggregate-slopes-line c = search needs
 
 slopes-line-requires : tie.Need-slopes-line-requires
-slopes-line-requires c κs = search needs
+slopes-line-requires c κs = tt
 
 slice-aggregate-slopes-line-2 : tie.Need-slice-aggregate-slopes-line-2
 slice-aggregate-slopes-line-2 c = search needs
 
 slopes-line-requires-2 : tie.Need-slopes-line-requires-2
-slopes-line-requires-2 c κs = search needs
+slopes-line-requires-2 c κs = tt
 
 slice-aggregate-cell-line : tie.Need-slice-aggregate-cell-line
 slice-aggregate-cell-line c = search needs
 
 cell-line-requires : tie.Need-cell-line-requires
-cell-line-requires c κs = search needs
+cell-line-requires c κs = tt
 
 slice-aggregate-put-bytes-2 : tie.Need-slice-aggregate-put-bytes-2
 slice-aggregate-put-bytes-2 c = search needs
 
 put-bytes-requires-2 : tie.Need-put-bytes-requires-2
-put-bytes-requires-2 c κs = search needs
+put-bytes-requires-2 c κs = tt
 
 returns : tie.Need-returns
 unfolding rampDump

@@ -9,13 +9,13 @@ slice-aggregate-triple-line : tie.Need-slice-aggregate-triple-line
 slice-aggregate-triple-line c = search needs
 
 triple-line-requires : tie.Need-triple-line-requires
-triple-line-requires c κs = search needs
+triple-line-requires c κs = tt
 
 slice-aggregate-range-line : tie.Need-slice-aggregate-range-line
 slice-aggregate-range-line c = search needs
 
 range-line-requires : tie.Need-range-line-requires
-range-line-requires c κs = search needs
+range-line-requires c κs = tt
 
 returns : tie.Need-returns
 unfolding rangeLines

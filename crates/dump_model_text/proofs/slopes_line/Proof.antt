@@ -1,24 +1,23 @@
 -- One text behind another.
-use borrow.Author.Needs.{needs}
 use Rattle.dump_model_text.specs.Models.{slopesDump}
 use Rattle.text_buffer.proofs.Laws.{put-then, put-kept}
 use Rattle.dump_model_text.proofs.slopes_line.Statement.{statement}
 use Rattle.dump_model_text.proofs.slopes_line.Tie as tie
 
 put-bytes-requires : tie.Need-put-bytes-requires
-put-bytes-requires c κs = search needs
+put-bytes-requires c κs = tt
 
 put-slope-requires : tie.Need-put-slope-requires
-put-slope-requires c κs = search needs
+put-slope-requires c κs = tt
 
 put-slope-requires-2 : tie.Need-put-slope-requires-2
-put-slope-requires-2 c κs = search needs
+put-slope-requires-2 c κs = tt
 
 put-slope-requires-3 : tie.Need-put-slope-requires-3
-put-slope-requires-3 c κs = search needs
+put-slope-requires-3 c κs = tt
 
 put-byte-requires : tie.Need-put-byte-requires
-put-byte-requires c κs = search needs
+put-byte-requires c κs = tt
 
 returns : tie.Need-returns
 unfolding slopesDump

@@ -9,16 +9,16 @@ slice-aggregate-put-bytes : tie.Need-slice-aggregate-put-bytes
 slice-aggregate-put-bytes c = search needs
 
 put-bytes-requires : tie.Need-put-bytes-requires
-put-bytes-requires c κs = search needs
+put-bytes-requires c κs = tt
 
 put-bytes-requires-2 : tie.Need-put-bytes-requires-2
-put-bytes-requires-2 c κs = search needs
+put-bytes-requires-2 c κs = tt
 
 put-table-requires : tie.Need-put-table-requires
-put-table-requires c κs = search needs
+put-table-requires c κs = tt
 
 put-byte-requires : tie.Need-put-byte-requires
-put-byte-requires c κs = search needs
+put-byte-requires c κs = tt
 
 returns : tie.Need-returns
 unfolding tableLine

@@ -6,19 +6,19 @@ use Rattle.dump_model_text.proofs.waveform_lines.Statement.{statement}
 use Rattle.dump_model_text.proofs.waveform_lines.Tie as tie
 
 put-edge-requires : tie.Need-put-edge-requires
-put-edge-requires c κs = search needs
+put-edge-requires c κs = tt
 
 slice-aggregate-count-line : tie.Need-slice-aggregate-count-line
 slice-aggregate-count-line c = search needs
 
 count-line-requires : tie.Need-count-line-requires
-count-line-requires c κs = search needs
+count-line-requires c κs = tt
 
 fixture-lines-requires : tie.Need-fixture-lines-requires
-fixture-lines-requires c κs = search needs
+fixture-lines-requires c κs = tt
 
 device-lines-requires : tie.Need-device-lines-requires
-device-lines-requires c κs = search needs
+device-lines-requires c κs = tt
 
 returns : tie.Need-returns
 unfolding waveformLines

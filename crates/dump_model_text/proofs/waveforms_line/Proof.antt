@@ -9,7 +9,7 @@ slice-aggregate-count-line : tie.Need-slice-aggregate-count-line
 slice-aggregate-count-line c = search needs
 
 count-line-requires : tie.Need-count-line-requires
-count-line-requires c κs = search needs
+count-line-requires c κs = tt
 
 returns : tie.Need-returns
 unfolding waveformsLine

@@ -9,16 +9,16 @@ slice-aggregate-put-bytes : tie.Need-slice-aggregate-put-bytes
 slice-aggregate-put-bytes c = search needs
 
 put-bytes-requires : tie.Need-put-bytes-requires
-put-bytes-requires c κs = search needs
+put-bytes-requires c κs = tt
 
 put-name-requires : tie.Need-put-name-requires
-put-name-requires c κs = search needs
+put-name-requires c κs = tt
 
 put-description-requires : tie.Need-put-description-requires
-put-description-requires c κs = search needs
+put-description-requires c κs = tt
 
 put-byte-requires : tie.Need-put-byte-requires
-put-byte-requires c κs = search needs
+put-byte-requires c κs = tt
 
 returns : tie.Need-returns
 unfolding choiceLine

@@ -9,25 +9,25 @@ slice-aggregate-section-line : tie.Need-slice-aggregate-section-line
 slice-aggregate-section-line c = search needs
 
 section-line-requires : tie.Need-section-line-requires
-section-line-requires c κs = search needs
+section-line-requires c κs = tt
 
 place-lines-requires : tie.Need-place-lines-requires
-place-lines-requires c κs = search needs
+place-lines-requires c κs = tt
 
 slice-aggregate-name-line : tie.Need-slice-aggregate-name-line
 slice-aggregate-name-line c = search needs
 
 name-line-requires : tie.Need-name-line-requires
-name-line-requires c κs = search needs
+name-line-requires c κs = tt
 
 package-lines-requires : tie.Need-package-lines-requires
-package-lines-requires c κs = search needs
+package-lines-requires c κs = tt
 
 slice-aggregate-count-line : tie.Need-slice-aggregate-count-line
 slice-aggregate-count-line c = search needs
 
 count-line-requires : tie.Need-count-line-requires
-count-line-requires c κs = search needs
+count-line-requires c κs = tt
 
 returns : tie.Need-returns
 unfolding componentDump

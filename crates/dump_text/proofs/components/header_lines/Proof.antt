@@ -9,13 +9,13 @@ slice-aggregate-words-line : tie.Need-slice-aggregate-words-line
 slice-aggregate-words-line c = search needs
 
 words-line-requires : tie.Need-words-line-requires
-words-line-requires c κs = search needs
+words-line-requires c κs = tt
 
 slice-aggregate-words-line-2 : tie.Need-slice-aggregate-words-line-2
 slice-aggregate-words-line-2 c = search needs
 
 words-line-requires-2 : tie.Need-words-line-requires-2
-words-line-requires-2 c κs = search needs
+words-line-requires-2 c κs = tt
 
 returns : tie.Need-returns
 unfolding headerLines

@@ -9,19 +9,19 @@ slice-aggregate-triple-line : tie.Need-slice-aggregate-triple-line
 slice-aggregate-triple-line c = search needs
 
 triple-line-requires : tie.Need-triple-line-requires
-triple-line-requires c κs = search needs
+triple-line-requires c κs = tt
 
 slice-aggregate-triple-line-2 : tie.Need-slice-aggregate-triple-line-2
 slice-aggregate-triple-line-2 c = search needs
 
 triple-line-requires-2 : tie.Need-triple-line-requires-2
-triple-line-requires-2 c κs = search needs
+triple-line-requires-2 c κs = tt
 
 slice-aggregate-triple-line-3 : tie.Need-slice-aggregate-triple-line-3
 slice-aggregate-triple-line-3 c = search needs
 
 triple-line-requires-3 : tie.Need-triple-line-requires-3
-triple-line-requires-3 c κs = search needs
+triple-line-requires-3 c κs = tt
 
 returns : tie.Need-returns
 unfolding packageDump

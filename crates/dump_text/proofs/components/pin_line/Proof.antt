@@ -9,22 +9,22 @@ slice-aggregate-put-bytes : tie.Need-slice-aggregate-put-bytes
 slice-aggregate-put-bytes c = search needs
 
 put-bytes-requires : tie.Need-put-bytes-requires
-put-bytes-requires c κs = search needs
+put-bytes-requires c κs = tt
 
 put-names-requires : tie.Need-put-names-requires
-put-names-requires c κs = search needs
+put-names-requires c κs = tt
 
 put-next-cell-requires : tie.Need-put-next-cell-requires
-put-next-cell-requires c κs = search needs
+put-next-cell-requires c κs = tt
 
 put-next-cell-requires-2 : tie.Need-put-next-cell-requires-2
-put-next-cell-requires-2 c κs = search needs
+put-next-cell-requires-2 c κs = tt
 
 put-next-cell-requires-3 : tie.Need-put-next-cell-requires-3
-put-next-cell-requires-3 c κs = search needs
+put-next-cell-requires-3 c κs = tt
 
 put-byte-requires : tie.Need-put-byte-requires
-put-byte-requires c κs = search needs
+put-byte-requires c κs = tt
 
 returns : tie.Need-returns
 unfolding pinLine

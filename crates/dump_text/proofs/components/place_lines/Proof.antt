@@ -9,13 +9,13 @@ slice-aggregate-location-line : tie.Need-slice-aggregate-location-line
 slice-aggregate-location-line c = search needs
 
 location-line-requires : tie.Need-location-line-requires
-location-line-requires c κs = search needs
+location-line-requires c κs = tt
 
 slice-aggregate-location-line-2 : tie.Need-slice-aggregate-location-line-2
 slice-aggregate-location-line-2 c = search needs
 
 location-line-requires-2 : tie.Need-location-line-requires-2
-location-line-requires-2 c κs = search needs
+location-line-requires-2 c κs = tt
 
 returns : tie.Need-returns
 unfolding placeLines

@@ -9,13 +9,13 @@ slice-aggregate-section-line : tie.Need-slice-aggregate-section-line
 slice-aggregate-section-line c = search needs
 
 section-line-requires : tie.Need-section-line-requires
-section-line-requires c κs = search needs
+section-line-requires c κs = tt
 
 slice-aggregate-count-line : tie.Need-slice-aggregate-count-line
 slice-aggregate-count-line c = search needs
 
 count-line-requires : tie.Need-count-line-requires
-count-line-requires c κs = search needs
+count-line-requires c κs = tt
 
 returns : tie.Need-returns
 unfolding selectorLines

@@ -1,18 +1,17 @@
 -- One text behind another.
-use borrow.Author.Needs.{needs}
 use Rattle.dump_text.specs.Labelled.{cellLine}
 use Rattle.text_buffer.proofs.Laws.{put-then, put-kept}
 use Rattle.dump_text.proofs.labelled.cell_line.Statement.{statement}
 use Rattle.dump_text.proofs.labelled.cell_line.Tie as tie
 
 put-bytes-requires : tie.Need-put-bytes-requires
-put-bytes-requires c κs = search needs
+put-bytes-requires c κs = tt
 
 put-next-cell-requires : tie.Need-put-next-cell-requires
-put-next-cell-requires c κs = search needs
+put-next-cell-requires c κs = tt
 
 put-byte-requires : tie.Need-put-byte-requires
-put-byte-requires c κs = search needs
+put-byte-requires c κs = tt
 
 returns : tie.Need-returns
 unfolding cellLine

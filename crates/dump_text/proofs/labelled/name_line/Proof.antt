@@ -1,21 +1,20 @@
 -- One text behind another.
-use borrow.Author.Needs.{needs}
 use Rattle.dump_text.specs.Labelled.{nameLine}
 use Rattle.text_buffer.proofs.Laws.{put-then, put-kept}
 use Rattle.dump_text.proofs.labelled.name_line.Statement.{statement}
 use Rattle.dump_text.proofs.labelled.name_line.Tie as tie
 
 put-bytes-requires : tie.Need-put-bytes-requires
-put-bytes-requires c κs = search needs
+put-bytes-requires c κs = tt
 
 put-byte-requires : tie.Need-put-byte-requires
-put-byte-requires c κs = search needs
+put-byte-requires c κs = tt
 
 put-name-requires : tie.Need-put-name-requires
-put-name-requires c κs = search needs
+put-name-requires c κs = tt
 
 put-byte-requires-2 : tie.Need-put-byte-requires-2
-put-byte-requires-2 c κs = search needs
+put-byte-requires-2 c κs = tt
 
 returns : tie.Need-returns
 unfolding nameLine

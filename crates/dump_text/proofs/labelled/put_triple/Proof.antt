@@ -1,18 +1,17 @@
 -- One text behind another.
-use borrow.Author.Needs.{needs}
 use Rattle.dump_text.specs.Labelled.{tripleText}
 use Rattle.text_buffer.proofs.Laws.{put-then, put-kept}
 use Rattle.dump_text.proofs.labelled.put_triple.Statement.{statement}
 use Rattle.dump_text.proofs.labelled.put_triple.Tie as tie
 
 put-next-cell-requires : tie.Need-put-next-cell-requires
-put-next-cell-requires c κs = search needs
+put-next-cell-requires c κs = tt
 
 put-next-cell-requires-2 : tie.Need-put-next-cell-requires-2
-put-next-cell-requires-2 c κs = search needs
+put-next-cell-requires-2 c κs = tt
 
 put-next-cell-requires-3 : tie.Need-put-next-cell-requires-3
-put-next-cell-requires-3 c κs = search needs
+put-next-cell-requires-3 c κs = tt
 
 returns : tie.Need-returns
 unfolding tripleText

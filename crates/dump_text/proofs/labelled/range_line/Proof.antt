@@ -6,16 +6,16 @@ use Rattle.dump_text.proofs.labelled.range_line.Statement.{statement}
 use Rattle.dump_text.proofs.labelled.range_line.Tie as tie
 
 triple-line-requires : tie.Need-triple-line-requires
-triple-line-requires c κs = search needs
+triple-line-requires c κs = tt
 
 put-bytes-requires : tie.Need-put-bytes-requires
-put-bytes-requires c κs = search needs
+put-bytes-requires c κs = tt
 
 slice-aggregate-put-bytes : tie.Need-slice-aggregate-put-bytes
 slice-aggregate-put-bytes c = search needs
 
 put-bytes-requires-2 : tie.Need-put-bytes-requires-2
-put-bytes-requires-2 c κs = search needs
+put-bytes-requires-2 c κs = tt
 
 returns : tie.Need-returns
 unfolding rangeLine

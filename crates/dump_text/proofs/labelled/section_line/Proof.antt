@@ -6,16 +6,16 @@ use Rattle.dump_text.proofs.labelled.section_line.Statement.{statement}
 use Rattle.dump_text.proofs.labelled.section_line.Tie as tie
 
 put-bytes-requires : tie.Need-put-bytes-requires
-put-bytes-requires c κs = search needs
+put-bytes-requires c κs = tt
 
 put-count-requires : tie.Need-put-count-requires
-put-count-requires c κs = search needs
+put-count-requires c κs = tt
 
 slice-aggregate-name-line : tie.Need-slice-aggregate-name-line
 slice-aggregate-name-line c = search needs
 
 name-line-requires : tie.Need-name-line-requires
-name-line-requires c κs = search needs
+name-line-requires c κs = tt
 
 returns : tie.Need-returns
 unfolding sectionLine

@@ -1,18 +1,17 @@
 -- One text behind another.
-use borrow.Author.Needs.{needs}
 use Rattle.dump_text.specs.Labelled.{tripleLine}
 use Rattle.text_buffer.proofs.Laws.{put-then, put-kept}
 use Rattle.dump_text.proofs.labelled.triple_line.Statement.{statement}
 use Rattle.dump_text.proofs.labelled.triple_line.Tie as tie
 
 put-bytes-requires : tie.Need-put-bytes-requires
-put-bytes-requires c κs = search needs
+put-bytes-requires c κs = tt
 
 put-triple-requires : tie.Need-put-triple-requires
-put-triple-requires c κs = search needs
+put-triple-requires c κs = tt
 
 put-byte-requires : tie.Need-put-byte-requires
-put-byte-requires c κs = search needs
+put-byte-requires c κs = tt
 
 returns : tie.Need-returns
 unfolding tripleLine

@@ -6,16 +6,16 @@ use Rattle.dump_text.proofs.labelled.words_line.Statement.{statement}
 use Rattle.dump_text.proofs.labelled.words_line.Tie as tie
 
 put-bytes-requires : tie.Need-put-bytes-requires
-put-bytes-requires c κs = search needs
+put-bytes-requires c κs = tt
 
 put-byte-requires : tie.Need-put-byte-requires
-put-byte-requires c κs = search needs
+put-byte-requires c κs = tt
 
 put-words-requires : tie.Need-put-words-requires
 put-words-requires c κs = search needs
 
 put-byte-requires-2 : tie.Need-put-byte-requires-2
-put-byte-requires-2 c κs = search needs
+put-byte-requires-2 c κs = tt
 
 returns : tie.Need-returns
 unfolding wordsLine

@@ -20,20 +20,20 @@ part-put-visible-end : tie.Need-part-put-visible-end
 part-put-visible-end c = search needs
 
 put-visible-requires : tie.Need-put-visible-requires
-put-visible-requires c κs = search needs
+put-visible-requires c κs = tt
 
 slice-aggregate-put-bytes : tie.Need-slice-aggregate-put-bytes
 slice-aggregate-put-bytes c = search needs
 
 put-bytes-requires : tie.Need-put-bytes-requires
-put-bytes-requires c κs = search needs
+put-bytes-requires c κs = tt
 
 returns : tie.Need-returns
 unfolding visibleText
 returns c = put-as (sym (cond-yes _ _ (lt-ltb 120 (length (now (c .before .before .before .before .before .before .before .before .before .before .before .before .before .args .line))) (c .before .before .before .before .before .before .before .before .before .before .if1 .taken)))) (put-then (c .before .before .before .before .before .before .before .put-visible .ensures) (c .before .before .put-bytes .ensures))
 
 put-visible-requires-2 : tie.Need-put-visible-requires-2
-put-visible-requires-2 c κs = search needs
+put-visible-requires-2 c κs = tt
 
 returns-2 : tie.Need-returns-2
 unfolding visibleText

@@ -1,21 +1,20 @@
 -- One text behind another.
-use borrow.Author.Needs.{needs}
 use Rattle.explain_text.specs.Refusals.{refusalText}
 use Rattle.text_buffer.proofs.Laws.{put-then, put-kept}
 use Rattle.explain_text.proofs.refusals.put_refusal.Statement.{statement}
 use Rattle.explain_text.proofs.refusals.put_refusal.Tie as tie
 
 put-fault-requires : tie.Need-put-fault-requires
-put-fault-requires c κs = search needs
+put-fault-requires c κs = tt
 
 put-source-requires : tie.Need-put-source-requires
-put-source-requires c κs = search needs
+put-source-requires c κs = tt
 
 put-hint-requires : tie.Need-put-hint-requires
-put-hint-requires c κs = search needs
+put-hint-requires c κs = tt
 
 put-byte-requires : tie.Need-put-byte-requires
-put-byte-requires c κs = search needs
+put-byte-requires c κs = tt
 
 returns : tie.Need-returns
 unfolding refusalText

@@ -13,7 +13,7 @@ slice-aggregate-put-bytes : tie.Need-slice-aggregate-put-bytes
 slice-aggregate-put-bytes c = search needs
 
 put-bytes-requires : tie.Need-put-bytes-requires
-put-bytes-requires c κs = search needs
+put-bytes-requires c κs = tt
 
 returns : tie.Need-returns
 returns c = put-as (source-none (now (c .before .before .before .before .before .before .before .before .args .src)) (c .before .before .before .before .before .before .before .before .args .line) (c .before .before .before .before .before .if1 .taken)) (c .before .before .put-bytes .ensures)
@@ -22,7 +22,7 @@ sub-skip-lines : tie.Need-sub-skip-lines
 sub-skip-lines c = search needs
 
 skip-lines-requires : tie.Need-skip-lines-requires
-skip-lines-requires c κs = search needs
+skip-lines-requires c κs = tt
 
 put-first-line-requires : tie.Need-put-first-line-requires
 put-first-line-requires c κs = search needs

@@ -24,7 +24,7 @@ slice-aggregate-put-bytes : tie.Need-slice-aggregate-put-bytes Inv-loop μ-loop
 slice-aggregate-put-bytes c = search needs
 
 put-bytes-requires : tie.Need-put-bytes-requires Inv-loop μ-loop
-put-bytes-requires c κs = search needs
+put-bytes-requires c κs = tt
 
 loop-holds : tie.Need-loop-holds Inv-loop μ-loop
 loop-holds c = (omega arith, refl, put-none _ _ _ (omega (arith, c .before .before .put-bytes .ensures .within)))
@@ -33,10 +33,10 @@ shared-slice-read-visible-byte : tie.Need-shared-slice-read-visible-byte Inv-loo
 shared-slice-read-visible-byte c = search needs
 
 visible-byte-requires : tie.Need-visible-byte-requires Inv-loop μ-loop
-visible-byte-requires c κs = search needs
+visible-byte-requires c κs = tt
 
 put-byte-requires : tie.Need-put-byte-requires Inv-loop μ-loop
-put-byte-requires c κs = search needs
+put-byte-requires c κs = tt
 
 add-i : tie.Need-add-i Inv-loop μ-loop
 add-i c = search needs

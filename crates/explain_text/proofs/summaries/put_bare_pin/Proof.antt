@@ -6,13 +6,13 @@ use Rattle.explain_text.proofs.summaries.put_bare_pin.Statement.{statem
 use Rattle.explain_text.proofs.summaries.put_bare_pin.Tie as tie
 
 put-pin-columns-requires : tie.Need-put-pin-columns-requires
-put-pin-columns-requires c κs = search needs
+put-pin-columns-requires c κs = tt
 
 slice-aggregate-put-bytes : tie.Need-slice-aggregate-put-bytes
 slice-aggregate-put-bytes c = search needs
 
 put-bytes-requires : tie.Need-put-bytes-requires
-put-bytes-requires c κs = search needs
+put-bytes-requires c κs = tt
 
 returns : tie.Need-returns
 unfolding bareText

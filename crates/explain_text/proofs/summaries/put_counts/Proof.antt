@@ -9,40 +9,40 @@ slice-aggregate-put-labelled : tie.Need-slice-aggregate-put-labelled
 slice-aggregate-put-labelled c = search needs
 
 put-labelled-requires : tie.Need-put-labelled-requires
-put-labelled-requires c κs = search needs
+put-labelled-requires c κs = tt
 
 slice-aggregate-put-labelled-2 : tie.Need-slice-aggregate-put-labelled-2
 slice-aggregate-put-labelled-2 c = search needs
 
 put-labelled-requires-2 : tie.Need-put-labelled-requires-2
-put-labelled-requires-2 c κs = search needs
+put-labelled-requires-2 c κs = tt
 
 slice-aggregate-put-labelled-3 : tie.Need-slice-aggregate-put-labelled-3
 slice-aggregate-put-labelled-3 c = search needs
 
 put-labelled-requires-3 : tie.Need-put-labelled-requires-3
-put-labelled-requires-3 c κs = search needs
+put-labelled-requires-3 c κs = tt
 
 slice-aggregate-put-labelled-4 : tie.Need-slice-aggregate-put-labelled-4
 slice-aggregate-put-labelled-4 c = search needs
 
 put-labelled-requires-4 : tie.Need-put-labelled-requires-4
-put-labelled-requires-4 c κs = search needs
+put-labelled-requires-4 c κs = tt
 
 slice-aggregate-put-labelled-5 : tie.Need-slice-aggregate-put-labelled-5
 slice-aggregate-put-labelled-5 c = search needs
 
 put-labelled-requires-5 : tie.Need-put-labelled-requires-5
-put-labelled-requires-5 c κs = search needs
+put-labelled-requires-5 c κs = tt
 
 slice-aggregate-put-labelled-6 : tie.Need-slice-aggregate-put-labelled-6
 slice-aggregate-put-labelled-6 c = search needs
 
 put-labelled-requires-6 : tie.Need-put-labelled-requires-6
-put-labelled-requires-6 c κs = search needs
+put-labelled-requires-6 c κs = tt
 
 put-byte-requires : tie.Need-put-byte-requires
-put-byte-requires c κs = search needs
+put-byte-requires c κs = tt
 
 returns : tie.Need-returns
 unfolding countsText

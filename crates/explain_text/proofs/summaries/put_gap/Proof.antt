@@ -9,19 +9,19 @@ use Rattle.explain_text.proofs.summaries.put_gap.Statement.{statement}
 use Rattle.explain_text.proofs.summaries.put_gap.Tie as tie
 
 less-requires : tie.Need-less-requires
-less-requires c κs = search needs
+less-requires c κs = tt
 
 less-requires-2 : tie.Need-less-requires-2
-less-requires-2 c κs = search needs
+less-requires-2 c κs = tt
 
 put-repeated-requires : tie.Need-put-repeated-requires
-put-repeated-requires c κs = search needs
+put-repeated-requires c κs = tt
 
 slice-aggregate-put-bytes : tie.Need-slice-aggregate-put-bytes
 slice-aggregate-put-bytes c = search needs
 
 put-bytes-requires : tie.Need-put-bytes-requires
-put-bytes-requires c κs = search needs
+put-bytes-requires c κs = tt
 
 returns : tie.Need-returns
 unfolding gapText

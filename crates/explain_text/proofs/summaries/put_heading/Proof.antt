@@ -9,31 +9,31 @@ slice-aggregate-put-bytes : tie.Need-slice-aggregate-put-bytes
 slice-aggregate-put-bytes c = search needs
 
 put-bytes-requires : tie.Need-put-bytes-requires
-put-bytes-requires c κs = search needs
+put-bytes-requires c κs = tt
 
 slice-aggregate-put-column : tie.Need-slice-aggregate-put-column
 slice-aggregate-put-column c = search needs
 
 put-column-requires : tie.Need-put-column-requires
-put-column-requires c κs = search needs
+put-column-requires c κs = tt
 
 slice-aggregate-put-column-2 : tie.Need-slice-aggregate-put-column-2
 slice-aggregate-put-column-2 c = search needs
 
 put-column-requires-2 : tie.Need-put-column-requires-2
-put-column-requires-2 c κs = search needs
+put-column-requires-2 c κs = tt
 
 slice-aggregate-put-column-3 : tie.Need-slice-aggregate-put-column-3
 slice-aggregate-put-column-3 c = search needs
 
 put-column-requires-3 : tie.Need-put-column-requires-3
-put-column-requires-3 c κs = search needs
+put-column-requires-3 c κs = tt
 
 slice-aggregate-put-bytes-2 : tie.Need-slice-aggregate-put-bytes-2
 slice-aggregate-put-bytes-2 c = search needs
 
 put-bytes-requires-2 : tie.Need-put-bytes-requires-2
-put-bytes-requires-2 c κs = search needs
+put-bytes-requires-2 c κs = tt
 
 returns : tie.Need-returns
 unfolding headingText

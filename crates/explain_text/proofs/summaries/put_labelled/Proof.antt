@@ -1,14 +1,13 @@
 -- One text behind another.
-use borrow.Author.Needs.{needs}
 use Rattle.text_buffer.proofs.Laws.{put-then, put-kept}
 use Rattle.explain_text.proofs.summaries.put_labelled.Statement.{statement}
 use Rattle.explain_text.proofs.summaries.put_labelled.Tie as tie
 
 put-bytes-requires : tie.Need-put-bytes-requires
-put-bytes-requires c κs = search needs
+put-bytes-requires c κs = tt
 
 put-number-requires : tie.Need-put-number-requires
-put-number-requires c κs = search needs
+put-number-requires c κs = tt
 
 returns : tie.Need-returns
 returns c = put-then (c .before .before .before .before .before .before .put-bytes .ensures) (c .before .before .put-number .ensures)

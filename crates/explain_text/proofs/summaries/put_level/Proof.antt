@@ -8,7 +8,7 @@ enum-known-cell : tie.Need-enum-known-cell
 enum-known-cell c = search needs
 
 put-plain-decimal-requires : tie.Need-put-plain-decimal-requires
-put-plain-decimal-requires c κs = search needs
+put-plain-decimal-requires c κs = tt
 
 enum-told : tie.Need-enum-told
 enum-told c = search needs
@@ -17,7 +17,7 @@ slice-aggregate-put-bytes : tie.Need-slice-aggregate-put-bytes
 slice-aggregate-put-bytes c = search needs
 
 put-bytes-requires : tie.Need-put-bytes-requires
-put-bytes-requires c κs = search needs
+put-bytes-requires c κs = tt
 
 returns : tie.Need-returns
 returns c = rw (c .before .before .before .before .before .cell .given .1) (c .before .before .put-plain-decimal .ensures)

@@ -1,15 +1,14 @@
 -- What stands behind the text depends on where it ends.
-use borrow.Author.Needs.{needs}
 use Rattle.explain_text.specs.Summaries.{gapText, column}
 use Rattle.text_buffer.proofs.Laws.{put-filled, put-kept}
 use Rattle.explain_text.proofs.summaries.put_name_column.Statement.{statement}
 use Rattle.explain_text.proofs.summaries.put_name_column.Tie as tie
 
 put-name-requires : tie.Need-put-name-requires
-put-name-requires c κs = search needs
+put-name-requires c κs = tt
 
 put-gap-requires : tie.Need-put-gap-requires
-put-gap-requires c κs = search needs
+put-gap-requires c κs = tt
 
 returns : tie.Need-returns
 unfolding column

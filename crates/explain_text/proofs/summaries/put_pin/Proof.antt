@@ -6,22 +6,22 @@ use Rattle.explain_text.proofs.summaries.put_pin.Statement.{statement}
 use Rattle.explain_text.proofs.summaries.put_pin.Tie as tie
 
 put-pin-columns-requires : tie.Need-put-pin-columns-requires
-put-pin-columns-requires c κs = search needs
+put-pin-columns-requires c κs = tt
 
 put-type-column-requires : tie.Need-put-type-column-requires
-put-type-column-requires c κs = search needs
+put-type-column-requires c κs = tt
 
 put-level-column-requires : tie.Need-put-level-column-requires
-put-level-column-requires c κs = search needs
+put-level-column-requires c κs = tt
 
 put-level-requires : tie.Need-put-level-requires
-put-level-requires c κs = search needs
+put-level-requires c κs = tt
 
 put-selector-requires : tie.Need-put-selector-requires
 put-selector-requires c κs = search needs
 
 put-byte-requires : tie.Need-put-byte-requires
-put-byte-requires c κs = search needs
+put-byte-requires c κs = tt
 
 returns : tie.Need-returns
 unfolding pinText

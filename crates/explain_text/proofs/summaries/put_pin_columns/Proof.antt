@@ -9,16 +9,16 @@ slice-aggregate-put-bytes : tie.Need-slice-aggregate-put-bytes
 slice-aggregate-put-bytes c = search needs
 
 put-bytes-requires : tie.Need-put-bytes-requires
-put-bytes-requires c κs = search needs
+put-bytes-requires c κs = tt
 
 put-name-column-requires : tie.Need-put-name-column-requires
-put-name-column-requires c κs = search needs
+put-name-column-requires c κs = tt
 
 put-name-column-requires-2 : tie.Need-put-name-column-requires-2
-put-name-column-requires-2 c κs = search needs
+put-name-column-requires-2 c κs = tt
 
 put-name-column-requires-3 : tie.Need-put-name-column-requires-3
-put-name-column-requires-3 c κs = search needs
+put-name-column-requires-3 c κs = tt
 
 returns : tie.Need-returns
 unfolding pinColumns

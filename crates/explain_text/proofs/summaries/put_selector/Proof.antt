@@ -8,13 +8,13 @@ use Rattle.explain_text.proofs.summaries.put_selector.Statement.{statem
 use Rattle.explain_text.proofs.summaries.put_selector.Tie as tie
 
 same-name-requires : tie.Need-same-name-requires
-same-name-requires c κs = search needs
+same-name-requires c κs = tt
 
 slice-aggregate-put-bytes : tie.Need-slice-aggregate-put-bytes
 slice-aggregate-put-bytes c = search needs
 
 put-bytes-requires : tie.Need-put-bytes-requires
-put-bytes-requires c κs = search needs
+put-bytes-requires c κs = tt
 
 returns : tie.Need-returns
 unfolding selectorText
@@ -24,10 +24,10 @@ slice-aggregate-put-bytes-2 : tie.Need-slice-aggregate-put-bytes-2
 slice-aggregate-put-bytes-2 c = search needs
 
 put-bytes-requires-2 : tie.Need-put-bytes-requires-2
-put-bytes-requires-2 c κs = search needs
+put-bytes-requires-2 c κs = tt
 
 put-name-requires : tie.Need-put-name-requires
-put-name-requires c κs = search needs
+put-name-requires c κs = tt
 
 returns-2 : tie.Need-returns-2
 unfolding selectorText

@@ -8,7 +8,7 @@ use Rattle.fault_texts.proofs.hints.put_hint.Statement.{statement}
 use Rattle.fault_texts.proofs.hints.put_hint.Tie as tie
 
 put-text-requires : tie.Need-put-text-requires
-put-text-requires c κs = search needs
+put-text-requires c κs = tt
 
 same-length : tie.Need-same-length
 same-length c = search needs

@@ -8,7 +8,7 @@ use Rattle.fault_texts.proofs.sentences.put_sentence.Statement.{stateme
 use Rattle.fault_texts.proofs.sentences.put_sentence.Tie as tie
 
 put-text-requires : tie.Need-put-text-requires
-put-text-requires c κs = search needs
+put-text-requires c κs = tt
 
 same-length : tie.Need-same-length
 same-length c = search needs

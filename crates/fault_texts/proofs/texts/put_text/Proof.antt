@@ -11,7 +11,7 @@ part-at-requires : tie.Need-part-at-requires
 part-at-requires c κs = search needs
 
 put-part-requires : tie.Need-put-part-requires
-put-part-requires c κs = search needs
+put-part-requires c κs = tt
 
 same-length : tie.Need-same-length
 same-length c = search needs
@@ -22,7 +22,7 @@ returns c =
     put-as (text-there (textsIn (now (a .texts))) (a .number) (c .before .before .before .before .before .before .part-at .ensures .there (c .before .before .before .before .if1 .taken))) (c .before .before .put-part .ensures)
 
 put-part-requires-2 : tie.Need-put-part-requires-2
-put-part-requires-2 c κs = search needs
+put-part-requires-2 c κs = tt
 
 same-length-2 : tie.Need-same-length-2
 same-length-2 c = search needs

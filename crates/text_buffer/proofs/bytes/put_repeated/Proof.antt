@@ -17,13 +17,13 @@ abbrev μ-loop : tie.MeasureT-loop
 μ-loop out₀ at byte count next₀ i₀ out next i = count - i
 
 least-requires : tie.Need-least-requires Inv-loop μ-loop
-least-requires c κs = search needs
+least-requires c κs = tt
 
 loop-holds : tie.Need-loop-holds Inv-loop μ-loop
 loop-holds c = (omega arith, refl, put-none (now (c .before .before .args .out)) (c .before .before .args .at) (c .least .result) (c .least .ensures))
 
 put-byte-requires : tie.Need-put-byte-requires Inv-loop μ-loop
-put-byte-requires c κs = search needs
+put-byte-requires c κs = tt
 
 add-i : tie.Need-add-i Inv-loop μ-loop
 add-i c = search needs

@@ -9,25 +9,25 @@ slice-aggregate-put-bytes : tie.Need-slice-aggregate-put-bytes
 slice-aggregate-put-bytes c = search needs
 
 put-bytes-requires : tie.Need-put-bytes-requires
-put-bytes-requires c κs = search needs
+put-bytes-requires c κs = tt
 
 put-count-requires : tie.Need-put-count-requires
-put-count-requires c κs = search needs
+put-count-requires c κs = tt
 
 put-count-requires-2 : tie.Need-put-count-requires-2
-put-count-requires-2 c κs = search needs
+put-count-requires-2 c κs = tt
 
 put-count-requires-3 : tie.Need-put-count-requires-3
-put-count-requires-3 c κs = search needs
+put-count-requires-3 c κs = tt
 
 put-count-requires-4 : tie.Need-put-count-requires-4
-put-count-requires-4 c κs = search needs
+put-count-requires-4 c κs = tt
 
 put-count-requires-5 : tie.Need-put-count-requires-5
-put-count-requires-5 c κs = search needs
+put-count-requires-5 c κs = tt
 
 put-byte-requires : tie.Need-put-byte-requires
-put-byte-requires c κs = search needs
+put-byte-requires c κs = tt
 
 returns : tie.Need-returns
 unfolding acceptedText

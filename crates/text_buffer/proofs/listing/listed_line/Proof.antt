@@ -1,24 +1,23 @@
 -- One text behind another.
-use borrow.Author.Needs.{needs}
 use Rattle.text_buffer.specs.Lines.{pinText}
 use Rattle.text_buffer.proofs.Laws.{put-then, put-kept}
 use Rattle.text_buffer.proofs.listing.listed_line.Statement.{statement}
 use Rattle.text_buffer.proofs.listing.listed_line.Tie as tie
 
 put-byte-requires : tie.Need-put-byte-requires
-put-byte-requires c κs = search needs
+put-byte-requires c κs = tt
 
 put-names-requires : tie.Need-put-names-requires
-put-names-requires c κs = search needs
+put-names-requires c κs = tt
 
 put-next-cell-requires : tie.Need-put-next-cell-requires
-put-next-cell-requires c κs = search needs
+put-next-cell-requires c κs = tt
 
 put-next-cell-requires-2 : tie.Need-put-next-cell-requires-2
-put-next-cell-requires-2 c κs = search needs
+put-next-cell-requires-2 c κs = tt
 
 put-byte-requires-2 : tie.Need-put-byte-requires-2
-put-byte-requires-2 c κs = search needs
+put-byte-requires-2 c κs = tt
 
 returns : tie.Need-returns
 unfolding pinText

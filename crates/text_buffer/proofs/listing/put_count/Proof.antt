@@ -1,15 +1,14 @@
 -- One text behind another.
-use borrow.Author.Needs.{needs}
 use Rattle.text_buffer.specs.Lines.{countText}
 use Rattle.text_buffer.proofs.Laws.{put-then, put-kept}
 use Rattle.text_buffer.proofs.listing.put_count.Statement.{statement}
 use Rattle.text_buffer.proofs.listing.put_count.Tie as tie
 
 put-byte-requires : tie.Need-put-byte-requires
-put-byte-requires c κs = search needs
+put-byte-requires c κs = tt
 
 put-number-requires : tie.Need-put-number-requires
-put-number-requires c κs = search needs
+put-number-requires c κs = tt
 
 returns : tie.Need-returns
 unfolding countText

@@ -1,27 +1,26 @@
 -- One text behind another.
-use borrow.Author.Needs.{needs}
 use Rattle.text_buffer.specs.Lines.{namesText}
 use Rattle.text_buffer.proofs.Laws.{put-then, put-kept}
 use Rattle.text_buffer.proofs.listing.put_names.Statement.{statement}
 use Rattle.text_buffer.proofs.listing.put_names.Tie as tie
 
 put-byte-requires : tie.Need-put-byte-requires
-put-byte-requires c κs = search needs
+put-byte-requires c κs = tt
 
 put-name-requires : tie.Need-put-name-requires
-put-name-requires c κs = search needs
+put-name-requires c κs = tt
 
 put-byte-requires-2 : tie.Need-put-byte-requires-2
-put-byte-requires-2 c κs = search needs
+put-byte-requires-2 c κs = tt
 
 put-name-requires-2 : tie.Need-put-name-requires-2
-put-name-requires-2 c κs = search needs
+put-name-requires-2 c κs = tt
 
 put-byte-requires-3 : tie.Need-put-byte-requires-3
-put-byte-requires-3 c κs = search needs
+put-byte-requires-3 c κs = tt
 
 put-name-requires-3 : tie.Need-put-name-requires-3
-put-name-requires-3 c κs = search needs
+put-name-requires-3 c κs = tt
 
 returns : tie.Need-returns
 unfolding namesText

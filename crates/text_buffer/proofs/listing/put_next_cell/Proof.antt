@@ -1,15 +1,14 @@
 -- One text behind another.
-use borrow.Author.Needs.{needs}
 use Rattle.text_buffer.specs.Lines.{nextCell}
 use Rattle.text_buffer.proofs.Laws.{put-then, put-kept}
 use Rattle.text_buffer.proofs.listing.put_next_cell.Statement.{statement}
 use Rattle.text_buffer.proofs.listing.put_next_cell.Tie as tie
 
 put-byte-requires : tie.Need-put-byte-requires
-put-byte-requires c κs = search needs
+put-byte-requires c κs = tt
 
 put-cell-requires : tie.Need-put-cell-requires
-put-cell-requires c κs = search needs
+put-cell-requires c κs = tt
 
 returns : tie.Need-returns
 unfolding nextCell

@@ -23,7 +23,7 @@ sub-first : tie.Need-sub-first Inv-loop μ-loop
 sub-first c = search needs
 
 digit-of-requires : tie.Need-digit-of-requires Inv-loop μ-loop
-digit-of-requires c κs = search needs
+digit-of-requires c κs = tt
 
 array-write-bytes : tie.Need-array-write-bytes Inv-loop μ-loop
 array-write-bytes c = search needs

@@ -7,7 +7,7 @@ enum-known-cell : tie.Need-enum-known-cell
 enum-known-cell c = search needs
 
 put-decimal-requires : tie.Need-put-decimal-requires
-put-decimal-requires c κs = search needs
+put-decimal-requires c κs = tt
 
 enum-told : tie.Need-enum-told
 enum-told c = search needs
@@ -16,7 +16,7 @@ slice-aggregate-put-bytes : tie.Need-slice-aggregate-put-bytes
 slice-aggregate-put-bytes c = search needs
 
 put-bytes-requires : tie.Need-put-bytes-requires
-put-bytes-requires c κs = search needs
+put-bytes-requires c κs = tt
 
 same-length : tie.Need-same-length
 same-length c = search needs

@@ -6,16 +6,16 @@ use Rattle.text_buffer.proofs.numbers.put_decimal.Statement.{statement}
 use Rattle.text_buffer.proofs.numbers.put_decimal.Tie as tie
 
 put-sign-requires : tie.Need-put-sign-requires
-put-sign-requires c κs = search needs
+put-sign-requires c κs = tt
 
 put-number-requires : tie.Need-put-number-requires
-put-number-requires c κs = search needs
+put-number-requires c κs = tt
 
 put-byte-requires : tie.Need-put-byte-requires
-put-byte-requires c κs = search needs
+put-byte-requires c κs = tt
 
 put-power-requires : tie.Need-put-power-requires
-put-power-requires c κs = search needs
+put-power-requires c κs = tt
 
 same-length : tie.Need-same-length
 same-length c = search needs

@@ -6,7 +6,7 @@ use Rattle.text_buffer.proofs.numbers.put_number.Statement.{statement}
 use Rattle.text_buffer.proofs.numbers.put_number.Tie as tie
 
 digits-of-requires : tie.Need-digits-of-requires
-digits-of-requires c κs = search needs
+digits-of-requires c κs = tt
 
 sub-put-bytes : tie.Need-sub-put-bytes
 sub-put-bytes c = search needs
@@ -18,7 +18,7 @@ part-put-bytes-end : tie.Need-part-put-bytes-end
 part-put-bytes-end c = search needs
 
 put-bytes-requires : tie.Need-put-bytes-requires
-put-bytes-requires c κs = search needs
+put-bytes-requires c κs = tt
 
 same-length : tie.Need-same-length
 same-length c = search needs

@@ -7,7 +7,7 @@ use Rattle.text_buffer.proofs.numbers.put_plain_decimal.Statement.{stat
 use Rattle.text_buffer.proofs.numbers.put_plain_decimal.Tie as tie
 
 put-sign-requires : tie.Need-put-sign-requires
-put-sign-requires c κs = search needs
+put-sign-requires c κs = tt
 
 sub-put-pointed : tie.Need-sub-put-pointed
 sub-put-pointed c = search needs
@@ -16,7 +16,7 @@ cast-put-pointed : tie.Need-cast-put-pointed
 cast-put-pointed c = search needs
 
 put-pointed-requires : tie.Need-put-pointed-requires
-put-pointed-requires c κs = search needs
+put-pointed-requires c κs = tt
 
 same-length : tie.Need-same-length
 same-length c = search needs
@@ -26,13 +26,13 @@ unfolding plainText
 returns c = rw (lt-ltb (c .before .before .before .before .before .before .before .before .before .before .before .before .args .d .power) 40 (c .before .before .before .before .before .if1 .taken)) (put-then (c .before .before .before .before .before .before .before .before .before .put-sign .ensures) (c .before .before .put-pointed .ensures))
 
 put-number-requires : tie.Need-put-number-requires
-put-number-requires c κs = search needs
+put-number-requires c κs = tt
 
 cast-put-repeated : tie.Need-cast-put-repeated
 cast-put-repeated c = search needs
 
 put-repeated-requires : tie.Need-put-repeated-requires
-put-repeated-requires c κs = search needs
+put-repeated-requires c κs = tt
 
 same-length-2 : tie.Need-same-length-2
 same-length-2 c = search needs

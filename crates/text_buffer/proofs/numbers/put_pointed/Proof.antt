@@ -11,7 +11,7 @@ use Rattle.text_buffer.proofs.numbers.put_pointed.Statement.{statement}
 use Rattle.text_buffer.proofs.numbers.put_pointed.Tie as tie
 
 digits-of-requires : tie.Need-digits-of-requires
-digits-of-requires c κs = search needs
+digits-of-requires c κs = tt
 
 sub-count : tie.Need-sub-count
 sub-count c = search needs
@@ -29,10 +29,10 @@ part-put-bytes-end : tie.Need-part-put-bytes-end
 part-put-bytes-end c = search needs
 
 put-bytes-requires : tie.Need-put-bytes-requires
-put-bytes-requires c κs = search needs
+put-bytes-requires c κs = tt
 
 put-byte-requires : tie.Need-put-byte-requires
-put-byte-requires c κs = search needs
+put-byte-requires c κs = tt
 
 sub-put-bytes-2 : tie.Need-sub-put-bytes-2
 sub-put-bytes-2 c = search needs
@@ -44,7 +44,7 @@ part-put-bytes-end-2 : tie.Need-part-put-bytes-end-2
 part-put-bytes-end-2 c = search needs
 
 put-bytes-requires-2 : tie.Need-put-bytes-requires-2
-put-bytes-requires-2 c κs = search needs
+put-bytes-requires-2 c κs = tt
 
 same-length : tie.Need-same-length
 same-length c = search needs
@@ -62,10 +62,10 @@ slice-aggregate-put-bytes : tie.Need-slice-aggregate-put-bytes
 slice-aggregate-put-bytes c = search needs
 
 put-bytes-requires-3 : tie.Need-put-bytes-requires-3
-put-bytes-requires-3 c κs = search needs
+put-bytes-requires-3 c κs = tt
 
 put-repeated-requires : tie.Need-put-repeated-requires
-put-repeated-requires c κs = search needs
+put-repeated-requires c κs = tt
 
 sub-put-bytes-3 : tie.Need-sub-put-bytes-3
 sub-put-bytes-3 c = search needs
@@ -77,7 +77,7 @@ part-put-bytes-end-3 : tie.Need-part-put-bytes-end-3
 part-put-bytes-end-3 c = search needs
 
 put-bytes-requires-4 : tie.Need-put-bytes-requires-4
-put-bytes-requires-4 c κs = search needs
+put-bytes-requires-4 c κs = tt
 
 same-length-2 : tie.Need-same-length-2
 same-length-2 c = search needs

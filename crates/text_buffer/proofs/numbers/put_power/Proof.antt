@@ -7,7 +7,7 @@ use Rattle.text_buffer.proofs.numbers.put_power.Statement.{statement}
 use Rattle.text_buffer.proofs.numbers.put_power.Tie as tie
 
 put-byte-requires : tie.Need-put-byte-requires
-put-byte-requires c κs = search needs
+put-byte-requires c κs = tt
 
 sub-put-number : tie.Need-sub-put-number
 sub-put-number c = search needs
@@ -16,7 +16,7 @@ cast-put-number : tie.Need-cast-put-number
 cast-put-number c = search needs
 
 put-number-requires : tie.Need-put-number-requires
-put-number-requires c κs = search needs
+put-number-requires c κs = tt
 
 same-length : tie.Need-same-length
 same-length c = search needs
@@ -29,7 +29,7 @@ cast-put-number-2 : tie.Need-cast-put-number-2
 cast-put-number-2 c = search needs
 
 put-number-requires-2 : tie.Need-put-number-requires-2
-put-number-requires-2 c κs = search needs
+put-number-requires-2 c κs = tt
 
 same-length-2 : tie.Need-same-length-2
 same-length-2 c = search needs
