@@ -3,10 +3,10 @@
 // The pins of the first reading are then lent to a search.
 ghost use mathlib.Core.Path.{_≡_};
 ghost use lib.ListN.{take};
-ghost use Rattle.questions.specs.Chosen.{pinPlace};
+ghost use Rattle.lent_pins.specs.Search.{pinPlace};
 ghost use Rattle.lending.specs.Lent.{sparePin, oneComponent, threePins, noSelectors, noChoices, twoModels, oneWaveform, manyWords, fewWords, enoughOf, scantOf, ReadEnough, ReadScant};
+use lent_pins::Sought;
 use name_table::Found;
-use questions::Sought;
 use records::Answer;
 use records::Choice;
 use records::Component;
@@ -232,7 +232,7 @@ fn read_scant(src: &[u8]) -> Scant
 fn find_pin(pins: [Pin; 3], used: usize, sought: Sought) -> Found
     ensures { λ r. ⌜ r ≡ pinPlace (take used pins) sought ⌝ }
 {
-    questions::find_pin(&pins, used, sought)
+    lent_pins::find_pin(&pins, used, sought)
 }
 
 // ---- what is printed
