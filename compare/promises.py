@@ -9,7 +9,7 @@ from pathlib import Path
 ROOT = Path(__file__).resolve().parent.parent
 FUNCTION = re.compile(r'^ *pub (?:extern "C" )?fn (\w+)', re.M)
 PROMISE = re.compile(r"ensures \{ λ (\w+)\. ⌜ (.*?) ⌝ \}", re.S)
-BODY = re.compile(r"^ *\{$|\)(?: -> [^{\n]*)? \{$", re.M)
+BODY = re.compile(r" *\{$", re.M)
 LISTED = re.compile(r"`(\w+)::(\w+|\{[^}]*\})`")
 PROVED = re.compile(r"^pub \w+ : .*→ One \((\w+)", re.M)
 DESCRIBED = re.compile(r"^- `(?:\w+::)*(\w+)`: (.+)$")
