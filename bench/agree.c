@@ -212,12 +212,12 @@ int main(int count, char **paths)
         fclose(in);
         if (!agree()) {
             failed++;
-            printf("library: the readers differ on %s\n", paths[i]);
+            printf("agree: the readers differ on %s\n", paths[i]);
         }
     }
     printf("stack at the most: check %zu bytes, read %zu\n", check_stack, fill_stack);
     if (larger(check_stack, fill_stack) >= 65536)
         failed++;
-    printf("library: %d passed, %d failed\n", count - failed, failed);
+    printf("agree: %d passed, %d failed\n", count - failed, failed);
     return failed != 0;
 }

@@ -27,7 +27,7 @@ int main(void)
         return 1;
     }
     for (size_t i = 0; i < answer.pins; i++) {
-        printf("%s %s", pins[i].name.bytes, pins[i].model.bytes);
+        printf("%.40s %.40s", pins[i].name.bytes, pins[i].model.bytes);
         for (size_t k = 0; k < answer.models; k++)
             if (memcmp(&models[k].name, &pins[i].model, sizeof models[k].name) == 0)
                 printf(" %llue%d", (unsigned long long)olhovest_digits(models[k].vinl), olhovest_power(models[k].vinl));

@@ -1,5 +1,6 @@
 /*
- * Olhovest for C: one IBIS 5.0 file read into tables that the caller lends, or the fault that stands first.
+ * Olhovest for C: one IBIS 5.0 file read into tables that the caller lends, or the fault that stands first; and what users ask
+ * of the tables then.
  *
  * Every function is proved to do what is said here, for any bytes and tables of any length. The archive is for x86-64
  * Linux; `rt staticlib olhovest` writes it to target/staticlib/libolhovest.a. It calls nothing but memcpy and memset,
@@ -160,5 +161,44 @@ uint8_t olhovest_read(const uint8_t *bytes, size_t length,
                       struct olhovest_waveform *waveforms, size_t waveform_words,
                       struct olhovest_row *rows, size_t row_words,
                       struct olhovest_answer *answer);
+
+/*
+ * ---- What is asked of filled tables.
+ *
+ * Lend a table with the words of the records that are used, as OLHOVEST_WORDS(answer.pins, *pins). Nothing is asked of the
+ * words: tables that no reading filled, counts that are too large and places past the end get an answer too, and nothing
+ * outside the words that are lent is read. A table without words may be NULL.
+ */
+
+/* No such place. It is past the end of every table: asked for, it is a place where no record lies. */
+#define OLHOVEST_NONE SIZE_MAX
+
+/* The place of the pin that is called so in a component, or OLHOVEST_NONE. The name has `length` bytes. */
+size_t olhovest_find_pin(const struct olhovest_component *components, size_t component_words,
+                         const struct olhovest_pin *pins, size_t pin_words,
+                         size_t component, const char *name, size_t length);
+
+/* The place of the model that is called so, or OLHOVEST_NONE. */
+size_t olhovest_find_model(const struct olhovest_model *models, size_t model_words, const char *name, size_t length);
+
+/*
+ * The place of the model chosen for the pin at a place: the model that it names, or the one in the first row of the selector
+ * that it names. OLHOVEST_NONE for POWER, GND and NC, and where there is no such pin or model.
+ */
+size_t olhovest_model_of_pin(const struct olhovest_pin *pins, size_t pin_words,
+                             const struct olhovest_selector *selectors, size_t selector_words,
+                             const struct olhovest_choice *choices, size_t choice_words,
+                             const struct olhovest_model *models, size_t model_words, size_t pin);
+
+/* A pin's values: its own cell stands for typ, min and max; where that is missing, the three cells of its package. */
+struct olhovest_values { struct olhovest_triple resistance, inductance, capacitance; };
+
+/* The values of the pin at a place, with the package of the component that has it; all are missing where none has. */
+void olhovest_values_of_pin(const struct olhovest_component *components, size_t component_words,
+                            const struct olhovest_pin *pins, size_t pin_words,
+                            size_t pin, struct olhovest_values *values);
+
+/* Answers 1 and writes the row at a place of the row store; or answers 0, where no row lies there, and writes nothing. */
+uint8_t olhovest_row_at(const struct olhovest_row *rows, size_t row_words, size_t place, struct olhovest_row *row);
 
 #endif

@@ -1,6 +1,7 @@
 """Every public function of a library promises one result and one content of lent memory, in a form that crates/promise_forms proves
 to leave no choice; or docs/CONTRACTS.md lists it as an exception. An exception that is none fails too. And docs/CONTRACTS.md has a
-line for each function, which says what it asks of its caller where it asks something. With --list, the functions and their forms are printed."""
+line for each function, which says what it asks of its caller where it asks something. Before that the check is tried on promises that are made up.
+With --list, the functions and their forms are printed."""
 import re
 import sys
 from pathlib import Path
@@ -12,6 +13,50 @@ BODY = re.compile(r"^ *\{$|\)(?: -> [^{\n]*)? \{$", re.M)
 LISTED = re.compile(r"`(\w+)::(\w+|\{[^}]*\})`")
 PROVED = re.compile(r"^pub \w+ : .*→ One \((\w+)", re.M)
 DESCRIBED = re.compile(r"^- `(?:\w+::)*(\w+)`: (.+)$")
+NAME = re.compile(r"\.?[\w«»·′'-]+")
+OPERATORS = {"≡", "≤", "<", "+", "-", "*", "/", "%", "∷", "++", "[]", "=", ";", ","}
+
+# Promises that are made up, and what each fixes: r is the result, x a lent slice.
+MADE_UP = (
+    ("r ≡ g (now (x .entry))", {"result"}),
+    ("r ≡ record { at = 2; end = at + 3 }", {"result"}),
+    ("now r ≡ g (now (x .entry))", {"result"}),
+    ("now r ≡ drop 2 (now r)", set()),
+    ("now (x .exit) ≡ h", {"x"}),
+    ("(r ≡ g) × (now (x .exit) ≡ h)", {"result", "x"}),
+    ("(r ≡ g) × (at ≤ r) × (now (x .exit) ≡ h)", {"result", "x"}),
+    ("((r ≡ g) × (at ≤ r)) × (now (x .exit) ≡ h)", {"result", "x"}),
+    ("WordAt (now (x .entry)) at r", {"result"}),
+    ("Put (now (x .entry)) (now (x .exit)) at (byte ∷ []) r", {"result", "x"}),
+    ("Read (now (x .entry)) r (now (y .exit))", {"result", "y"}),
+    ("wordTables (now (x .exit)) (now (y .exit)) ≡ h r", set()),
+    ("wordTables (now (x .exit)) (now (y .exit)) ≡ h", {"x", "y"}),
+    ("r ≡ r", set()),
+    ("r ≡ g ⊎ Unit", set()),
+    ("r ≡ g → Unit", set()),
+    ("(r ≡ g) ⊎ Unit", set()),
+    ("Unit → (r ≡ g)", set()),
+    ("(r ≡ g → ⊥)", set()),
+    ("(r ≡ g) × (now (x .exit) ≡ h) ⊎ Unit", set()),
+    ("(r ≡ g ⊎ Unit) × (now (x .exit) ≡ h)", {"x"}),
+    ("r ≡ g × Unit", set()),
+    ("(y : ℕ) × (r ≡ y)", set()),
+    ("Either (r ≡ g) Unit", set()),
+    ("r ≡ g ≡ h", set()),
+    ("WordAt (now (x .entry)) ⊎ r", set()),
+    ("Exports (now (x .entry)) ⊎ r (now (x .exit))", set()),
+    ("r ≡ record { at = r; end = 3 }", set()),
+    ("r ≡ record { at = now (x .exit); end = 3 }", set()),
+    ("r ≡ record { src = x .exit; at = 3 }", set()),
+    ("r ≡ g (r, 3)", set()),
+    ("now (x .exit) ≡ sets (now (x .exit)) 3", set()),
+    ("now (x .exit) ≡ h r", set()),
+    ("now (x .exit) ≡ now (y .exit)", set()),
+    ("Read (now (x .entry)) r (half (now (y .exit)))", set()),
+    ("Put (now (x .entry)) (now (x .exit)) at (now (x .exit)) r", set()),
+    ("(r ≡ g", set()),
+    ("r ≡ record { at = 3 )", set()),
+)
 
 
 def section(heading):
@@ -49,26 +94,35 @@ def proved():
 
 
 def parsed(text):
-    """A term as a list: a name, or a list of terms in brackets."""
-    stack = [[]]
-    for token in re.findall(r"[()]|[^\s()]+", text):
-        if token == "(":
+    """A term as a list: a name or an operator, or a list of terms in brackets or braces; nothing where these do not match."""
+    stack, closing = [[]], []
+    for token in re.findall(r"[(){};,]|[^\s(){};,]+", text):
+        if token in "({":
             stack.append([])
-        elif token == ")":
+            closing.append(")" if token == "(" else "}")
+        elif token in ")}":
+            if not closing or closing.pop() != token:
+                return []
             term = stack.pop()
             stack[-1].append(term)
         else:
             stack[-1].append(token)
-    return stack[0]
+    return [] if closing else stack[0]
 
 
 def exits(term):
     """The lent names whose content at exit a term has."""
     if not isinstance(term, list):
         return set()
-    if len(term) == 2 and term[1] == ".exit":
-        return {term[0]}
-    return set().union(*map(exits, term))
+    found = {str(term[at - 1]) for at, part in enumerate(term) if part == ".exit"}
+    return found.union(*map(exits, term))
+
+
+def known(term):
+    """Whether a term has names and the operators of definitions alone: no choice, no arrow, no bound name."""
+    if isinstance(term, list):
+        return all(map(known, term))
+    return term in OPERATORS or NAME.fullmatch(term) is not None
 
 
 def mentions(term, name):
@@ -82,9 +136,9 @@ def plain(terms, result):
 
 def left(term):
     """The lent names that a term is the content at exit of, and nothing else: one, or several side by side."""
-    if len(term) == 2 and term[0] == "now" and len(exits(term)) == 1:
+    if len(term) == 2 and term[0] == "now" and isinstance(term[1], list) and len(term[1]) == 2 and term[1][1] == ".exit":
         return exits(term)
-    if term and term[0] == "lent" and all(left(part) for part in term[1:]):
+    if term and term[0] == "wordTables" and all(left(part) for part in term[1:]):
         return exits(term)
     return set()
 
@@ -97,7 +151,7 @@ def equation(terms, result):
     before, behind = terms[:at], terms[at + 1 :]
     if not plain(behind, result):
         return set()
-    if before == [result]:
+    if before in ([result], ["now", result]):
         return {"result"}
     return left(before)
 
@@ -109,24 +163,43 @@ def by_cases(terms, result):
         before, after, at, text, place = parts
         if place == result and left(after) and plain([before, at, text], result):
             return {"result"} | left(after)
-    if head in ("Read", "Exports") and result in parts:
+    if head in ("Read", "ReadInWords", "Exports") and result in parts:
         at = parts.index(result)
         if plain(parts[:at], result) and all(left(part) for part in parts[at + 1 :]):
             return {"result"} | exits(parts)
-    if isinstance(head, str) and (head == "Loaded" or head in proved()) and parts[-1] == result and plain(parts[:-1], result):
+    if isinstance(head, str) and head in proved() and parts and parts[-1] == result and plain(parts[:-1], result):
         return {"result"}
     return set()
+
+
+def clauses(terms):
+    """The clauses that all hold: `×` stands between bracketed ones, and a clause is of known terms. A bound name before `×` leaves a choice."""
+    if "×" in terms:
+        if any(mentions(terms, binder) for binder in (":", "λ")):
+            return []
+        if not all(part == "×" if at % 2 else isinstance(part, list) for at, part in enumerate(terms)):
+            return []
+        return [clause for part in terms[::2] for clause in clauses(part)]
+    if len(terms) == 1 and isinstance(terms[0], list):
+        return clauses(terms[0])
+    return [terms] if terms and known(terms) else []
 
 
 def forms(signature):
     """The forms of a function's promises: what each fixes."""
     fixed = set()
     for result, text in PROMISE.findall(signature):
-        terms = parsed(text)
-        clauses = [clause for clause in terms if clause != "×"] if "×" in terms else [terms]
-        for clause in clauses:
+        for clause in clauses(parsed(text)):
             fixed |= equation(clause, result) | by_cases(clause, result)
     return fixed
+
+
+def made_up():
+    """The made-up promises that this check answers wrongly."""
+    for text, fixes in MADE_UP:
+        found = forms(f"ensures {{ λ r. ⌜ {text} ⌝ }}")
+        if found != fixes:
+            yield f"`{text}` is said to fix {', '.join(sorted(found)) or 'nothing'}"
 
 
 def functions():
@@ -158,7 +231,8 @@ def missing(name, asks, lines):
 
 def main():
     free, lines = exceptions("Promises that leave a choice"), described("Every public function")
-    passed, faults = 0, []
+    faults = list(made_up())
+    passed = len(MADE_UP) - len(faults)
     seen = set()
     for name, signature in functions():
         seen.add(name)

@@ -72,7 +72,7 @@ admitted : (k : ℕ) (go : Held → Outcome) (a : Said Held) (z : Held) → afte
 admitted k go (says g) z q = (g, refl, q)
 admitted k go (fault n) z q = impossible (cc)
 
-stepped : (l : Lengths) (h : Held) (t : Text) (go : Stage → Held → Outcome) (w : Went) (z : Held) → afterStep l h t go w ≡ passed z
+pub stepped : (l : Lengths) (h : Held) (t : Text) (go : Stage → Held → Outcome) (w : Went) (z : Held) → afterStep l h t go w ≡ passed z
     → (u : Stage) × (e : Event) × (w ≡ On u e) × (g : Held) × (admit l h (lineOf t) (textOf t) e ≡ says g) × (go u g ≡ passed z)
 stepped l h t go (On u e) z q =
     let a = admitted (lineOf t) (go u) (admit l h (lineOf t) (textOf t) e) z q in

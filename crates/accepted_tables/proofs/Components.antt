@@ -13,8 +13,8 @@ use borrow.Author.Tests.{not-false, leb-true}
 use Rattle.laws.specs.Bytes.{bytes, isBlank}
 use Rattle.laws.specs.Lists.{eqs, front}
 use Rattle.laws.specs.Said.{says}
-use Rattle.laws.proofs.Tests.{by-test, cond-all, cond-no, and-first, and-second, never, impossible}
-use Rattle.words.specs.Words.{word, words, grown, onto}
+use Rattle.laws.proofs.Tests.{by-test, cond-all, cond-no, cond-map, and-first, and-second, never, impossible}
+use Rattle.words.specs.Words.{word, words, grown, ontoWord}
 use Rattle.name_table.specs.Names.{placeFrom}
 use Rattle.name_table.specs.declared.Found.the-variants.{At}
 use Rattle.keywords.specs.Form.{argument}
@@ -37,7 +37,7 @@ use Rattle.rules.specs.Model.{isNumber}
 use Rattle.rules.specs.Steps.{keyed, onPlain, onChange, onText}
 use Rattle.rules.specs.Whole.{Held}
 use Rattle.records.specs.declared.Lengths.{Lengths}
-use Rattle.rules.specs.Reading.{under, linesUnder, keySays, isWithin}
+use Rattle.rules.specs.Reading.{argumentAt, isKey, under, linesUnder, keySays, isWithin}
 use Rattle.rules.specs.Keys.{keyAt}
 use Rattle.rules.proofs.Keys.{lines-skip, lines-key, says-skip, says-key}
 use Rattle.keywords.proofs.Spelling.{spelling}
@@ -83,15 +83,15 @@ list-shuts (PackageLines o g) s = (λ x q. q (s .0), λ x q. q (s .1), λ x q. q
 list-shuts (PinRows o long any) s = (λ h. absurd (never any s h), tt)
 
 resistance-place : placeFrom 0 (bytes "R_pkg") (words (bytes packageLines)) ≡ At 0
-unfolding placeFrom words grown onto isBlank eqs
+unfolding placeFrom words grown ontoWord isBlank eqs
 resistance-place = refl
 
 inductance-place : placeFrom 0 (bytes "L_pkg") (words (bytes packageLines)) ≡ At 1
-unfolding placeFrom words grown onto isBlank eqs
+unfolding placeFrom words grown ontoWord isBlank eqs
 inductance-place = refl
 
 capacitance-place : placeFrom 0 (bytes "C_pkg") (words (bytes packageLines)) ≡ At 2
-unfolding placeFrom words grown onto isBlank eqs
+unfolding placeFrom words grown ontoWord isBlank eqs
 capacitance-place = refl
 
 list-line : (c n : ComponentState) (w : List ℕ) (e : Event) (ls : List (List ℕ)) → ComponentText c w n e → ListReads (n .list) ls → ListReads (c .list) (w ∷ ls)
@@ -111,7 +111,7 @@ list-line c n w e ls (pinRow o long any q ok) so =
 -- ---- from here on; x is what was read of a line before
 
 abbrev Made : Given → List Text → Type 0
-Made parts ts = (x : Name) → (has parts 0 ≡ true → 1 ≤ x .len) → 1 ≤ keySays "manufacturer" (λ w ls. nameLaid w) x ts .len
+Made parts ts = (x : List ℕ) → (has parts 0 ≡ true → isSized 40 x ≡ true) → isSized 40 (keySays "manufacturer" (λ w ls. w) x ts) ≡ true
 
 abbrev Packaged : Given → String → List Text → Type 0
 Packaged parts name ts = (x : Triple) → (has parts 1 ≡ true → TypNumber x) → TypNumber (lineSays name cellsLine x (linesUnder "package" ts))
@@ -173,7 +173,7 @@ module _ (c n : ComponentState) (t : Text) (ts : List Text) (e : keyAt t ≡ non
         packaged = subst (Every PackageLine) (sym (lines-skip t ts (key.InComponent Package) e)) (so .packaged);
         maker =
             λ x q.
-            subst (λ (y : Name). 1 ≤ y .len) (sym (says-skip (λ w ls. nameLaid w) x t ts (key.InComponent Manufacturer) e))
+            subst (λ (y : List ℕ). isSized 40 y ≡ true) (sym (says-skip (λ w ls. w) x t ts (key.InComponent Manufacturer) e))
             (so .maker x (λ h. q (ap (λ (g : Given). has g 0) same ∙ h)));
         resistance = packaged-skip "R_pkg" (so .resistance);
         inductance = packaged-skip "L_pkg" (so .inductance);
@@ -198,12 +198,8 @@ parts-change c k n ts so = unkeyed c c (change k n) ts refl refl (subst (ListRea
 
 -- ---- a keyword
 
-some-sized : (w : List ℕ) → componentFault w Manufacturer ≡ 0 → 1 ≤ length w
-unfolding isSized
-some-sized w h =
-    by-test (isSized 40 w)
-    (λ t. leb-true 1 (length w) (and-first (leb 1 (length w)) (leb (length w) 40) t))
-    (λ t. let e : 10 ≡ 0 = sym (cond-no 0 10 t) ∙ h in absurd (omega arith))
+some-sized : (w : List ℕ) → componentFault w Manufacturer ≡ 0 → isSized 40 w ≡ true
+some-sized w h = by-test (isSized 40 w) (λ t. t) (λ t. let e : 10 ≡ 0 = sym (cond-no 0 10 t) ∙ h in absurd (omega arith))
 
 module _ (c : ComponentState) (k : ℕ) (w : List ℕ) (ts : List Text) (b : isBracketed w ≡ true) (s : Shuts (c .list)) where
   list-key : ListReads (c .list) (under (plain k w ∷ ts))
@@ -227,17 +223,17 @@ module _ (c : ComponentState) (k : ℕ) (w : List ℕ) (ts : List Text) (b : isB
   maker-other : (i : ℕ) (p : ComponentPart) → (0 ≡ i → ⊥) → keyAt (plain k w) ≡ some (key.InComponent p) → eqs (bytes (spelling (key.InComponent p))) (bytes "manufacturer") ≡ false
       → Made (with (c .parts) i) ts → Made (c .parts) (plain k w ∷ ts)
   maker-other i p apart e n so x q =
-      subst (λ (y : Name). 1 ≤ y .len)
-      (sym (says-key (λ v ls. nameLaid v) x (plain k w) ts "manufacturer" (key.InComponent p) e
-      ∙ ap (λ (t : Bool). keySays "manufacturer" (λ v ls. nameLaid v) (cond t (nameLaid (argument w)) x) ts) n))
+      subst (λ (y : List ℕ). isSized 40 y ≡ true)
+      (sym (says-key (λ v ls. v) x (plain k w) ts "manufacturer" (key.InComponent p) e
+      ∙ ap (λ (t : Bool). keySays "manufacturer" (λ v ls. v) (cond t (argument w) x) ts) n))
       (so x (λ h. q (sym (has-other (c .parts) 0 i apart) ∙ h)))
 
   maker-own : keyAt (plain k w) ≡ some (key.InComponent Manufacturer) → componentFault (argument w) Manufacturer ≡ 0
       → Made (with (c .parts) 0) ts → Made (c .parts) (plain k w ∷ ts)
   unfolding eqs
   maker-own e f so x q =
-      subst (λ (y : Name). 1 ≤ y .len) (sym (says-key (λ v ls. nameLaid v) x (plain k w) ts "manufacturer" (key.InComponent Manufacturer) e))
-      (so (nameLaid (argument w)) (λ h. omega (arith, length-take 40 (argument w), some-sized (argument w) f)))
+      subst (λ (y : List ℕ). isSized 40 y ≡ true) (sym (says-key (λ v ls. v) x (plain k w) ts "manufacturer" (key.InComponent Manufacturer) e))
+      (so (argument w) (λ h. some-sized (argument w) f))
 
   least-other : (i : ℕ) → (2 ≡ i → ⊥) → linesUnder "pin" (plain k w ∷ ts) ≡ linesUnder "pin" ts
       → (has (with (c .parts) i) 2 ≡ false → 1 ≤ length (linesUnder "pin" ts)) → has (c .parts) 2 ≡ false → 1 ≤ length (linesUnder "pin" (plain k w ∷ ts))
@@ -294,6 +290,21 @@ parts-read l =
     by-texts l (λ (c : ComponentState) (h : Held) (ts : List Text). Parts c ts) (λ c h s d. parts-done c s d) (λ c h k n ts so. parts-change c k n ts so)
     (λ c n h g k w e ts b y a so. parts-line c n k w e ts b y so)
     (λ c n h k w p ts b q s y so. parts-key c k w ts b s n p q y so)
+
+-- ---- the manufacturer as it is laid
+
+maker-laid : (x : List ℕ) (ts : List Text) → keySays "manufacturer" (λ w ls. nameLaid w) (nameLaid x) ts ≡ nameLaid (keySays "manufacturer" (λ w ls. w) x ts)
+unfolding keySays
+maker-laid x [] = refl
+maker-laid x (t ∷ ts) =
+    let own : Bool = isKey "manufacturer" t in
+    ap (λ (y : Name). keySays "manufacturer" (λ w ls. nameLaid w) y ts) (sym (cond-map nameLaid own (argumentAt t) x)) ∙ maker-laid (cond own (argumentAt t) x) ts
+
+pub maker-least : (ts : List Text) → isSized 40 (keySays "manufacturer" (λ w ls. w) [] ts) ≡ true → 1 ≤ keySays "manufacturer" (λ w ls. nameLaid w) (nameLaid []) ts .len
+unfolding isSized
+maker-least ts h =
+    let w : List ℕ = keySays "manufacturer" (λ v ls. v) [] ts in
+    subst (λ (y : Name). 1 ≤ y .len) (sym (maker-laid [] ts)) (omega (arith, length-take 40 w, leb-true 1 (length w) (and-first (leb 1 (length w)) (leb (length w) 40) h)))
 
 -- ---- a selector's rows
 

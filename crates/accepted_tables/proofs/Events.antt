@@ -22,7 +22,7 @@ use Rattle.keywords.specs.declared.HeaderPart.{HeaderPart}
 use Rattle.keywords.specs.declared.ComponentPart.{ComponentPart}
 use Rattle.keywords.specs.declared.ModelPart.{ModelPart}
 use Rattle.cut_lines.specs.Change.{isChange, changeOf}
-use Rattle.cut_lines.specs.Texts.{Text, plain, change, onto, textsFrom}
+use Rattle.cut_lines.specs.Texts.{Text, plain, change, ontoTexts, textsFrom}
 use Rattle.line_rules.specs.Fields.{isBracketed, isSized, isPinName, isModelName, needsNoModel, isNoModel, lineAt, oneWord, rowOf}
 use Rattle.line_rules.specs.Tables.{componentLines, packageLines, modelLines, rampLines, fixtures}
 use Rattle.given.specs.declared.Given.{Given}
@@ -69,8 +69,18 @@ Named w WaveformOpened = Unit {0}
 Named w TableRow = Unit {0}
 Named w (Ended alone) = Unit {0}
 
-abbrev Names : List ℕ → Stage → Event → Type 0
-Names w u e = Named w e
+-- the stage that it leaves: [End] alone ends the file
+abbrev Leaves : Stage → Event → Type 0
+Leaves u Quiet = isEnded u ≡ false
+Leaves u (Opened o) = isEnded u ≡ false
+Leaves u PinRow = isEnded u ≡ false
+Leaves u ChoiceRow = isEnded u ≡ false
+Leaves u WaveformOpened = isEnded u ≡ false
+Leaves u TableRow = isEnded u ≡ false
+Leaves u (Ended alone) = Unit {0}
+
+abbrev pub Names : List ℕ → Stage → Event → Type 0
+Names w u e = Named w e × Leaves u e
 
 pub pin-named : (long : Bool) (ws : List (List ℕ)) → pinFault long ws ≡ 0 → isPinName (word 0 ws) ≡ true
 unfolding pinFault isPin
@@ -80,35 +90,35 @@ pin-named long ws h =
     (λ t. let e : 10 ≡ 0 = sym (cond-no _ 10 t) ∙ h in absurd (omega arith))
 
 component-goes : (c : ComponentState) (k : ℕ) (w : List ℕ) (l : ComponentList) → Goes (Names w) (componentLine c k w l)
-component-goes c k w ComponentFirst = past-named (Names w) (c .first) (lineAt componentLines w) _ k _ (λ i a h f. tt)
+component-goes c k w ComponentFirst = past-named (Names w) (c .first) (lineAt componentLines w) _ k _ (λ i a h f. (tt, refl))
 component-goes c k w ComponentShut = tt
-component-goes c k w (PackageLines o g) = past-named (Names w) g (lineAt packageLines w) _ k _ (λ i a h f. tt)
-component-goes c k w (PinRows o long any) = past-unless (Names w) (pinFault long (words w)) k _ (λ f. pin-named long (words w) f)
+component-goes c k w (PackageLines o g) = past-named (Names w) g (lineAt packageLines w) _ k _ (λ i a h f. (tt, refl))
+component-goes c k w (PinRows o long any) = past-unless (Names w) (pinFault long (words w)) k _ (λ f. (pin-named long (words w) f, refl))
 
 row-goes : (w : List ℕ) (on : RowsSeen → ModelList) (m : ModelState) (r : RowsSeen) (k : ℕ) (x : Said Row) → Goes (Names w) (rowLine on m r k x)
 row-goes w on m r k (fault n) = tt
-row-goes w on m r k (says y) = past-refuse (Names w) _ 13 k _ (λ h. tt)
+row-goes w on m r k (says y) = past-refuse (Names w) _ 13 k _ (λ h. (tt, refl))
 
 waveform-goes : (m : ModelState) (o : ℕ) (g : Given) (r : RowsSeen) (k : ℕ) (w : List ℕ) → Goes (Names w) (waveformLine m o g r k w)
 unfolding waveformLine
 waveform-goes m o g r k w =
     cond-all (Goes (Names w)) (beginsLetter (word 0 (words w))) _ _
-    (λ b. past-refuse (Names w) _ 7 k _ (λ z. past-named (Names w) g (lineAt fixtures w) _ k _ (λ i a h f. tt)))
+    (λ b. past-refuse (Names w) _ 7 k _ (λ z. past-named (Names w) g (lineAt fixtures w) _ k _ (λ i a h f. (tt, refl))))
     (λ b. row-goes w (WaveformRows o g) m r k (rowOf (words w)))
 
 model-goes : (m : ModelState) (k : ℕ) (w : List ℕ) (l : ModelList) → Goes (Names w) (modelLine m k w l)
-model-goes m k w ModelFirst = past-named (Names w) (m .first) (lineAt modelLines w) _ k _ (λ i a h f. tt)
+model-goes m k w ModelFirst = past-named (Names w) (m .first) (lineAt modelLines w) _ k _ (λ i a h f. (tt, refl))
 model-goes m k w ModelShut = tt
 model-goes m k w (CurrentRows o r) = row-goes w (CurrentRows o) m r k (rowOf (words w))
-model-goes m k w (RampLines o g) = past-named (Names w) g (lineAt rampLines w) _ k _ (λ i a h f. tt)
+model-goes m k w (RampLines o g) = past-named (Names w) g (lineAt rampLines w) _ k _ (λ i a h f. (tt, refl))
 model-goes m k w (WaveformRows o g r) = waveform-goes m o g r k w
 
 line-goes : (s : Stage) (k : ℕ) (w : List ℕ) → Goes (Names w) (onLine s k w)
 unfolding headerLine selectorLine
 line-goes BeforeVersion k w = tt
-line-goes (InHeader h) k w = cond-all (Goes (Names w)) (h .text) _ _ (λ e. tt) (λ e. tt)
+line-goes (InHeader h) k w = cond-all (Goes (Names w)) (h .text) _ _ (λ e. (tt, refl)) (λ e. tt)
 line-goes (InComponent c) k w = component-goes c k w (c .list)
-line-goes (InSelector s) k w = past-refuse (Names w) (not (isModelName (word 0 (words w)))) 10 k _ (λ h. not-false (isModelName (word 0 (words w))) h)
+line-goes (InSelector s) k w = past-refuse (Names w) (not (isModelName (word 0 (words w)))) 10 k _ (λ h. (not-false (isModelName (word 0 (words w))) h, refl))
 line-goes (InModel m) k w = model-goes m k w (m .list)
 line-goes AfterEnd k w = tt
 
@@ -116,20 +126,20 @@ line-goes AfterEnd k w = tt
 
 module _ (k : ℕ) (w : List ℕ) where
   opened-goes : (o : Section) → Goes (Names w) (opened k (argument w) o)
-  opened-goes Component = past-refuse (Names w) (not (isSized 40 (argument w))) 10 k _ (λ h. not-false (isSized 40 (argument w)) h)
-  opened-goes Selector = past-refuse (Names w) (not (oneWord isModelName (words (argument w)))) 10 k _ (λ h. one-word isModelName (words (argument w)) h)
-  opened-goes Model = past-refuse (Names w) (not (oneWord isModelName (words (argument w)))) 10 k _ (λ h. one-word isModelName (words (argument w)) h)
+  opened-goes Component = past-refuse (Names w) (not (isSized 40 (argument w))) 10 k _ (λ h. (not-false (isSized 40 (argument w)) h, refl))
+  opened-goes Selector = past-refuse (Names w) (not (oneWord isModelName (words (argument w)))) 10 k _ (λ h. (one-word isModelName (words (argument w)) h, refl))
+  opened-goes Model = past-refuse (Names w) (not (oneWord isModelName (words (argument w)))) 10 k _ (λ h. (one-word isModelName (words (argument w)) h, refl))
 
   part-goes : (m : ModelState) (p : ModelPart) → Goes (Names w) (modelPart m k (argument w) p)
   unfolding singlePart waveformPart
   part-goes m p =
       cond-all (Goes (Names w)) (eqb (modelPlace p) 7) _ _
-      (λ z. past-unless (Names w) _ k _ (λ f. past-refuse (Names w) _ 17 k _ (λ h. tt)))
-      (λ z. past-once (Names w) (m .parts) (modelPlace p) _ k (λ (g : Given). InModel (withParts m g (m .waveforms) (modelOpens k p))) (λ h f. tt))
+      (λ z. past-unless (Names w) _ k _ (λ f. past-refuse (Names w) _ 17 k _ (λ h. (tt, refl))))
+      (λ z. past-once (Names w) (m .parts) (modelPlace p) _ k (λ (g : Given). InModel (withParts m g (m .waveforms) (modelOpens k p))) (λ h f. (tt, refl)))
 
   version-goes : (s : Stage) → Goes (Names w) (onVersion s k (argument w))
   unfolding onVersion version
-  version-goes BeforeVersion = past-refuse (Names w) _ 10 k _ (λ h. tt)
+  version-goes BeforeVersion = past-refuse (Names w) _ 10 k _ (λ h. (tt, refl))
   version-goes (InHeader h) = tt
   version-goes (InComponent c) = tt
   version-goes (InSelector l) = tt
@@ -139,7 +149,7 @@ module _ (k : ℕ) (w : List ℕ) where
   header-goes : (s : Stage) (p : HeaderPart) → Goes (Names w) (within k (headerOf s) (λ h. headerPart h k (argument w) p))
   unfolding headerPart
   header-goes BeforeVersion p = tt
-  header-goes (InHeader h) p = past-quiet (Names w) _ _ k _ tt
+  header-goes (InHeader h) p = past-quiet (Names w) _ _ k _ (tt, refl)
   header-goes (InComponent c) p = tt
   header-goes (InSelector l) p = tt
   header-goes (InModel m) p = tt
@@ -149,7 +159,7 @@ module _ (k : ℕ) (w : List ℕ) where
   unfolding componentPart
   member-goes BeforeVersion p = tt
   member-goes (InHeader h) p = tt
-  member-goes (InComponent c) p = past-quiet (Names w) _ _ k _ tt
+  member-goes (InComponent c) p = past-quiet (Names w) _ _ k _ (tt, refl)
   member-goes (InSelector l) p = tt
   member-goes (InModel m) p = tt
   member-goes AfterEnd p = tt
@@ -168,19 +178,19 @@ module _ (k : ℕ) (w : List ℕ) where
   keyword-goes s (key.Opens o) = past-closing (Names w) (λ (t : Stage). Unit {0}) _ (done k s) (anywhere (done k s)) (λ t q. opened-goes o)
   keyword-goes s (key.InComponent p) = member-goes s p
   keyword-goes s (key.InModel p) = table-goes s p
-  keyword-goes s key.End = past-closing (Names w) (λ (t : Stage). Unit {0}) _ (done k s) (anywhere (done k s)) (λ t q. tt)
+  keyword-goes s key.End = past-closing (Names w) (λ (t : Stage). Unit {0}) _ (done k s) (anywhere (done k s)) (λ t q. (tt, tt))
 
   keyed-goes : (s : Stage) (x : Said Keyword) → Goes (Names w) (keyed s k w x)
   keyed-goes s (fault n) = tt
   keyed-goes s (says x) = keyword-goes s x
 
-text-goes : (s : Stage) (t : Text) → Goes (Names (textOf t)) (onText s t)
+pub text-goes : (s : Stage) (t : Text) → Goes (Names (textOf t)) (onText s t)
 unfolding onPlain onChange
 text-goes s (plain k w) =
     cond-all (Goes (Names w)) (isBracketed w) _ _
     (λ b. past-closing (Names w) (λ (t : Stage). Unit {0}) (λ (t : Stage). keyed t k w (keyOf w)) (shut k s) (anywhere (shut k s)) (λ t q. keyed-goes k w t (keyOf w)))
     (λ b. line-goes s k w)
-text-goes s (change k n) = past-refuse _ _ 7 k _ (λ a. past-refuse _ _ 5 k _ (λ b. past-refuse _ _ 7 k _ (λ c. past-unless _ n k _ (λ d. tt))))
+text-goes s (change k n) = past-refuse _ _ 7 k _ (λ a. past-refuse _ _ 5 k _ (λ b. past-refuse _ _ 7 k _ (λ c. past-unless _ n k _ (λ d. (tt, a)))))
 
 -- ---- a note, by what its line has passed
 
@@ -236,8 +246,8 @@ fine-after h t ts (Ended alone) l n so = so
 abbrev Numbered : Text → Type 0
 Numbered t = 1 ≤ lineOf t
 
-numbered-onto : (k : ℕ) (w : List ℕ) (ts : List Text) → 1 ≤ k → Every Numbered ts → Every Numbered (onto k w ts)
-unfolding onto
+numbered-onto : (k : ℕ) (w : List ℕ) (ts : List Text) → 1 ≤ k → Every Numbered ts → Every Numbered (ontoTexts k w ts)
+unfolding ontoTexts
 numbered-onto k [] ts h so = so
 numbered-onto k (b ∷ bs) ts h so = (h, so)
 
@@ -274,7 +284,7 @@ module _ (l : Lengths) (past : ℕ) (g : Log) where
     past-went : (t : Text) (h : Log) (x : Went) → 1 ≤ lineOf t → Every Fine (h .notes) → Goes (Names (textOf t)) x
         → afterWent l h t ts (λ (u : Stage) (y : Log). runLog l past u y ts) x ≡ whole g → Every Fine (g .notes)
     past-went t h (On u e) n so w q =
-        past-logged u (logged l h t ts e) (kept-after (λ (y : Log). Every Fine (y .notes)) l h t ts e (λ room. fine-after h t ts e n w so)) q
+        past-logged u (logged l h t ts e) (kept-after (λ (y : Log). Every Fine (y .notes)) l h t ts e (λ room. fine-after h t ts e n (w .0) so)) q
     past-went t h (Stop f) n so w q = broken-never (f .number) (f .line) h g q
 
   fine-run : (ts : List Text) (s : Stage) (h : Log) → Every Numbered ts → Every Fine (h .notes) → runLog l past s h ts ≡ whole g → Every Fine (g .notes)

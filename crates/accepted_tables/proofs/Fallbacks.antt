@@ -10,7 +10,7 @@ use Rattle.laws.specs.Bytes.{bytes, isBlank}
 use Rattle.laws.specs.Lists.{eqs, front}
 use Rattle.laws.specs.Said.{says}
 use Rattle.laws.proofs.Tests.{by-test, cond-yes}
-use Rattle.words.specs.Words.{words, grown, onto}
+use Rattle.words.specs.Words.{words, grown, ontoWord}
 use Rattle.name_table.specs.declared.Found.the-variants.{At}
 use Rattle.keywords.specs.Form.{argument}
 use Rattle.keywords.specs.Carried.{keyOf}
@@ -46,6 +46,7 @@ use Rattle.accepted_tables.proofs.Parts.{tables-skip, withTable, tables
 use Rattle.accepted_tables.proofs.Spans.{every-append}
 use Rattle.accepted_tables.proofs.Sections.{newComponent, newSelector, SectionPasses}
 use Rattle.accepted_tables.proofs.Components.{Parts, parts-read, Rows, rows-read}
+use Rattle.accepted_tables.proofs.Models.{not-given}
 
 -- ---- the type: two that were read before the lines ls are the same behind them
 
@@ -152,7 +153,7 @@ says-line m n k w ts b y so =
     }
 
 table-said : (k : ℕ) (ls : List (List ℕ)) (p : ModelPart) → ListSaid (modelOpens k p) ls → (more : List TableIs) → Every TableSaid more → Every TableSaid (withTable k ls p more)
-unfolding oneOf eqs words grown onto isBlank
+unfolding oneOf eqs words grown ontoWord isBlank
 table-said k ls VoltageRange r more so = so
 table-said k ls TemperatureRange r more so = so
 table-said k ls (Current Pulldown) r more so = (r, so)
@@ -205,14 +206,15 @@ section-said : (l : Lengths) (s : SectionIs) → SectionPasses l s → SectionSa
 section-said l (component w ts) p =
     let c = newComponent (p .0) in
     let so : Parts c ts = subst (Parts c) (sym (p .1 .own)) (parts-read l (p .1 .more) c (p .1 .held) (p .1 .runs)) in
-    record { first = so .list; packaged = so .packaged; pins = so .pins }
+    (p .2, record { maker = so .maker [] (not-given 0); first = so .list; packaged = so .packaged; pins = so .pins })
 section-said l (selector w ts) p =
     let s = newSelector (p .0) in
-    subst (Rows false) (sym (ap under (p .1 .own) ∙ under-within (p .1 .more))) (rows-read (p .1 .more) s (runs-pass l (p .1 .more) (p .1 .held) (InSelector s) (p .1 .runs))) .choices
+    let so : Rows false (under ts) = subst (Rows false) (sym (ap under (p .1 .own) ∙ under-within (p .1 .more))) (rows-read (p .1 .more) s (runs-pass l (p .1 .more) (p .1 .held) (InSelector s) (p .1 .runs))) in
+    (p .2, so .choices)
 section-said l (model w ts) p =
     let m = newModel (p .0) in
     let so : Says m ts = subst (Says m) (sym (p .1 .own)) (model-said (p .1 .more) m (runs-pass l (p .1 .more) (p .1 .held) (InModel m) (p .1 .runs))) in
-    record { type = λ x y. so .same x y (gave-none modelLines "Model_type" 0 type-place); first = so .list; ramp = so .ramp; tables = so .tables }
+    (p .2, record { type = λ x y. so .same x y (gave-none modelLines "Model_type" 0 type-place); first = so .list; ramp = so .ramp; tables = so .tables })
 
 pub sections-said : (l : Lengths) (ss : List SectionIs) → Every (SectionPasses l) ss → Every SectionSaid ss
 sections-said l [] p = tt

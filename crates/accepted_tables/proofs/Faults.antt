@@ -17,7 +17,7 @@ use Rattle.decimal.specs.declared.Decimal.{Decimal}
 use Rattle.decimal.specs.declared.Cell.{Cell}
 use Rattle.decimal.specs.declared.Cell.the-variants.{Number, Missing}
 use Rattle.words.specs.Words.{word, words}
-use Rattle.name_table.specs.Names.{Entry, meaning}
+use Rattle.name_table.specs.Names.{Naming, meaning}
 use Rattle.records.specs.declared.Triple.{Triple}
 use Rattle.records.specs.declared.RampCell.{RampCell}
 use Rattle.records.specs.declared.RampCell.the-variants.{Ratio, Absent}
@@ -120,7 +120,7 @@ pub cells-line-sure : (w : List ℕ) → Sure TypNumber (cellsLine w)
 unfolding cellsLine
 cells-line-sure w = behind-sure TypNumber threeCells w cells-sure
 
-pub word-line-sure : {A : Type 0} (table : List (Entry A)) (w : List ℕ) → Sure Any (wordLine table w)
+pub word-line-sure : {A : Type 0} (table : List (Naming A)) (w : List ℕ) → Sure Any (wordLine table w)
 unfolding wordLine wordIn
 word-line-sure table w = behind-sure Any _ w (λ ws. exactly-sure Any (wordIn table) 1 ws (sure-or (meaning (word 0 ws) table)))
   where

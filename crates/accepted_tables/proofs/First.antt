@@ -16,8 +16,8 @@ use Rattle.laws.proofs.Same.{eqs-eq}
 use Rattle.decimal.specs.Decimal.{lessThan}
 use Rattle.decimal.specs.declared.Cell.{Cell}
 use Rattle.decimal.specs.declared.Cell.the-variants.{Missing}
-use Rattle.words.specs.Words.{word, words, grown, onto}
-use Rattle.name_table.specs.Names.{Entry, meaning, placeFrom}
+use Rattle.words.specs.Words.{word, words, grown, ontoWord}
+use Rattle.name_table.specs.Names.{Naming, meaning, placeFrom}
 use Rattle.name_table.specs.Places.{namesOf}
 use Rattle.name_table.specs.declared.Found.the-variants.{At}
 use Rattle.keywords.specs.declared.ModelPart.{ModelPart}
@@ -46,7 +46,7 @@ use Rattle.accepted_tables.proofs.ModelSteps.{ModelLine, firstLine, cur
 
 -- ---- a word of the table of types is its type's name
 
-abbrev isSpelled : Entry ModelType → Bool
+abbrev isSpelled : Naming ModelType → Bool
 isSpelled e = eqs (e .name) (typeName (e .means))
 
 types-spelled : all isSpelled modelTypes ≡ true
@@ -59,7 +59,7 @@ some-is a b e = cc
 none-some : {A : Type 0} {X : Type 0} (a : A) → none ≡ some a → X
 none-some a e = let z : _≡_ {A = ℕ} 0 1 = cc in impossible z
 
-meaning-spelled : (es : List (Entry ModelType)) → all isSpelled es ≡ true → (w : List ℕ) (t : ModelType) → meaning w es ≡ some t → w ≡ typeName t
+meaning-spelled : (es : List (Naming ModelType)) → all isSpelled es ≡ true → (w : List ℕ) (t : ModelType) → meaning w es ≡ some t → w ≡ typeName t
 unfolding all meaning
 meaning-spelled [] h w t e = none-some t e
 meaning-spelled (x ∷ es) h w t e =
@@ -93,19 +93,19 @@ type-is p w t e =
 -- ---- places of the first lines, and the fault of a line at its place
 
 pub type-place : placeFrom 0 (bytes "Model_type") (words (bytes modelLines)) ≡ At 0
-unfolding placeFrom words grown onto isBlank eqs
+unfolding placeFrom words grown ontoWord isBlank eqs
 type-place = refl
 
 polarity-place : placeFrom 0 (bytes "Polarity") (words (bytes modelLines)) ≡ At 1
-unfolding placeFrom words grown onto isBlank eqs
+unfolding placeFrom words grown ontoWord isBlank eqs
 polarity-place = refl
 
 enable-place : placeFrom 0 (bytes "Enable") (words (bytes modelLines)) ≡ At 2
-unfolding placeFrom words grown onto isBlank eqs
+unfolding placeFrom words grown ontoWord isBlank eqs
 enable-place = refl
 
 comp-place : placeFrom 0 (bytes "C_comp") (words (bytes modelLines)) ≡ At 3
-unfolding placeFrom words grown onto isBlank eqs
+unfolding placeFrom words grown ontoWord isBlank eqs
 comp-place = refl
 
 module _ (w : List ℕ) where

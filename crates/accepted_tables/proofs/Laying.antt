@@ -28,7 +28,7 @@ use Rattle.accepted_tables.specs.Facts.{Every, Unique, spanIn, Component
 use Rattle.accepted_tables.proofs.Checks.{runs-pass}
 use Rattle.accepted_tables.proofs.Sections.{newComponent, newSelector, SectionPasses}
 use Rattle.layout_by_notes.proofs.Ahead.{under-within}
-use Rattle.accepted_tables.proofs.Components.{Parts, parts-read, Rows, rows-read}
+use Rattle.accepted_tables.proofs.Components.{Parts, parts-read, maker-least, Rows, rows-read}
 use Rattle.accepted_tables.specs.Fallbacks.{PinLine, ChoiceLine}
 use Rattle.accepted_tables.proofs.Members.{map-through}
 use Rattle.accepted_tables.proofs.Events.{pin-named, pin-sized, model-sized}
@@ -127,7 +127,7 @@ module _ (len : Lengths) (w : List ℕ) (ts : List Text) where
       let c : ComponentState = newComponent (p .0) in
       let parts : Parts c ts = subst (Parts c) (sym (p .1 .own)) (parts-read len (p .1 .more) c (p .1 .held) (p .1 .runs)) in
       record {
-        manufacturer = parts .maker (nameLaid []) (not-given 0);
+        manufacturer = maker-least ts (parts .maker [] (not-given 0));
         resistance = parts .resistance noCells (not-given 1);
         inductance = parts .inductance noCells (not-given 1);
         capacitance = parts .capacitance noCells (not-given 1);

@@ -15,9 +15,11 @@ pub mod ComponentSteps
 pub mod Components
 pub mod Members
 pub mod Events
+pub mod Ended
 pub mod Names
 pub mod Fresh
 pub mod Laying
 pub mod Tables
+pub mod Header
 pub mod Fallbacks
 pub mod Facts

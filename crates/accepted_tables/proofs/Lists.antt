@@ -11,7 +11,7 @@ use Rattle.laws.specs.Said.{Said, says, faultIn}
 use Rattle.laws.proofs.Tests.{by-test, cond-no, impossible}
 use Rattle.laws.proofs.Same.{eqs-eq}
 use Rattle.decimal.specs.declared.Cell.{Cell}
-use Rattle.words.specs.Words.{word, words, grown, onto}
+use Rattle.words.specs.Words.{word, words, grown, ontoWord}
 use Rattle.name_table.specs.Names.{placeFrom}
 use Rattle.name_table.specs.declared.Found.the-variants.{At}
 use Rattle.records.specs.declared.Row.{Row}
@@ -64,23 +64,23 @@ list-shuts (WaveformRows o g r) s = (none-left 1000 r (s .2), λ x q. q (s .0), 
 -- ---- places
 
 pub rise-place : placeFrom 0 (bytes "dV/dt_r") (words (bytes rampLines)) ≡ At 0
-unfolding placeFrom words grown onto isBlank eqs
+unfolding placeFrom words grown ontoWord isBlank eqs
 rise-place = refl
 
 pub fall-place : placeFrom 0 (bytes "dV/dt_f") (words (bytes rampLines)) ≡ At 1
-unfolding placeFrom words grown onto isBlank eqs
+unfolding placeFrom words grown ontoWord isBlank eqs
 fall-place = refl
 
 load-place : placeFrom 0 (bytes "R_load") (words (bytes rampLines)) ≡ At 2
-unfolding placeFrom words grown onto isBlank eqs
+unfolding placeFrom words grown ontoWord isBlank eqs
 load-place = refl
 
 pub resistor-place : placeFrom 0 (bytes "R_fixture") (words (bytes fixtures)) ≡ At 0
-unfolding placeFrom words grown onto isBlank eqs
+unfolding placeFrom words grown ontoWord isBlank eqs
 resistor-place = refl
 
 pub voltage-place : placeFrom 0 (bytes "V_fixture") (words (bytes fixtures)) ≡ At 1
-unfolding placeFrom words grown onto isBlank eqs
+unfolding placeFrom words grown ontoWord isBlank eqs
 voltage-place = refl
 
 -- ---- a named line

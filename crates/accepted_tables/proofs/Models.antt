@@ -12,7 +12,7 @@ use Rattle.decimal.specs.Decimal.{lessThan}
 use Rattle.decimal.specs.declared.Decimal.{Decimal}
 use Rattle.decimal.specs.declared.Cell.{Cell}
 use Rattle.decimal.specs.declared.Cell.the-variants.{Missing}
-use Rattle.words.specs.Words.{words, grown, onto}
+use Rattle.words.specs.Words.{words, grown, ontoWord}
 use Rattle.cut_lines.specs.Texts.{Text}
 use Rattle.records.specs.Stored.{noCells}
 use Rattle.records.specs.declared.Lengths.{Lengths}
@@ -48,7 +48,7 @@ no-waveform : (oneOf (bytes "pulldown") (words (bytes waveformKeywords)) ≡ fal
     × (oneOf (bytes "pullup") (words (bytes waveformKeywords)) ≡ false)
     × (oneOf (bytes "gnd_clamp") (words (bytes waveformKeywords)) ≡ false)
     × (oneOf (bytes "power_clamp") (words (bytes waveformKeywords)) ≡ false)
-unfolding oneOf eqs words grown onto isBlank
+unfolding oneOf eqs words grown ontoWord isBlank
 no-waveform = (refl, refl, refl, refl)
 
 module _ (l : Lengths) (w : List ℕ) (ts : List Text) (p : SectionPasses l (model w ts)) where

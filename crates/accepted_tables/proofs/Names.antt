@@ -22,7 +22,7 @@ use Rattle.records.specs.declared.Kind.{Kind}
 use Rattle.records.specs.declared.Kind.the-variants.{OfComponent, OfPin, OfSelector, OfChoice, OfModel}
 use Rattle.rules.specs.Component.{keptModel}
 use Rattle.rules.specs.Outline.{Entry, place, is, isModelOrSelector, named, lists, isUsed, isFound, isListed, firstFailing}
-use Rattle.rules.specs.Last.{found, listed}
+use Rattle.rules.specs.Last.{found, listedIn}
 use Rattle.notes.specs.Noted.{Note, entryOf, orUsed, clash}
 use Rattle.layout_by_notes.specs.Lies.{pick, isOf}
 use Rattle.accepted_tables.specs.Facts.{Every, Among, Unique, noModels}
@@ -246,7 +246,7 @@ module _ (ns : List Note) (fine : Every Fine ns) where
       subst (λ (y : Name). Among y (map choiceModel (of OfChoice))) (ap nameLaid (sym same))
       (among-map choiceModel (r .0) (of OfChoice) (of-in OfChoice (r .0) choice (r .1)))
 
-  module _ (h : firstFailing (listed all) all ≡ 0) where
+  module _ (h : firstFailing (listedIn all) all ≡ 0) where
     pub models-listed : Every Listed (map noteName (of OfModel))
     models-listed = every-in Listed (map noteName (of OfModel)) by
       where
@@ -257,7 +257,7 @@ module _ (ns : List Note) (fine : Every Fine ns) where
             let own = in-of OfModel n (r .1) in
             let kind : n .kind ≡ OfModel = kind-is OfModel (entryOf n) (own .0) in
             let free : needsNoModel (n .name) ≡ false = subst (Own n) kind (every-at Fine ns n fine (own .1) .own) in
-            let there : (lists (is OfPin) (n .name) all || lists (is OfChoice) (n .name) all) ≡ true = sym (ap (isListed all (entryOf n)) kind) ∙ passing (listed all) h n (own .1) in
+            let there : (lists (is OfPin) (n .name) all || lists (is OfChoice) (n .name) all) ≡ true = sym (ap (isListed all (entryOf n)) kind) ∙ passing (listedIn all) h n (own .1) in
             subst Listed (sym (r .2))
             (⊎-elim (λ t. inl (named-by-pin n free t)) (λ t. inr (named-by-choice n t)) (or-split (lists (is OfPin) (n .name) all) (lists (is OfChoice) (n .name) all) there))
 
@@ -271,7 +271,7 @@ module _ (ns : List Note) (fine : Every Fine ns) where
             let own = in-of OfSelector n (r .1) in
             let kind : n .kind ≡ OfSelector = kind-is OfSelector (entryOf n) (own .0) in
             let free : needsNoModel (n .name) ≡ false = subst (Own n) kind (every-at Fine ns n fine (own .1) .own) in
-            let there : lists (is OfPin) (n .name) all ≡ true = sym (ap (isListed all (entryOf n)) kind) ∙ passing (listed all) h n (own .1) in
+            let there : lists (is OfPin) (n .name) all ≡ true = sym (ap (isListed all (entryOf n)) kind) ∙ passing (listedIn all) h n (own .1) in
             subst (λ (y : Name). Among y (map pinModel (of OfPin))) (sym (r .2)) (named-by-pin n free there)
 
 -- ---- no name is used twice

@@ -13,7 +13,7 @@ use Rattle.laws.specs.Lists.{eqs, front}
 use Rattle.laws.specs.Said.{Said, says, faultIn, orElse}
 use Rattle.laws.proofs.Tests.{cond-all, cond-yes}
 use Rattle.decimal.specs.declared.Cell.the-variants.{Missing}
-use Rattle.words.specs.Words.{words, grown, onto}
+use Rattle.words.specs.Words.{words, grown, ontoWord}
 use Rattle.keywords.specs.Form.{argument}
 use Rattle.keywords.specs.Carried.{keyOf}
 use Rattle.keywords.specs.declared.Keyword.the-variants as key
@@ -112,7 +112,7 @@ parts-done m s d =
 -- ---- a text without a keyword
 
 pub tables-skip : (t : Text) (ts : List Text) → keyName t ≡ [] → tablesIn (t ∷ ts) ≡ tablesIn ts
-unfolding tablesIn oneOf eqs words grown onto isBlank
+unfolding tablesIn oneOf eqs words grown ontoWord isBlank
 tables-skip t ts e =
     ap (λ (name : List ℕ). cond (oneOf name (words (bytes tableKeywords))) (record { key = name; lines = under ts } ∷ []) [] ++ tablesIn ts) e
 
@@ -262,7 +262,7 @@ module _ (k : ℕ) (ls : List (List ℕ)) where
       }
 
   table-opened : (p : ModelPart) → ListReads (modelOpens k p) ls → (more : List TableIs) → Every TableReads more → Every TableReads (withTable p more)
-  unfolding oneOf eqs words grown onto isBlank
+  unfolding oneOf eqs words grown ontoWord isBlank
   table-opened VoltageRange r more so = so
   table-opened TemperatureRange r more so = so
   table-opened (Current Pulldown) r more so = (rows-facts 100 (rowsIn ls) (omega arith) r, so)
@@ -275,7 +275,7 @@ module _ (k : ℕ) (ls : List (List ℕ)) where
 
 -- how many waveforms a keyword opens
 waves-opened : (k : ℕ) (ls : List (List ℕ)) (p : ModelPart) (more : List TableIs) → wavesIn (withTable k ls p more) ≡ cond (eqb (modelPlace p) 7) 1 0 + wavesIn more
-unfolding oneOf eqs words grown onto isBlank
+unfolding oneOf eqs words grown ontoWord isBlank
 waves-opened k ls VoltageRange more = omega arith
 waves-opened k ls TemperatureRange more = omega arith
 waves-opened k ls (Current Pulldown) more = omega arith

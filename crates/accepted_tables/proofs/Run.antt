@@ -12,7 +12,7 @@ use Rattle.lines.specs.declared.Bytes.{Bytes}
 use Rattle.lines.specs.declared.Bytes.the-variants.{Clean, Faulty}
 use Rattle.rules.specs.Outline.{Entry, count, firstFailing}
 use Rattle.rules.specs.Whole.{Held, nothingHeld, Outcome, passed, refused, runs, lastChecks, concluded, textsOf, afterBytes, outcome}
-use Rattle.rules.specs.Last.{found, listed}
+use Rattle.rules.specs.Last.{found, listedIn}
 use Rattle.records.specs.declared.Fault.{Fault}
 use Rattle.records.specs.declared.Kind.the-variants.{OfComponent, OfPin, OfSelector, OfChoice, OfModel}
 use Rattle.records.specs.declared.Lengths.{Lengths}
@@ -33,16 +33,16 @@ bytes-passed go (Faulty x) z q = impossible (cc)
 -- the last checks pass
 pub record Checked (es : List Entry) : Type 0 where
   pub found : firstFailing (found es) es ≡ 0
-  pub listed : firstFailing (listed es) es ≡ 0
+  pub listed : firstFailing (listedIn es) es ≡ 0
 
 checks-passed : (es : List Entry) (o : Outcome) (z : Held) → lastChecks es o ≡ passed z → Checked es
 unfolding lastChecks
 checks-passed es o z q =
     by-test (eqb (firstFailing (found es) es) 0)
     (λ f.
-    by-test (eqb (firstFailing (listed es) es) 0)
+    by-test (eqb (firstFailing (listedIn es) es) 0)
     (λ g. record { found = eqb-true _ _ f; listed = eqb-true _ _ g })
-    (λ g. let e : refused 16 (firstFailing (listed es) es) ≡ passed z = sym (cond-no _ _ g) ∙ sym (cond-yes _ _ f) ∙ q in impossible (cc)))
+    (λ g. let e : refused 16 (firstFailing (listedIn es) es) ≡ passed z = sym (cond-no _ _ g) ∙ sym (cond-yes _ _ f) ∙ q in impossible (cc)))
     (λ f. let e : refused 15 (firstFailing (found es) es) ≡ passed z = sym (cond-no _ _ f) ∙ q in impossible (cc))
 
 concluded-passed : (o : Outcome) (z : Held) → concluded o ≡ passed z → (h : Held) × (o ≡ passed h) × Checked (reverse (h .entries))

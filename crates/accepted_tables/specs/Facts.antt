@@ -195,9 +195,11 @@ pub record NameFacts (a : Laid) : Type 0 where
 
 -- ---- the tables
 
-pub record Accepted (l : Lengths) (a : Laid) : Type 0 where
+pub record AcceptedTables (l : Lengths) (a : Laid) : Type 0 where
   -- every count is within document 01's bound and within what was lent
   pub counts : Bounded l (countsOf a)
+  -- "At least one component in a file"
+  pub least : 1 ≤ length (a .components)
   pub names : NameFacts a
   pub components : Every (ComponentFacts (a .pins)) (a .components)
   pub selectors : Every (SelectorFacts (a .choices)) (a .selectors)

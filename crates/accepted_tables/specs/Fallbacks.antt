@@ -1,20 +1,22 @@
--- Where what is read falls back (a bad cell to a missing one, a bad row to none, no type to Terminator), the fallback never speaks in an accepted file.
-use Prim.Native.Nat.{ℕ}
+-- Where what is read falls back (a bad cell to a missing one, a bad row to none, no type to Terminator, no file name to an empty one, a long name to
+-- its first 40 bytes), the fallback never speaks in an accepted file.
+use Prim.Native.Nat.{ℕ, _≤_}
 use mathlib.Core.Path.{_≡_}
-use mathlib.Core.List.{List}
+use mathlib.Core.List.{List, []}
 use mathlib.Core.Logic.{_⊎_}
 use mathlib.Core.Bool.{Bool, true, false}
+use lib.ListN.{length}
 use Rattle.laws.specs.Bytes.{bytes}
 use Rattle.laws.specs.Said.{says, faultIn}
 use Rattle.words.specs.Words.{word, words}
 use Rattle.cut_lines.specs.Texts.{Text}
 use Rattle.records.specs.declared.ModelType.{ModelType}
 use Rattle.records.specs.declared.Row.{Row}
-use Rattle.line_rules.specs.Fields.{isModelName, oneOf, wordLine, cellsLine, numberLine, rowOf, lineSays}
+use Rattle.line_rules.specs.Fields.{isSized, isModelName, isFileName, oneWord, oneOf, wordLine, cellsLine, numberLine, rowOf, lineSays}
 use Rattle.line_rules.specs.Tables.{locations, modelTypes, waveformKeywords}
 use Rattle.rules.specs.Component.{pinFault}
 use Rattle.rules.specs.Model.{firstFault, rampFault, beginsLetter}
-use Rattle.rules.specs.Reading.{under, linesUnder, TableIs, tablesIn, SectionIs, component, selector, model}
+use Rattle.rules.specs.Reading.{under, linesUnder, keySays, TableIs, tablesIn, SectionIs, component, selector, model, FileIs}
 use Rattle.accepted_tables.specs.Facts.{Every}
 
 -- ---- lines without a fault
@@ -49,6 +51,8 @@ TableLines false ls = Every RowLine ls
 -- ---- a component's texts
 
 pub record ComponentSaid (ts : List Text) : Type 0 where
+  -- "(1 to 40 characters)"
+  pub maker : isSized 40 (keySays "manufacturer" (λ w ls. w) [] ts) ≡ true
   pub first : Every LocationLine (under ts)
   pub packaged : Every PackageLine (linesUnder "package" ts)
   pub pins : Every PinLine (linesUnder "pin" ts)
@@ -62,9 +66,17 @@ pub record ModelSaid (ts : List Text) : Type 0 where
   pub ramp : Every (λ (w : List ℕ). rampFault w ≡ 0) (linesUnder "ramp" ts)
   pub tables : Every (λ (t : TableIs). TableLines (oneOf (t .key) (words (bytes waveformKeywords))) (t .lines)) (tablesIn ts)
 
--- ---- a section
+-- ---- a section, and its name w: it has 1 to 40 characters, so that none of them is cut
 
 abbrev pub SectionSaid : SectionIs → Type 0
-SectionSaid (component w ts) = ComponentSaid ts
-SectionSaid (selector w ts) = Every ChoiceLine (under ts)
-SectionSaid (model w ts) = ModelSaid ts
+SectionSaid (component w ts) = (isSized 40 w ≡ true) × ComponentSaid ts
+SectionSaid (selector w ts) = (isModelName w ≡ true) × Every ChoiceLine (under ts)
+SectionSaid (model w ts) = (isModelName w ≡ true) × ModelSaid ts
+
+-- ---- a file: its header, and every section
+
+pub record FileSaid (f : FileIs) : Type 0 where
+  -- "[File Name] (one word: ..), [File Rev] (not empty), both required"
+  pub name : oneWord isFileName (words (f .name)) ≡ true
+  pub revision : 1 ≤ length (f .revision)
+  pub sections : Every SectionSaid (f .sections)

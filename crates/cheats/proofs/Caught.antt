@@ -14,8 +14,8 @@ use Rattle.records.specs.declared.Verdict.{Verdict}
 use Rattle.records.specs.declared.Verdict.the-variants.{Accepted, Refused}
 use Rattle.reader.specs.Promise.{Lent, lengthsIn, Reads}
 use Rattle.reader.proofs.Strength as strength
-use Rattle.examples.specs.Starred.{lent}
-use Rattle.demand_three.specs.Demand as demand
+use Rattle.examples.specs.Starred.{atBounds}
+use Rattle.demand_three.specs.Demand.{AcceptedFile}
 use Rattle.cheats.specs.Files.{listed, misnamed, altered, clamped}
 use Rattle.cheats.specs.Cheats.{AtBounds, nameLength, Refuses, AcceptsEmpty, WritesNothing, SkipsModels, Pretends, clampRows, MakesUpRows, ofFile, ofTable}
 use Rattle.cheats.proofs.Computed.{compDigits, laidOf, listed-passes, misnamed-fails, altered-passes, clamped-passes, listed-counts, clamped-rows, listed-name, listed-comp, altered-comp, clamped-clamp}
@@ -26,11 +26,11 @@ apart v f taken denied = impossible (cc)
 
 -- whatever the tables hold
 module _ (t : Lent) (long : AtBounds t) (r : Answer) (u : Lent) where
-  at : (s : List ℕ) → outcome (lengthsIn t) s ≡ outcome lent s
+  at : (s : List ℕ) → outcome (lengthsIn t) s ≡ outcome atBounds s
   at s = ap (λ l. outcome l s) long
 
   -- ---- what the promise says of a file that is accepted
-  module _ (s : List ℕ) (fine : demand.Accepted lent s) (reads : Reads s t r u) where
+  module _ (s : List ℕ) (fine : AcceptedFile atBounds s) (reads : Reads s t r u) where
     passes : outcome (lengthsIn t) s ≡ passed (fine .held)
     passes = at s ∙ fine .passes
 

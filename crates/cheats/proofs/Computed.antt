@@ -12,9 +12,9 @@ use Rattle.rules.specs.Whole.{refused, outcome, textsOf}
 use Rattle.rules.specs.Reading.{fileIn}
 use Rattle.layout.specs.Laid.{Laid, laid, countsOf}
 use Rattle.examples.specs.Computing.{computing}
-use Rattle.examples.specs.Starred.{lent, firstSection}
+use Rattle.examples.specs.Starred.{atBounds, firstSection}
 use Rattle.demand_three.specs.Lines.{textOn, charAfterLine, charAfterLines, sectionsOn, beginsAnother}
-use Rattle.demand_three.specs.Demand.{Accepted}
+use Rattle.demand_three.specs.Demand.{AcceptedFile}
 use Rattle.cheats.specs.Files.{listed, misnamed, altered, clamped}
 use Rattle.cheats.specs.Cheats.{nameLength, clampRows, SameFirst}
 
@@ -30,19 +30,19 @@ compDigits (m ∷ ms) = digitsOf (m .comp .typ)
 
 -- ---- the files
 
-pub listed-passes : Accepted lent listed
+pub listed-passes : AcceptedFile atBounds listed
 unfolding computing
 listed-passes = record { held = _; passes = refl }
 
-pub misnamed-fails : outcome lent misnamed ≡ refused 15 12
+pub misnamed-fails : outcome atBounds misnamed ≡ refused 15 12
 unfolding computing
 misnamed-fails = refl
 
-pub altered-passes : Accepted lent altered
+pub altered-passes : AcceptedFile atBounds altered
 unfolding computing
 altered-passes = record { held = _; passes = refl }
 
-pub clamped-passes : Accepted lent clamped
+pub clamped-passes : AcceptedFile atBounds clamped
 unfolding computing
 clamped-passes = record { held = _; passes = refl }
 

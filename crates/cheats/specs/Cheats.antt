@@ -13,7 +13,7 @@ use Rattle.records.specs.declared.Verdict.the-variants.{Accepted, Refused}
 use Rattle.records.specs.declared.Answer.{Answer}
 use Rattle.records.specs.declared.Model.{Model}
 use Rattle.reader.specs.Promise.{Lent, lengthsIn, Reads}
-use Rattle.examples.specs.Starred.{lent}
+use Rattle.examples.specs.Starred.{atBounds}
 
 -- ---- a reader, and what it promises
 
@@ -23,13 +23,13 @@ pub record Reader : Type 0 where
   pub leaves : List ℕ → Lent → Lent
 
 -- the promise of `read`, for any bytes and any tables: demands 1 and 2
-abbrev pub Keeps : Reader → Type 0
-Keeps p = (s : List ℕ) (t : Lent) → Reads s t (p .answers s t) (p .leaves s t)
+abbrev pub KeepsPromise : Reader → Type 0
+KeepsPromise p = (s : List ℕ) (t : Lent) → Reads s t (p .answers s t) (p .leaves s t)
 
 -- ---- tables that are lent: as long as document 01's bounds, and 1,000 rows
 
 abbrev pub AtBounds : Lent → Type 0
-AtBounds t = lengthsIn t ≡ lent
+AtBounds t = lengthsIn t ≡ atBounds
 
 -- the length of the first model's name
 abbrev pub nameLength : List Model → ℕ

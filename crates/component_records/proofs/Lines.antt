@@ -8,7 +8,7 @@ use Rattle.laws.specs.Said.{Said, says, fault}
 use native.Mathlib.Omega.{arith}
 use Rattle.named_lines.specs.Views.{locationRead}
 use Rattle.named_lines.specs.declared.LocationRead.the-variants.{Located, NoLocation}
-use Rattle.words.specs.Words.{words, grown, onto}
+use Rattle.words.specs.Words.{words, grown, ontoWord}
 use Rattle.name_table.specs.Names.{placeFrom}
 use Rattle.name_table.specs.declared.Found.the-variants.{At, Nothing}
 use Rattle.records.specs.declared.Triple.{Triple}
@@ -31,7 +31,7 @@ site-fold = record { none = λ x. refl; more = λ x w ws. refl }
 
 module _ (b : Boxes) (w : List ℕ) where
   pub box-named : (n : ℕ) (t : Triple) → lineAt packageLines w ≡ At n → cellsLine w ≡ says t → boxAt b n t ≡ boxLine b w
-  unfolding placeFrom words grown onto isBlank eqs
+  unfolding placeFrom words grown ontoWord isBlank eqs
   box-named n t e q =
       rw (takes-at "R_pkg" cellsLine (b .resistance) w packageLines n 0 e refl q, takes-at "L_pkg" cellsLine (b .inductance) w packageLines n 1 e refl q, takes-at "C_pkg" cellsLine (b .capacitance) w packageLines n 2 e refl q)
 
@@ -40,7 +40,7 @@ module _ (b : Boxes) (w : List ℕ) where
       rw (takes-fault "R_pkg" cellsLine (b .resistance) w n q, takes-fault "L_pkg" cellsLine (b .inductance) w n q, takes-fault "C_pkg" cellsLine (b .capacitance) w n q)
 
   pub box-nothing : lineAt packageLines w ≡ Nothing → b ≡ boxLine b w
-  unfolding placeFrom words grown onto isBlank eqs
+  unfolding placeFrom words grown ontoWord isBlank eqs
   box-nothing e =
       rw (takes-nothing "R_pkg" cellsLine (b .resistance) w packageLines 0 e refl, takes-nothing "L_pkg" cellsLine (b .inductance) w packageLines 1 e refl, takes-nothing "C_pkg" cellsLine (b .capacitance) w packageLines 2 e refl)
 
@@ -55,7 +55,7 @@ located (fault n) l e = clash cc
 
 module _ (x : Sites) (w : List ℕ) where
   pub site-named : (n : ℕ) (l : Location) → lineAt componentLines w ≡ At n → wordLine locations w ≡ says l → siteAt x n l ≡ siteLine x w
-  unfolding placeFrom words grown onto isBlank eqs
+  unfolding placeFrom words grown ontoWord isBlank eqs
   site-named n l e q =
       rw (takes-at "Si_location" (wordLine locations) (x .si) w componentLines n 0 e refl q, takes-at "Timing_location" (wordLine locations) (x .timing) w componentLines n 1 e refl q)
 
@@ -71,6 +71,6 @@ module _ (x : Sites) (w : List ℕ) where
   site-unread e = unread-by (wordLine locations w) refl e
 
   pub site-nothing : lineAt componentLines w ≡ Nothing → x ≡ siteLine x w
-  unfolding placeFrom words grown onto isBlank eqs
+  unfolding placeFrom words grown ontoWord isBlank eqs
   site-nothing e =
       rw (takes-nothing "Si_location" (wordLine locations) (x .si) w componentLines 0 e refl, takes-nothing "Timing_location" (wordLine locations) (x .timing) w componentLines 1 e refl)

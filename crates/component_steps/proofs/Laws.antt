@@ -11,7 +11,7 @@ use Rattle.laws.specs.Bytes.{isBlank}
 use Rattle.laws.specs.Lists.{eqs}
 use Rattle.laws.specs.Said.{faultIn}
 use Rattle.laws.proofs.Tests.{cond-yes, cond-no, and-both, and-left, and-right}
-use Rattle.words.specs.Words.{word, words, grown, onto}
+use Rattle.words.specs.Words.{word, words, grown, ontoWord}
 use Rattle.name_table.specs.Names.{placeFrom}
 use Rattle.line_rules.specs.Fields.{isPinName, isSized, isPinModel}
 use Rattle.line_rules.specs.Tables.{packageLines}
@@ -74,5 +74,5 @@ row-names {a} {b} {c} long o p = sym (row-opened long o ∙ cond-yes _ _ (and-bo
 -- ---- [Package]
 
 pub package-given : (g : Given) → allThree g ≡ (gave g packageLines "R_pkg" && (gave g packageLines "L_pkg" && gave g packageLines "C_pkg"))
-unfolding gave placeFrom words grown onto isBlank eqs
+unfolding gave placeFrom words grown ontoWord isBlank eqs
 package-given g = refl

@@ -10,7 +10,7 @@ use Rattle.laws.proofs.Tests.{cond-yes, cond-no}
 use Rattle.laws.proofs.Lists.{part-length}
 use Rattle.lines.specs.Lines.{Physical, linesOf, cut}
 use Rattle.lines.proofs.Places.{cut-take}
-use Rattle.cut_lines.specs.Texts.{Text, plain, change, onto, textsFrom}
+use Rattle.cut_lines.specs.Texts.{Text, plain, change, ontoTexts, textsFrom}
 use Rattle.cut_lines.specs.Cursors.{rest, past, Placed, Steps, CutIs, ChangedIs, Goes}
 use Rattle.cut_lines.specs.declared.Cursor.{Cursor}
 
@@ -49,18 +49,18 @@ module _ (s : List ℕ) (c n : Cursor) (l : Physical) (h : Steps s c l n) where
   pub goes-step : Placed s c → Goes s c n
   goes-step p = record { placed = placed-step p; rises = h .rises; ends = past-step }
 
-onto-none : (k : ℕ) (w : List ℕ) (ts : List Text) → length w ≡ 0 → onto k w ts ≡ ts
-unfolding onto
+onto-none : (k : ℕ) (w : List ℕ) (ts : List Text) → length w ≡ 0 → ontoTexts k w ts ≡ ts
+unfolding ontoTexts
 onto-none k [] ts h = refl
 onto-none k (b ∷ bs) ts h = absurd (omega arith)
 
-onto-some : (k : ℕ) (w : List ℕ) (ts : List Text) → 0 < length w → onto k w ts ≡ plain k w ∷ ts
-unfolding onto
+onto-some : (k : ℕ) (w : List ℕ) (ts : List Text) → 0 < length w → ontoTexts k w ts ≡ plain k w ∷ ts
+unfolding ontoTexts
 onto-some k [] ts h = absurd (omega arith)
 onto-some k (b ∷ bs) ts h = refl
 
 module _ (s : List ℕ) (c : Cursor) (e : ℕ) (n : Cursor) (h : CutIs s c e n) where
-  rest-cut : rest s c ≡ onto (c .line) (part (c .at) e s) (rest s n)
+  rest-cut : rest s c ≡ ontoTexts (c .line) (part (c .at) e s) (rest s n)
   unfolding rest textsFrom
   rest-cut =
       ap (textsFrom (c .comment) (c .line)) (h .steps .more)

@@ -7,7 +7,7 @@ use lib.ListN.{length}
 use Rattle.laws.proofs.Tests.{by-test}
 use Rattle.lines.specs.Lines.{Physical, cut}
 use Rattle.cut_lines.specs.Change.{isChange, changeOf}
-use Rattle.cut_lines.specs.Texts.{Text, plain, change, onto, textsFrom}
+use Rattle.cut_lines.specs.Texts.{Text, plain, change, ontoTexts, textsFrom}
 use Rattle.laws.specs.Said.{orElse}
 
 -- f is the new number of each line
@@ -15,8 +15,8 @@ abbrev pub textAt : (ℕ → ℕ) → Text → Text
 textAt f (plain k w) = plain (f k) w
 textAt f (change k n) = change (f k) n
 
-onto-map : (f : ℕ → ℕ) (k : ℕ) (w : List ℕ) (ts : List Text) → map (textAt f) (onto k w ts) ≡ onto (f k) w (map (textAt f) ts)
-unfolding onto
+onto-map : (f : ℕ → ℕ) (k : ℕ) (w : List ℕ) (ts : List Text) → map (textAt f) (ontoTexts k w ts) ≡ ontoTexts (f k) w (map (textAt f) ts)
+unfolding ontoTexts
 onto-map f k [] ts = refl
 onto-map f k (b ∷ bs) ts = refl
 

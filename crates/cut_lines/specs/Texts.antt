@@ -13,9 +13,9 @@ pub data Text : Type 0 where
   change : ℕ → ℕ → Text
 
 -- a line left empty is skipped
-unfoldable pub onto : ℕ → List ℕ → List Text → List Text
-onto k [] ts = ts
-onto k (b ∷ bs) ts = plain k (b ∷ bs) ∷ ts
+unfoldable pub ontoTexts : ℕ → List ℕ → List Text → List Text
+ontoTexts k [] ts = ts
+ontoTexts k (b ∷ bs) ts = plain k (b ∷ bs) ∷ ts
 
 -- c is the comment character in force, k the number of the first line; a new character holds from its line on. On a [Comment Char] line nothing is cut first
 unfoldable pub textsFrom : ℕ → ℕ → List Physical → List Text
@@ -23,4 +23,4 @@ textsFrom c k [] = []
 textsFrom c k (l ∷ ls) =
     cond (isChange (l .bytes))
     (change k (faultIn (changeOf (l .bytes))) ∷ textsFrom (orElse c (changeOf (l .bytes))) (k + 1) ls)
-    (onto k (cut c (l .bytes)) (textsFrom c (k + 1) ls))
+    (ontoTexts k (cut c (l .bytes)) (textsFrom c (k + 1) ls))

@@ -12,7 +12,7 @@ use Rattle.laws.specs.Lists.{trim, keep}
 use Rattle.laws.proofs.Tests.{by-test}
 use Rattle.laws.proofs.Trims.{trim-cut, trim-kept, trim-le}
 use Rattle.decimal.specs.Decimal.{numeral, numeralFrom, significant, zerosCut}
-use Rattle.decimal.specs.Parts.{cap, Stands, isZero}
+use Rattle.decimal.specs.Parts.{cap, StandsFor, isZero}
 use Rattle.decimal.proofs.Capped.{grown, pushed}
 
 pub numeral-append : (n : ℕ) (xs ys : List ℕ) → numeralFrom n (xs ++ ys) ≡ numeralFrom (numeralFrom n xs) ys
@@ -67,12 +67,12 @@ significant-numeral ds = trim-numeral 0 ds
 
 -- ---- what n and zeros stand for
 
-pub stands-none : Stands 0 0 []
+pub stands-none : StandsFor 0 0 []
 unfolding numeral numeralFrom significant zerosCut trim
 stands-none = record { number = refl; cut = refl }
 
 -- a zero more waits
-pub stands-zero : (n z b : ℕ) (ds : List ℕ) → b ≡ code "0" → Stands n z ds → Stands n (z + 1) (ds ++ (b ∷ []))
+pub stands-zero : (n z b : ℕ) (ds : List ℕ) → b ≡ code "0" → StandsFor n z ds → StandsFor n (z + 1) (ds ++ (b ∷ []))
 unfolding significant zerosCut
 stands-zero n z b ds h s =
     let t = trim-cut isZero b ds (zero-yes b h) in
@@ -82,8 +82,8 @@ stands-zero n z b ds h s =
     }
 
 -- another digit takes the waiting zeros in
-pub stands-digit : (n z b g r : ℕ) (ds : List ℕ) → (b ≡ code "0" → ⊥) → Stands n z ds
-    → g ≡ min (n * 10 ^ z) cap → r ≡ min (g * 10 + (b - code "0")) cap → Stands r 0 (ds ++ (b ∷ []))
+pub stands-digit : (n z b g r : ℕ) (ds : List ℕ) → (b ≡ code "0" → ⊥) → StandsFor n z ds
+    → g ≡ min (n * 10 ^ z) cap → r ≡ min (g * 10 + (b - code "0")) cap → StandsFor r 0 (ds ++ (b ∷ []))
 unfolding significant zerosCut numeral numeralFrom
 stands-digit n z b g r ds h s e q =
     let t = trim-kept isZero b ds (zero-no b h) in
@@ -97,7 +97,7 @@ stands-digit n z b g r ds h s e q =
     }
 
 -- all digits with their zeros
-pub stands-whole : (n z g : ℕ) (ds : List ℕ) → Stands n z ds → g ≡ min (n * 10 ^ z) cap → g ≡ min (numeral ds) cap
+pub stands-whole : (n z g : ℕ) (ds : List ℕ) → StandsFor n z ds → g ≡ min (n * 10 ^ z) cap → g ≡ min (numeral ds) cap
 stands-whole n z g ds s e =
     grown n (numeral (significant ds)) z cap g (s .number) e
     ∙ ap (λ (k : ℕ). min (numeral (significant ds) * 10 ^ k) cap) (s .cut)

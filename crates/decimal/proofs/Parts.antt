@@ -16,14 +16,14 @@ use Rattle.laws.proofs.Fronts.{front-more, front-at, after-at}
 use Rattle.decimal.specs.declared.word.Sign.{Sign}
 use Rattle.decimal.specs.declared.word.Figures.{Figures}
 use Rattle.decimal.specs.Decimal.{isMinus, afterSign, pointPlaces, afterPoint, figures, afterFigures, afterE, exponentDigits, letters, numeral, numeralFrom}
-use Rattle.decimal.specs.Parts.{cap, Stands, SignRead, DigitsRead, MantissaRead, ExponentRead, places}
+use Rattle.decimal.specs.Parts.{cap, StandsFor, SignRead, DigitsRead, MantissaRead, ExponentRead, places}
 use Rattle.laws.proofs.Bytes.{digit-yes}
 use Rattle.decimal.proofs.Numerals.{stands-none, stands-zero, stands-digit, stands-whole}
 
 -- ---- digits: those from `at` up to i are passed
 
 pub record Passed (w : List ℕ) (at n zeros m z i : ℕ) : Type 0 where
-  pub stands : (ds : List ℕ) → Stands n zeros ds → Stands m z (ds ++ part at i w)
+  pub stands : (ds : List ℕ) → StandsFor n zeros ds → StandsFor m z (ds ++ part at i w)
   pub stop : i + length (front isDigit (drop i w)) ≡ at + length (front isDigit (drop at w))
   pub from : at ≤ i
   pub within : i ≤ length w
@@ -34,7 +34,7 @@ module _ (w : List ℕ) (at n zeros : ℕ) where
   pub passed-none : at ≤ length w → n ≤ cap → zeros ≤ at → Passed w at n zeros n zeros at
   passed-none h k l =
       record {
-        stands = λ ds s. subst (Stands n zeros) (sym (ap (λ (l : List ℕ). ds ++ l) (part-none w at) ∙ append-nil ds)) s;
+        stands = λ ds s. subst (StandsFor n zeros) (sym (ap (λ (l : List ℕ). ds ++ l) (part-none w at) ∙ append-nil ds)) s;
         stop = refl;
         from = omega arith;
         within = h;
@@ -48,11 +48,11 @@ module _ (w : List ℕ) (at n zeros : ℕ) where
     joined h ds = ap (λ (l : List ℕ). ds ++ l) (part-more w at i 0 (p .from) h) ∙ sym (append-assoc ds (part at i w) (getD w i 0 ∷ []))
 
     passed-more : (r k : ℕ) → i < length w → isDigit (getD w i 0) ≡ true → r ≤ cap → k ≤ i + 1
-        → ((ds : List ℕ) → Stands m z ds → Stands r k (ds ++ (getD w i 0 ∷ [])))
+        → ((ds : List ℕ) → StandsFor m z ds → StandsFor r k (ds ++ (getD w i 0 ∷ [])))
         → Passed w at n zeros r k (i + 1)
     passed-more r k h t e f g =
         record {
-          stands = λ ds s. subst (Stands r k) (sym (joined h ds)) (g (ds ++ part at i w) (p .stands ds s));
+          stands = λ ds s. subst (StandsFor r k) (sym (joined h ds)) (g (ds ++ part at i w) (p .stands ds s));
           stop = front-more isDigit w i 0 h t ∙ p .stop;
           from = omega (arith, p .from);
           within = omega arith;
@@ -76,7 +76,7 @@ module _ (w : List ℕ) (at n zeros : ℕ) where
     passed-end e =
         let s : i ≡ at + length (front isDigit (drop at w)) = sym e ∙ p .stop in
         record {
-          stands = λ ds t. subst (λ (l : List ℕ). Stands m z (ds ++ l)) (front-at isDigit w at i s) (p .stands ds t);
+          stands = λ ds t. subst (λ (l : List ℕ). StandsFor m z (ds ++ l)) (front-at isDigit w at i s) (p .stands ds t);
           stop = s;
           within = p .within;
           capped = p .capped;
@@ -140,7 +140,7 @@ module _ (w : List ℕ) (at : ℕ) (f : Figures) (d : DigitsRead w at 0 0 f) whe
       let all : front isDigit (drop at w) ++ pointPlaces (after isDigit (drop at w)) ≡ front isDigit (drop at w) =
       ap (λ (l : List ℕ). front isDigit (drop at w) ++ l) p ∙ append-nil _ in
       record {
-        stands = subst (Stands (f .number) (f .zeros)) (sym all) (d .stands [] stands-none);
+        stands = subst (StandsFor (f .number) (f .zeros)) (sym all) (d .stands [] stands-none);
         count = omega (arith, d .stop, ap length all);
         places = sym (ap length p);
         rest = sym (ap afterPoint behind ∙ e .1);
@@ -159,7 +159,7 @@ module _ (w : List ℕ) (at : ℕ) (f : Figures) (d : DigitsRead w at 0 0 f) whe
       let n : length (pointPlaces (after isDigit (drop at w))) ≡ g .at - f .at - 1 = omega (arith, ap length p, m .stop) in
       record {
         stands =
-            subst (λ (l : List ℕ). Stands (g .number) (g .zeros) (front isDigit (drop at w) ++ l)) (sym p)
+            subst (λ (l : List ℕ). StandsFor (g .number) (g .zeros) (front isDigit (drop at w) ++ l)) (sym p)
             (m .stands (front isDigit (drop at w)) (d .stands [] stands-none));
         count = omega (arith, d .stop, n, length-append (front isDigit (drop at w)) (pointPlaces (after isDigit (drop at w))));
         places = sym n;

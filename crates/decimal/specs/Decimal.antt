@@ -54,7 +54,7 @@ significant ds = trim (λ b. eqb b (code "0")) ds
 unfoldable pub zerosCut : List ℕ → ℕ
 zerosCut ds = length ds - length (significant ds)
 
--- ---- "optionally e or E, optional sign, digits"
+-- ---- "optionally `e` or `E`, optional sign, digits"
 
 -- what follows the e, and the exponent's digits
 unfoldable pub afterE : List ℕ → List ℕ
@@ -70,7 +70,7 @@ plusExponent s = cond (isMinus (afterE s)) 0 (numeral (exponentDigits s))
 unfoldable pub minusExponent : List ℕ → ℕ
 minusExponent s = cond (isMinus (afterE s)) (numeral (exponentDigits s)) 0
 
--- ---- "then letters only". "An e without digits after it is such a letter"
+-- ---- "then letters only". "An `e` without digits after it is such a letter"
 
 unfoldable pub letters : List ℕ → List ℕ
 letters s = cond (eqb (length (exponentDigits s)) 0) s (after isDigit (afterSign (afterE s)))

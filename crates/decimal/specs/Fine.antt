@@ -1,5 +1,5 @@
 -- What every number that was read keeps: at most 15 digits, a power from −40 to 24, and no trailing zero.
-use Prim.Native.Nat.{_%_, _^_, _≤_, _<_}
+use Prim.Native.Nat.{_+_, _%_, _^_, _≤_, _<_}
 use mathlib.Core.Path.{_≡_}
 use mathlib.Core.Logic.{_⊎_}
 use mathlib.Core.Bool.{false}
@@ -12,7 +12,7 @@ use Rattle.decimal.specs.declared.Cell.the-variants.{Number, Missing}
 -- the power is kept with its offset added
 pub record Fine (d : Decimal) : Type 0 where
   pub digits : d .digits < 10 ^ 15
-  pub power : d .power ≤ 64
+  pub power : d .power ≤ offset + 24
 
 abbrev pub FineNumber : Said Decimal → Type 0
 FineNumber (says d) = Fine d

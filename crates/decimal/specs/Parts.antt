@@ -29,7 +29,7 @@ abbrev pub signBit : Bool → ℕ
 signBit t = cond t 1 0
 
 -- n and zeros stand for the digits ds
-pub record Stands (n zeros : ℕ) (ds : List ℕ) : Type 0 where
+pub record StandsFor (n zeros : ℕ) (ds : List ℕ) : Type 0 where
   pub number : n ≡ min (numeral (significant ds)) cap
   pub cut : zeros ≡ zerosCut ds
 
@@ -41,7 +41,7 @@ pub record SignRead (w : List ℕ) (at : ℕ) (r : Sign) : Type 0 where
 
 -- after the digits that n and zeros stand for, the digits from `at` on
 pub record DigitsRead (w : List ℕ) (at n zeros : ℕ) (r : Figures) : Type 0 where
-  pub stands : (ds : List ℕ) → Stands n zeros ds → Stands (r .number) (r .zeros) (ds ++ front isDigit (drop at w))
+  pub stands : (ds : List ℕ) → StandsFor n zeros ds → StandsFor (r .number) (r .zeros) (ds ++ front isDigit (drop at w))
   pub stop : r .at ≡ at + length (front isDigit (drop at w))
   pub within : r .at ≤ length w
   pub capped : r .number ≤ cap
@@ -49,7 +49,7 @@ pub record DigitsRead (w : List ℕ) (at n zeros : ℕ) (r : Figures) : Type 0 w
 
 -- the digits with their point, in the word w, where s begins with them; the bounds keep sums small
 pub record MantissaRead (w s : List ℕ) (r : Mantissa) : Type 0 where
-  pub stands : Stands (r .number) (r .zeros) (figures s)
+  pub stands : StandsFor (r .number) (r .zeros) (figures s)
   pub count : r .count ≡ length (figures s)
   pub places : r .places ≡ length (places s)
   pub rest : drop (r .at) w ≡ afterFigures s

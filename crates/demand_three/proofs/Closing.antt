@@ -11,7 +11,7 @@ use Rattle.laws.specs.Lists.{eqs}
 use Rattle.laws.specs.Said.{Said, says, fault, orFault}
 use Rattle.laws.proofs.Tests.{by-test, cond-yes, cond-map, and-second}
 use Rattle.laws.proofs.Same.{eqs-eq}
-use Rattle.words.specs.Words.{words, grown, onto}
+use Rattle.words.specs.Words.{words, grown, ontoWord}
 use Rattle.name_table.specs.Names.{meaning}
 use Rattle.keywords.specs.Form.{inside, isFormed, spelled, argument}
 use Rattle.keywords.specs.Carried.{carried, keyOf}
@@ -58,7 +58,7 @@ key-ends k w h = rw (bracketed k w h) at h
 
 -- [Model] is such a keyword
 is-one : not (oneOf (bytes "model") (words (bytes "component model_selector model end"))) ≡ false
-unfolding oneOf eqs words grown onto isBlank
+unfolding oneOf eqs words grown ontoWord isBlank
 is-one = refl
 
 pub model-ends : (t : Text) → isKey "model" t ≡ true → isWithin t ≡ false

@@ -15,7 +15,7 @@ use Rattle.rules.specs.Whole.{refused, outcome}
 use Rattle.records.specs.declared.Lengths.{Lengths}
 use Rattle.examples.specs.Computing.{computing}
 use Rattle.demand_three.specs.Lines.{textOn, charAfterLine, charAfterLines, beginsAnother, isModelSection}
-use Rattle.demand_three.specs.Demand.{Stands, Accepted, SameIn, Excepted, outOfPlace, usedTwice, notListed, fullTable, fewRows, Spares}
+use Rattle.demand_three.specs.Demand.{Stands, AcceptedFile, SameIn, Excepted, outOfPlace, usedTwice, notListed, fullTable, fewRows, Spares}
 use Rattle.demand_three.proofs.Demand.{demand3}
 
 -- ---- the accepted file: what stands before the section, the section, what stands behind it
@@ -48,7 +48,7 @@ file front back = bytes (front ++ˢ shared ++ˢ back)
 pub record Taken (c : ℕ) (section : List Physical) (l : Lengths) (s : List ℕ) : Type 0 where
   pub isSection : isModelSection c section ≡ true
   pub stands : Stands c section s
-  pub accepted : Accepted l s
+  pub accepted : AcceptedFile l s
 
 pub taken : Taken (code "#") section (lending 64 2) (file before behind)
 unfolding computing isModelSection charAfterLines beginsAnother textOn charAfterLine

@@ -29,7 +29,7 @@ use Rattle.rules.specs.declared.Went.{Went}
 use Rattle.rules.specs.declared.Went.the-variants.{On, Stop}
 use Rattle.keywords.specs.declared.Section.the-variants.{Model}
 use Rattle.demand_three.specs.Lines.{textOn, charAfterLine, isModelSection}
-use Rattle.demand_three.specs.Demand.{Stands, Accepted}
+use Rattle.demand_three.specs.Demand.{Stands, AcceptedFile}
 use Rattle.demand_three.proofs.Renumbered.{stageAt}
 use Rattle.cut_lines.proofs.Renumbered.{textAt, texts-map}
 use Rattle.demand_three.proofs.Closing.{close, close-at, alone, Closer, misplaced, closes, closer, model-ends, model-key, alone-anywhere}
@@ -53,7 +53,7 @@ bytes-passed : (go : Outcome) (b : Bytes) (z : Held) → afterBytes go b ≡ pas
 bytes-passed go Clean z q = (refl, q)
 bytes-passed go (Faulty x) z q = impossible (cc)
 
-pub passing : (l : Lengths) (s : List ℕ) → Accepted l s → Passing l s
+pub passing : (l : Lengths) (s : List ℕ) → AcceptedFile l s → Passing l s
 unfolding outcome
 passing l s a =
     let b = bytes-passed _ (bytesFault s) (a .held) (a .passes) in
@@ -163,7 +163,7 @@ module _ (c : ℕ) (first : Physical) (others : List Physical) (h : isModelSecti
         clean = q;
       }
 
-  pub sound : (l : Lengths) (s : List ℕ) → Stands c (first ∷ others) s → Accepted l s → Sound c first others
+  pub sound : (l : Lengths) (s : List ℕ) → Stands c (first ∷ others) s → AcceptedFile l s → Sound c first others
   sound l s p a =
       let k = length (p .before) + 1 in
       let past = length (linesOf s) + 1 in

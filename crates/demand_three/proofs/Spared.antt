@@ -18,7 +18,7 @@ use Rattle.rules.specs.Steps.{isEnded, onText}
 use Rattle.rules.specs.Reading.{isWithin}
 use Rattle.rules.specs.Outline.{Entry, count, is, isUsed, isFound, firstFailing}
 use Rattle.rules.specs.Whole.{bound, Held, admitEntry, sectionEntry, rowEntry, admit, Outcome, passed, refused, textOf, lineOf, afterAdmission, afterStep, runs, lastChecks, concluded}
-use Rattle.rules.specs.Last.{found, listed}
+use Rattle.rules.specs.Last.{found, listedIn}
 use Rattle.records.specs.Bounds.{mostWaveforms}
 use Rattle.records.specs.declared.Kind.the-variants.{OfComponent, OfPin, OfChoice, OfModel}
 use Rattle.records.specs.declared.Lengths.{Lengths}
@@ -204,5 +204,5 @@ module _ (lo hi : ℕ) where
       let es = reverse (h .entries) in
       let y : AllFine es = fine-reverse (h .entries) [] x tt in
       cond-all Safe (eqb (firstFailing (found es) es) 0) _ _
-      (λ t. cond-all Safe (eqb (firstFailing (listed es) es) 0) _ _ (λ u. x) (λ u a b. notListed refl))
+      (λ t. cond-all Safe (eqb (firstFailing (listedIn es) es) 0) _ _ (λ u. x) (λ u a b. notListed refl))
       (λ t a b. absurd (found-spares es es y a b))

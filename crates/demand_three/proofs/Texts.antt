@@ -10,7 +10,7 @@ use Rattle.laws.specs.Said.{faultIn}
 use Rattle.laws.proofs.Tests.{by-test, cond-no}
 use Rattle.lines.specs.Lines.{Physical, cut}
 use Rattle.cut_lines.specs.Change.{isChange, changeOf}
-use Rattle.cut_lines.specs.Texts.{Text, plain, change, onto, textsFrom}
+use Rattle.cut_lines.specs.Texts.{Text, plain, change, ontoTexts, textsFrom}
 use Rattle.cut_lines.proofs.Renumbered.{texts-map}
 use Rattle.line_rules.specs.Fields.{isBracketed}
 use Rattle.rules.specs.Reading.{isWithin}
@@ -21,10 +21,10 @@ use Rattle.demand_three.specs.Lines.{textOn, charAfterLine, charAfterLin
 -- ---- one line: its own texts, none or one, and those of the lines behind it
 
 unfoldable pub lineTexts : ℕ → ℕ → Physical → List Text
-lineTexts c k l = cond (isChange (l .bytes)) (change k (faultIn (changeOf (l .bytes))) ∷ []) (onto k (cut c (l .bytes)) [])
+lineTexts c k l = cond (isChange (l .bytes)) (change k (faultIn (changeOf (l .bytes))) ∷ []) (ontoTexts k (cut c (l .bytes)) [])
 
-onto-append : (k : ℕ) (w : List ℕ) (ts : List Text) → onto k w ts ≡ onto k w [] ++ ts
-unfolding onto
+onto-append : (k : ℕ) (w : List ℕ) (ts : List Text) → ontoTexts k w ts ≡ ontoTexts k w [] ++ ts
+unfolding ontoTexts
 onto-append k [] ts = refl
 onto-append k (b ∷ bs) ts = refl
 
@@ -50,8 +50,8 @@ texts-append c k (l ∷ ls) ms =
 
 -- ---- a line that opens a section or is [End]
 
-onto-key : (k : ℕ) (w : List ℕ) → isWithin (plain 0 w) ≡ false → onto k w [] ≡ plain k w ∷ []
-unfolding onto isBracketed
+onto-key : (k : ℕ) (w : List ℕ) → isWithin (plain 0 w) ≡ false → ontoTexts k w [] ≡ plain k w ∷ []
+unfolding ontoTexts isBracketed
 onto-key k [] h = let z : true ≡ false = sym (within-key (plain 0 [])) ∙ h in cc
 onto-key k (b ∷ bs) h = refl
 

@@ -27,7 +27,7 @@ pub record Stands (c : ℕ) (section : List Physical) (s : List ℕ) : Type 0 wh
   pub ends : beginsAnother (charAfterLines c section) after ≡ true
 
 -- the file is accepted if tables of these lengths are lent
-pub record Accepted (l : Lengths) (s : List ℕ) : Type 0 where
+pub record AcceptedFile (l : Lengths) (s : List ℕ) : Type 0 where
   pub held : Held
   pub passes : outcome l s ≡ passed held
 
@@ -80,11 +80,11 @@ Spares {section = section} stands n k =
 -- ---- demand 3: s is the accepted file with tables of lengths l, t the changed one with tables of lengths m
 
 pub record Keeps {c : ℕ} {section : List Physical} (s t : List ℕ) (first : Stands c section s) (second : Stands c section t) (m : Lengths) : Type 0 where
-  pub accepted : Accepted m t → SameIn s t first second
+  pub accepted : AcceptedFile m t → SameIn s t first second
   pub refusal : (n k : ℕ) → outcome m t ≡ refused n k → Spares second n k
 
 abbrev pub Demand3 : Type 0
 Demand3 =
     (c : ℕ) (section : List Physical) → isModelSection c section ≡ true
-    → (l : Lengths) (s : List ℕ) (first : Stands c section s) → Accepted l s
+    → (l : Lengths) (s : List ℕ) (first : Stands c section s) → AcceptedFile l s
     → (m : Lengths) (t : List ℕ) (second : Stands c section t) → Keeps s t first second m

@@ -53,8 +53,8 @@ levelLines m =
 unfoldable pub rangeLines : Model → List ℕ
 rangeLines m = tripleLine (bytes "VOLTAGE_RANGE") (m .voltage) ++ rangeLine (bytes "TEMPERATURE_RANGE") (m .temperature)
 
-unfoldable pub modelLines : ℕ → Model → List ℕ
-modelLines index m = headLines index m ++ levelLines m ++ rangeLines m
+unfoldable pub modelDump : ℕ → Model → List ℕ
+modelDump index m = headLines index m ++ levelLines m ++ rangeLines m
 
 -- ---- tables: "`TABLE Pulldown -` if absent"
 
@@ -70,14 +70,14 @@ abbrev pub slopeText : RampCell → List ℕ
 slopeText (Ratio above below) = bytes " " ++ decimalText above ++ bytes "/" ++ decimalText below
 slopeText Absent = bytes " NA"
 
-unfoldable pub slopesLine : List ℕ → RampTriple → List ℕ
-slopesLine label s = label ++ slopeText (s .typ) ++ slopeText (s .min) ++ slopeText (s .max) ++ bytes "\n"
+unfoldable pub slopesDump : List ℕ → RampTriple → List ℕ
+slopesDump label s = label ++ slopeText (s .typ) ++ slopeText (s .min) ++ slopeText (s .max) ++ bytes "\n"
 
 -- "`RAMP -` if absent, and then no DVDT_R, DVDT_F, R_LOAD"
-unfoldable pub rampLines : RampTable → List ℕ
-rampLines r =
+unfoldable pub rampDump : RampTable → List ℕ
+rampDump r =
     cond (r .given)
-    (bytes "RAMP +\n" ++ slopesLine (bytes "DVDT_R") (r .rise) ++ slopesLine (bytes "DVDT_F") (r .fall) ++ cellLine (bytes "R_LOAD") (r .load))
+    (bytes "RAMP +\n" ++ slopesDump (bytes "DVDT_R") (r .rise) ++ slopesDump (bytes "DVDT_F") (r .fall) ++ cellLine (bytes "R_LOAD") (r .load))
     (bytes "RAMP -\n")
 
 -- ---- waveforms
@@ -107,5 +107,5 @@ waveformLines w = edgeText (w .edge) ++ countLine (bytes "") (w .rows .count) ++
 unfoldable pub wordText : ℕ → List ℕ
 wordText w = nextCell (cellIn w)
 
-unfoldable pub rowLine : ℕ → ℕ → ℕ → ℕ → List ℕ
-rowLine number typ min max = bytes "ROW" ++ wordText number ++ wordText typ ++ wordText min ++ wordText max ++ bytes "\n"
+unfoldable pub rowDump : ℕ → ℕ → ℕ → ℕ → List ℕ
+rowDump number typ min max = bytes "ROW" ++ wordText number ++ wordText typ ++ wordText min ++ wordText max ++ bytes "\n"

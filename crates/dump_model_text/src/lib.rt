@@ -1,6 +1,6 @@
 // The dump's lines of a model: its own, and those of its tables, ramp, waveforms and rows.
 ghost use Rattle.text_buffer.specs.Put.{Put};
-ghost use Rattle.dump_model_text.specs.Models.{typeLine, polarityLine, enableLine, headLines, levelLines, rangeLines, modelLines, tableText, tableLine, slopeText, slopesLine, rampLines, waveformsLine, edgeText, fixtureLines, deviceLines, waveformLines, wordText, rowLine};
+ghost use Rattle.dump_model_text.specs.Models.{typeLine, polarityLine, enableLine, headLines, levelLines, rangeLines, modelDump, tableText, tableLine, slopeText, slopesDump, rampDump, waveformsLine, edgeText, fixtureLines, deviceLines, waveformLines, wordText, rowDump};
 use decimal::cell_in;
 use dump_text::labelled::cell_line;
 use dump_text::labelled::count_line;
@@ -91,7 +91,7 @@ fn range_lines(out: &mut [u8], at: usize, m: Model) -> usize
 
 // A model's lines before its tables.
 pub fn model_lines(out: &mut [u8], at: usize, index: usize, m: Model) -> usize
-    ensures { λ r. ⌜ Put (now (out .entry)) (now (out .exit)) at (modelLines index m) r ⌝ }
+    ensures { λ r. ⌜ Put (now (out .entry)) (now (out .exit)) at (modelDump index m) r ⌝ }
 {
     let head = head_lines(out, at, index, m);
     let levels = level_lines(out, head, m);
@@ -132,7 +132,7 @@ fn put_slope(out: &mut [u8], at: usize, slope: RampCell) -> usize
 }
 
 fn slopes_line(out: &mut [u8], at: usize, label: &[u8], slopes: RampTriple) -> usize
-    ensures { λ r. ⌜ Put (now (out .entry)) (now (out .exit)) at (slopesLine (now (label .entry)) slopes) r ⌝ }
+    ensures { λ r. ⌜ Put (now (out .entry)) (now (out .exit)) at (slopesDump (now (label .entry)) slopes) r ⌝ }
 {
     let typ = slopes.typ;
     let min = slopes.min;
@@ -145,7 +145,7 @@ fn slopes_line(out: &mut [u8], at: usize, label: &[u8], slopes: RampTriple) -> u
 }
 
 pub fn ramp_lines(out: &mut [u8], at: usize, ramp: RampTable) -> usize
-    ensures { λ r. ⌜ Put (now (out .entry)) (now (out .exit)) at (rampLines ramp) r ⌝ }
+    ensures { λ r. ⌜ Put (now (out .entry)) (now (out .exit)) at (rampDump ramp) r ⌝ }
 {
     if ramp.given {
         let load = ramp.load;
@@ -222,7 +222,7 @@ fn put_word(out: &mut [u8], at: usize, word: u64) -> usize
 
 // A row of the row store: its number and its three cells, a word each.
 pub fn row_line(out: &mut [u8], at: usize, number: u64, typ: u64, min: u64, max: u64) -> usize
-    ensures { λ r. ⌜ Put (now (out .entry)) (now (out .exit)) at (rowLine number typ min max) r ⌝ }
+    ensures { λ r. ⌜ Put (now (out .entry)) (now (out .exit)) at (rowDump number typ min max) r ⌝ }
 {
     let kind = put_bytes(out, at, b"ROW");
     let first = put_word(out, kind, number);

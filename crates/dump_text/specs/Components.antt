@@ -39,12 +39,12 @@ locationLine label AtDie = label ++ bytes " Die\n"
 unfoldable pub placeLines : Component → List ℕ
 placeLines c = locationLine (bytes "SI_LOCATION") (c .si) ++ locationLine (bytes "TIMING_LOCATION") (c .timing)
 
-unfoldable pub packageLines : Component → List ℕ
-packageLines c = tripleLine (bytes "R_PKG") (c .resistance) ++ tripleLine (bytes "L_PKG") (c .inductance) ++ tripleLine (bytes "C_PKG") (c .capacitance)
+unfoldable pub packageDump : Component → List ℕ
+packageDump c = tripleLine (bytes "R_PKG") (c .resistance) ++ tripleLine (bytes "L_PKG") (c .inductance) ++ tripleLine (bytes "C_PKG") (c .capacitance)
 
-unfoldable pub componentLines : ℕ → Component → List ℕ
-componentLines index c =
-    sectionLine (bytes "COMPONENT") index (c .name) ++ placeLines c ++ nameLine (bytes "MANUFACTURER") (c .manufacturer) ++ packageLines c
+unfoldable pub componentDump : ℕ → Component → List ℕ
+componentDump index c =
+    sectionLine (bytes "COMPONENT") index (c .name) ++ placeLines c ++ nameLine (bytes "MANUFACTURER") (c .manufacturer) ++ packageDump c
     ++ countLine (bytes "PINS") (c .pins .count)
 
 unfoldable pub pinLine : Pin → List ℕ

@@ -1,6 +1,6 @@
 // The dump's first and last lines, components with their pins, and selectors with their choices.
 ghost use Rattle.text_buffer.specs.Put.{Put};
-ghost use Rattle.dump_text.specs.Components.{headerLines, acceptedText, endText, locationLine, placeLines, packageLines, componentLines, pinLine, selectorLines, descriptionText, choiceLine};
+ghost use Rattle.dump_text.specs.Components.{headerLines, acceptedText, endText, locationLine, placeLines, packageDump, componentDump, pinLine, selectorLines, descriptionText, choiceLine};
 use crate::labelled::count_line;
 use crate::labelled::name_line;
 use crate::labelled::section_line;
@@ -70,7 +70,7 @@ fn place_lines(out: &mut [u8], at: usize, c: Component) -> usize
 }
 
 fn package_lines(out: &mut [u8], at: usize, c: Component) -> usize
-    ensures { λ r. ⌜ Put (now (out .entry)) (now (out .exit)) at (packageLines c) r ⌝ }
+    ensures { λ r. ⌜ Put (now (out .entry)) (now (out .exit)) at (packageDump c) r ⌝ }
 {
     let resistance = triple_line(out, at, b"R_PKG", c.resistance);
     let inductance = triple_line(out, resistance, b"L_PKG", c.inductance);
@@ -79,7 +79,7 @@ fn package_lines(out: &mut [u8], at: usize, c: Component) -> usize
 
 // The pins follow, a line each.
 pub fn component_lines(out: &mut [u8], at: usize, index: usize, c: Component) -> usize
-    ensures { λ r. ⌜ Put (now (out .entry)) (now (out .exit)) at (componentLines index c) r ⌝ }
+    ensures { λ r. ⌜ Put (now (out .entry)) (now (out .exit)) at (componentDump index c) r ⌝ }
 {
     let first = section_line(out, at, b"COMPONENT", index, c.name);
     let places = place_lines(out, first, c);

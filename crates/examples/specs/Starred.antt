@@ -18,19 +18,20 @@ use Rattle.decimal.specs.declared.Cell.the-variants.{Number, Missing}
 use Rattle.lines.specs.declared.Bytes.{Bytes}
 use Rattle.lines.specs.declared.Bytes.the-variants.{Clean, Faulty}
 use Rattle.records.specs.declared.Lengths.{Lengths}
+use Rattle.records.specs.declared.Verdict.{Verdict}
+use Rattle.records.specs.declared.Verdict.the-variants.{Accepted, Refused}
 use Rattle.examples.specs.Computing.{computing}
 
--- accepted, or refused with this fault at this line
-pub data Verdict : Type 0 where
-  accepted : Verdict
-  refusal : ℕ → ℕ → Verdict
+-- refused with fault n at line k
+abbrev pub refusedAt : ℕ → ℕ → Verdict
+refusedAt n k = Refused (record { number = n; line = k })
 
 abbrev pub verdict : Outcome → Verdict
-verdict (passed h) = accepted
-verdict (refused n k) = refusal n k
+verdict (passed h) = Accepted
+verdict (refused n k) = refusedAt n k
 
-abbrev pub lent : Lengths
-lent = record { components = 8; pins = 512; selectors = 32; choices = 256; models = 64; waveforms = 1024; rows = 1000 }
+abbrev pub atBounds : Lengths
+atBounds = record { components = 8; pins = 512; selectors = 32; choices = 256; models = 64; waveforms = 1024; rows = 1000 }
 
 -- the listing's file up to the end of its first section, with its line 11 and 12; and the whole, with its line 14 too
 abbrev pub firstSection : String → String → String
@@ -54,7 +55,7 @@ pub data Example : Type 0 where
 unfoldable pub answered : Example → Example
 answered (number w r) = number w (numberOf (bytes w))
 answered (cell w r) = cell w (cellOf (bytes w))
-answered (file s r) = file s (verdict (outcome lent (bytes s)))
+answered (file s r) = file s (verdict (outcome atBounds (bytes s)))
 answered (line n r) = line n (bytesFault (replicate n (code "x") ++ (code "\n" ∷ [])))
 
 infix 70 _e+_ _e-_
@@ -82,12 +83,12 @@ starred =
     ∷ number "0e99" (0 e+ 0)
     ∷ line 120 Clean
     ∷ line 121 (Faulty (record { number = 3; line = 1 }))
-    ∷ file "" (refusal 19 1)
+    ∷ file "" (refusedAt 19 1)
     -- not starred
-    ∷ file (listing "1 DOOR in1" "2 VSS GND" "Model_type Input") accepted
-    ∷ file (listing "1 DOOR in1" "2 VSS GND" "Model_type Output") (refusal 9 13)
-    ∷ file (listing "1 DOOR in1" "2 VSS GNDX" "Model_type Input") (refusal 15 12)
-    ∷ file (listing "1 DOOR GND" "2 VSS GND" "Model_type Input") (refusal 16 13)
+    ∷ file (listing "1 DOOR in1" "2 VSS GND" "Model_type Input") Accepted
+    ∷ file (listing "1 DOOR in1" "2 VSS GND" "Model_type Output") (refusedAt 9 13)
+    ∷ file (listing "1 DOOR in1" "2 VSS GNDX" "Model_type Input") (refusedAt 15 12)
+    ∷ file (listing "1 DOOR GND" "2 VSS GND" "Model_type Input") (refusedAt 16 13)
     ∷ number "1e-40" (1 e- 40)
     ∷ number "1e-41" (fault 12)
     ∷ number "10e24" (fault 12)

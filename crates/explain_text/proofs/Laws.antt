@@ -7,7 +7,7 @@ use native.Mathlib.Numerals.{add-one}
 use lib.ListN.{length, take, drop, getD, length-map, drop-of-length-le}
 use lib.Seq.{drop-drop, drop-nil}
 use Rattle.lines.specs.Lines.{Physical, linesOf}
-use Rattle.lines.specs.Places.{lineAt, RawAt}
+use Rattle.lines.specs.Places.{lineFrom, RawAt}
 use Rattle.lines.specs.declared.Line.{Line}
 use Rattle.lines.proofs.Handed.{hands-none, raw-at}
 use Rattle.laws.specs.Bytes.{bytes}
@@ -20,7 +20,7 @@ use Rattle.text_buffer.proofs.Laws.{put-next, put-as}
 -- ---- lines
 
 -- the lines behind the line at a place
-pub lines-on : (s : List ℕ) (at i : ℕ) (l : Line) → at < length s → l ≡ lineAt s at → linesOf (drop at s) ≡ drop i (linesOf s)
+pub lines-on : (s : List ℕ) (at i : ℕ) (l : Line) → at < length s → l ≡ lineFrom s at → linesOf (drop at s) ≡ drop i (linesOf s)
     → (l .next ≤ length s) × (linesOf (drop (l .next) s) ≡ drop (i + 1) (linesOf s))
 lines-on s at i l h e k =
     let raw = subst (RawAt s at) (sym e) (raw-at s at h) in
@@ -42,11 +42,11 @@ pub record Behind (s : List ℕ) (n p : ℕ) : Type 0 where
   -- each line takes a byte
   pub far : p < length s → n ≤ p
 
-behind-next : (s : List ℕ) (n p : ℕ) → Behind s n p → Behind s (suc n) (lineAt s p .next)
+behind-next : (s : List ℕ) (n p : ℕ) → Behind s n p → Behind s (suc n) (lineFrom s p .next)
 behind-next s n p b =
     by-order (suc p) (length s)
     (λ h.
-    let on = lines-on s p n (lineAt s p) h refl (b .lines) in
+    let on = lines-on s p n (lineFrom s p) h refl (b .lines) in
     record { within = on .0; lines = on .1 ∙ ap (λ (k : ℕ). drop k (linesOf s)) (add-one n); far = λ _. omega (arith, b .far h, raw-at s p h .rises) })
     (λ h.
     subst (Behind s (suc n)) (ap (λ (l : Line). l .next) (hands-none s p (omega (arith, h))))
@@ -72,10 +72,10 @@ unfolding linesOf
 first-none s at h = sym (ap (λ (l : List ℕ). firstText (linesOf l)) (drop-of-length-le s h))
 
 -- the line at a place lies within the file
-pub line-within : (s : List ℕ) (at : ℕ) (l : Line) → at < length s → l ≡ lineAt s at → (at ≤ l .end) × (l .end ≤ length s)
+pub line-within : (s : List ℕ) (at : ℕ) (l : Line) → at < length s → l ≡ lineFrom s at → (at ≤ l .end) × (l .end ≤ length s)
 line-within s at l h e = let raw = subst (RawAt s at) (sym e) (raw-at s at h) in (raw .starts, raw .ends)
 
-pub first-is : (s : List ℕ) (at : ℕ) (l : Line) → at < length s → l ≡ lineAt s at → bytes "> " ++ visibleText (part at (l .end) s) ++ bytes "\n" ≡ firstText (linesOf (drop at s))
+pub first-is : (s : List ℕ) (at : ℕ) (l : Line) → at < length s → l ≡ lineFrom s at → bytes "> " ++ visibleText (part at (l .end) s) ++ bytes "\n" ≡ firstText (linesOf (drop at s))
 first-is s at l h e =
     let raw = subst (RawAt s at) (sym e) (raw-at s at h) in
     ap (λ (t : List ℕ). bytes "> " ++ visibleText t ++ bytes "\n") (raw .text) ∙ sym (ap firstText (raw .more))

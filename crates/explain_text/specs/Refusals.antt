@@ -7,7 +7,7 @@ use lib.Dec.{eqb, ltb}
 use lib.ListN.{length, take, drop}
 use Rattle.laws.specs.Bytes.{bytes}
 use Rattle.lines.specs.Lines.{Physical, linesOf, isAllowed}
-use Rattle.lines.specs.Places.{lineAt}
+use Rattle.lines.specs.Places.{lineFrom}
 use Rattle.records.specs.declared.Fault.{Fault}
 use Rattle.text_buffer.specs.Numerals.{numeralOf}
 use Rattle.fault_texts.specs.Sentences.{sentenceOf}
@@ -40,7 +40,7 @@ firstText (l ∷ ls) = bytes "> " ++ visibleText (l .bytes) ++ bytes "\n"
 -- where a reader stands that has handed out so many lines: past the last line, at the file's end
 unfoldable pub placeBehind : List ℕ → ℕ → ℕ
 placeBehind s zero = 0
-placeBehind s (suc n) = lineAt s (placeBehind s n) .next
+placeBehind s (suc n) = lineFrom s (placeBehind s n) .next
 
 -- line n of a file, from 1 on; nothing where there is none
 abbrev pub sourceText : List ℕ → ℕ → List ℕ

@@ -2,7 +2,7 @@
 use Prim.Native.Nat.{ℕ}
 use mathlib.Core.List.{List, [], _∷_}
 use Rattle.laws.specs.Bytes.{bytes}
-use Rattle.fault_texts.specs.Texts.{textOf}
+use Rattle.fault_texts.specs.Texts.{textFor}
 
 -- by the fault's number; the first is for every number that no fault has
 unfoldable pub hints : List (List ℕ)
@@ -31,4 +31,4 @@ hints =
     ∷ []
 
 unfoldable pub hintOf : ℕ → List ℕ
-hintOf n = textOf hints n
+hintOf n = textFor hints n

@@ -6,9 +6,9 @@ use lib.ListN.{getD}
 use Rattle.text_buffer.specs.Parts.{parts}
 
 -- the first is for every number that no fault has
-unfoldable pub textOf : List (List ℕ) → ℕ → List ℕ
-textOf texts number = getD texts number (getD texts 0 [])
+unfoldable pub textFor : List (List ℕ) → ℕ → List ℕ
+textFor texts number = getD texts number (getD texts 0 [])
 
 -- the texts of a table, a line each
-abbrev pub listed : List ℕ → List (List ℕ)
-listed table = parts (code "\n") table
+abbrev pub textsIn : List ℕ → List (List ℕ)
+textsIn table = parts (code "\n") table

@@ -31,7 +31,7 @@ use Rattle.layout_by_notes.proofs.Tables.{lies}
 use Rattle.name_checks.specs.Lookup as look
 use Rattle.name_checks.proofs.SortLaws.{many-count}
 use Rattle.scan.specs.Events.{logOf}
-use Rattle.scan.specs.Scans.{faultIn, finishIs, WithinAt}
+use Rattle.scan.specs.Scans.{faultOfEnding, finishIs, WithinAt}
 use Rattle.scan.specs.declared.Tally.{Tally}
 use Rattle.scan.specs.declared.Scanned.{Scanned}
 use Rattle.scan.specs.declared.Ending.{Ending}
@@ -169,13 +169,13 @@ module _ (l : Lengths) (s xs : List ℕ) (z : Scanned) (clean : bytesFault s ≡
 
   pub broken : (f : Fault) → clash (map entryOf (notesTo s xs (z .tally .names))) ≡ none → z .ending ≡ Broken f → outcome l s ≡ refused (f .number) (f .line)
   unfolding logIn
-  broken f h e = broken-off l s clean (finishIs s xs z) read f h (ap faultIn e)
+  broken f h e = broken-off l s clean (finishIs s xs z) read f h (ap faultOfEnding e)
 
   pub all-read : clash (map entryOf (notesTo s xs (z .tally .names))) ≡ none → z .ending ≡ Whole → WithinAt (z .tally) (z .ending) → storeLength ≤ length xs → ReadWhole l s xs (z .tally)
   all-read h e w g =
       record {
         clean = clean;
-        read = read ∙ ap (λ (x : Ending). record { fault = faultIn x; log = logOf s xs (z .tally) }) e;
+        read = read ∙ ap (λ (x : Ending). record { fault = faultOfEnding x; log = logOf s xs (z .tally) }) e;
         names = h;
         within = subst (WithinAt (z .tally)) e w;
         store = g;

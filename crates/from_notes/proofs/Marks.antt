@@ -13,7 +13,7 @@ use Rattle.laws.specs.Bytes.{isBlank}
 use Rattle.laws.specs.Lists.{trim, all, other}
 use Rattle.laws.proofs.Tests.{by-test, and-first, and-second}
 use Rattle.laws.proofs.Fronts.{front-whole, other-yes}
-use Rattle.lines.specs.Lines.{Physical, isReturn, onto, linesOf, cut}
+use Rattle.lines.specs.Lines.{Physical, isReturn, ontoLine, linesOf, cut}
 use Rattle.cut_lines.specs.Change.{isChange, changeOf}
 use Rattle.cut_lines.specs.Texts.{Text, change, textsFrom}
 use Rattle.laws.specs.Said.{Said, says, fault, faultIn, orElse}
@@ -25,8 +25,8 @@ use Rattle.from_notes.specs.Made.{markOf, StandsAt}
 abbrev lacks : ℕ → Physical → Bool
 lacks c l = all (other c) (l .bytes)
 
-onto-lacks : (c b : ℕ) (ls : List Physical) → other c b ≡ true → all (lacks c) ls ≡ true → all (lacks c) (onto b ls) ≡ true
-unfolding onto all
+onto-lacks : (c b : ℕ) (ls : List Physical) → other c b ≡ true → all (lacks c) ls ≡ true → all (lacks c) (ontoLine b ls) ≡ true
+unfolding ontoLine all
 onto-lacks c b [] h g = rw h
 onto-lacks c b (l ∷ ls) h g = rw h g
 

@@ -9,7 +9,7 @@ use Rattle.laws.specs.Lists.{front, after, trim}
 use Rattle.laws.proofs.Tests.{cond-all}
 use Rattle.laws.proofs.Fronts.{front-take, after-drop}
 use Rattle.laws.proofs.Trims.{trim-take}
-use Rattle.words.specs.Words.{onto, grown, words}
+use Rattle.words.specs.Words.{ontoWord, grown, words}
 use Rattle.handed_out.specs.FineTables.{Each}
 
 module _ {A : Type 0} (P : A → Type 0) where
@@ -57,8 +57,8 @@ module _ {A : Type 0} (P : A → Type 0) where
 -- ---- words
 
 module _ (P : ℕ → Type 0) where
-  onto-each : (b : ℕ) (ws : List (List ℕ)) → P b → Each (Each P) ws → Each (Each P) (onto b ws)
-  unfolding onto
+  onto-each : (b : ℕ) (ws : List (List ℕ)) → P b → Each (Each P) ws → Each (Each P) (ontoWord b ws)
+  unfolding ontoWord
   onto-each b [] h k = ((h, tt), tt)
   onto-each b (w ∷ ws) h k = ((h, k .0), k .1)
 

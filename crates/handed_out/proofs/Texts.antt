@@ -10,11 +10,10 @@ use Rattle.laws.specs.Lists.{front, other}
 use Rattle.laws.specs.Said.{orElse}
 use Rattle.laws.proofs.Tests.{cond-all}
 use Rattle.words.specs.Words.{word, words}
-use Rattle.lines.specs.Lines.{Physical, isReturn, onto, linesOf, cut}
+use Rattle.lines.specs.Lines.{Physical, isReturn, ontoLine, linesOf, cut}
 use Rattle.keywords.specs.Form.{closing, argument}
 use Rattle.cut_lines.specs.Change.{isChange, changeOf}
-use Rattle.cut_lines.specs.Texts.{Text, plain, change, textsFrom}
-use Rattle.cut_lines.specs.Texts as texts
+use Rattle.cut_lines.specs.Texts.{Text, plain, change, ontoTexts, textsFrom}
 use Rattle.line_rules.specs.Fields.{isBracketed}
 use Rattle.rules.specs.Whole.{textsOf}
 use Rattle.rules.specs.Reading.{isKey, argumentAt, under, linesUnder, keySays, SectionIs, component, selector, model, isWithin, sectionsIn}
@@ -36,8 +35,8 @@ module _ (P : ℕ → Type 0) where
 
   -- ---- lines and texts
 
-  line-more : (b : ℕ) (ls : List Physical) → P b → Each LineHas ls → Each LineHas (onto b ls)
-  unfolding onto
+  line-more : (b : ℕ) (ls : List Physical) → P b → Each LineHas ls → Each LineHas (ontoLine b ls)
+  unfolding ontoLine
   line-more b [] h k = ((h, tt), tt)
   line-more b (l ∷ ls) h k = ((h, k .0), k .1)
 
@@ -49,8 +48,8 @@ module _ (P : ℕ → Type 0) where
       cond-all (Each LineHas) (eqb b (code "\n")) _ _ (λ e. (tt, more))
       (λ e. cond-all (Each LineHas) (isReturn b bs) _ _ (λ f. more) (λ f. line-more b (linesOf bs) (h .0) more))
 
-  text-more : (k : ℕ) (w : List ℕ) (ts : List Text) → Each P w → Each TextHas ts → Each TextHas (texts.onto k w ts)
-  unfolding texts.onto
+  text-more : (k : ℕ) (w : List ℕ) (ts : List Text) → Each P w → Each TextHas ts → Each TextHas (ontoTexts k w ts)
+  unfolding ontoTexts
   text-more k [] ts h t = t
   text-more k (b ∷ bs) ts h t = (h, t)
 

@@ -10,7 +10,7 @@ use Rattle.records.specs.declared.Answer.{Answer}
 use Rattle.records.specs.declared.Verdict.{Verdict}
 use Rattle.records.specs.declared.Verdict.the-variants.{Accepted, Refused}
 use Rattle.file_answer.specs.Answered.{answerFor, answerOf}
-use Rattle.tables_say.specs.Kept.{headerOf, Holds}
+use Rattle.tables_say.specs.Kept.{headerAnswered, Holds}
 use Rattle.tables_say.proofs.Kept.{kept-in-tables, over-holds}
 use Rattle.reader.specs.Promise.{Lent, lengthsIn, left, Reads}
 use Rattle.kept_by_read.specs.Kept.{KeptByRead}
@@ -19,7 +19,7 @@ abbrev read : List ℕ → FileIs
 read s = fileIn (textsOf s)
 
 record Left (s : List ℕ) (r : Answer) (u : Lent) : Type 0 where
-  header : r .header ≡ headerOf (read s)
+  header : r .header ≡ headerAnswered (read s)
   counts : r .counts ≡ countsOf (laid (read s))
   holds : Holds u (laid (read s))
 

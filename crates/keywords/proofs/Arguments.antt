@@ -14,7 +14,7 @@ use Rattle.laws.proofs.Fronts.{after-at}
 use Rattle.name_table.specs.Names.{meaning}
 use Rattle.keywords.specs.Form.{closing, isFormed, spelled, inside, argument}
 use Rattle.keywords.specs.Carried.{carried}
-use Rattle.keywords.specs.Answers.{known, named, keyRead}
+use Rattle.keywords.specs.Answers.{known, keywordOrNothing, keyRead}
 use Rattle.keywords.specs.declared.Keyword.{Keyword}
 use Rattle.keywords.specs.declared.Named.{Named}
 use Rattle.keywords.specs.declared.Named.the-variants.{Is, Nothing}
@@ -61,7 +61,7 @@ module _ (w : List ℕ) {key : Keyword} {at : ℕ} (e : keyRead w ≡ Known key 
       let n : ℕ = length w - length (argument w) in
       sym (ap (place n) e)
       ∙ by-test (isFormed w)
-      (λ h. ap (place n) (cond-yes _ _ h) ∙ known-place n (named (meaning (spelled (inside w)) carried)))
+      (λ h. ap (place n) (cond-yes _ _ h) ∙ known-place n (keywordOrNothing (meaning (spelled (inside w)) carried)))
       (λ h. ap (place n) (cond-no _ _ h))
 
   pub key-within : at ≤ length w

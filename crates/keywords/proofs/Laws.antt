@@ -17,14 +17,14 @@ use Rattle.laws.proofs.Tests.{by-test, cond-yes, cond-no, and-both, and-left, a
 use Rattle.laws.proofs.Lists.{from-cons}
 use Rattle.laws.proofs.Fronts.{front-at, after-at, front-le}
 use Rattle.laws.proofs.Same.{eqs-eq}
-use Rattle.words.specs.Words.{words, grown, onto}
-use Rattle.name_table.specs.Names.{Entry, meaning, placeFrom}
+use Rattle.words.specs.Words.{words, grown, ontoWord}
+use Rattle.name_table.specs.Names.{Naming, meaning, placeFrom}
 use Rattle.name_table.specs.Places.{namesOf, meaningOf}
 use Rattle.name_table.specs.declared.Found.{Found}
 use Rattle.name_table.proofs.Laws.{meaning-place}
-use Rattle.keywords.specs.Form.{inside, closing, isJoint, inParts, isClosed, isFormed, plain, spelled, argument}
+use Rattle.keywords.specs.Form.{inside, closing, isJoint, inParts, isClosed, isFormed, spelledByte, spelled, argument}
 use Rattle.keywords.specs.Carried.{carried}
-use Rattle.keywords.specs.Answers.{named, known, keyRead}
+use Rattle.keywords.specs.Answers.{keywordOrNothing, known, keyRead}
 use Rattle.keywords.specs.declared.Named.the-variants.{Nothing}
 use Rattle.keywords.specs.declared.KeyRead.the-variants.{Unknown, Malformed}
 
@@ -53,24 +53,24 @@ parts-end w i p h = rw (drop-of-length-le w h)
 
 -- ---- a copy that is spelled one byte at a time
 
-pub spell-more : (w copy : List ℕ) (i v : ℕ) → i < length w → i < length copy → take i copy ≡ spelled (take i w) → v ≡ plain (getD w i 0)
+pub spell-more : (w copy : List ℕ) (i v : ℕ) → i < length w → i < length copy → take i copy ≡ spelled (take i w) → v ≡ spelledByte (getD w i 0)
     → take (i + 1) (set copy i v) ≡ spelled (take (i + 1) w)
 unfolding spelled
 spell-more w copy i v h k e q =
     ap (λ (n : ℕ). take n (set copy i v)) (add-one i)
     ∙ take-suc-set copy i v k
     ∙ ap (λ (l : List ℕ). l ++ (v ∷ [])) e
-    ∙ ap (λ (b : ℕ). map plain (take i w) ++ (b ∷ [])) q
-    ∙ sym (map-append plain (take i w) (getD w i 0 ∷ []))
-    ∙ ap (map plain) (sym (take-suc w i 0 h))
-    ∙ ap (λ (n : ℕ). map plain (take n w)) (sym (add-one i))
+    ∙ ap (λ (b : ℕ). map spelledByte (take i w) ++ (b ∷ [])) q
+    ∙ sym (map-append spelledByte (take i w) (getD w i 0 ∷ []))
+    ∙ ap (map spelledByte) (sym (take-suc w i 0 h))
+    ∙ ap (λ (n : ℕ). map spelledByte (take n w)) (sym (add-one i))
 
 -- ---- a name longer than all of the table is none of them
 
-pub shorter : {A : Type 0} → ℕ → Entry A → Bool
+pub shorter : {A : Type 0} → ℕ → Naming A → Bool
 shorter n e = leb (length (e .name)) n
 
-pub meaning-long : {A : Type 0} (n : ℕ) (w : List ℕ) (es : List (Entry A)) → all (shorter n) es ≡ true → n < length w → meaning w es ≡ none
+pub meaning-long : {A : Type 0} (n : ℕ) (w : List ℕ) (es : List (Naming A)) → all (shorter n) es ≡ true → n < length w → meaning w es ≡ none
 unfolding meaning all shorter
 meaning-long n w [] h k = refl
 meaning-long n w (e ∷ es) h k =
@@ -92,12 +92,12 @@ table =
     "ibis_ver file_name file_rev date source notes disclaimer copyright component manufacturer package pin model_selector model voltage_range temperature_range pulldown pullup gnd_clamp power_clamp ramp rising_waveform falling_waveform end"
 
 table-names : words table ≡ namesOf carried
-unfolding words grown onto isBlank carried namesOf
+unfolding words grown ontoWord isBlank carried namesOf
 table-names = refl
 
 pub spelled-length : (w : List ℕ) → length (spelled w) ≡ length w
 unfolding spelled
-spelled-length w = length-map w plain
+spelled-length w = length-map w spelledByte
 
 -- a word that is spelled in the first bytes of a copy fits the copy
 pub spelled-fits : (w copy : List ℕ) → take (length w) copy ≡ spelled w → length w ≤ length copy
@@ -141,7 +141,7 @@ module _ (w : List ℕ) (stop : ℕ) (found : stop ≡ 1 + length (front (other 
 
   pub key-known : (at : ℕ) → isClosed (drop stop w) ≡ true → inParts false (part 1 stop w) ≡ true
       → at ≡ stop + 1 + length (front isBlank (drop (stop + 1) w)) → at ≤ length w
-      → keyRead w ≡ known at (named (meaning (spelled (part 1 stop w)) carried))
+      → keyRead w ≡ known at (keywordOrNothing (meaning (spelled (part 1 stop w)) carried))
   unfolding keyRead isFormed argument
   key-known at h k e l =
       let rest : after isBlank (drop 1 (closing w)) ≡ drop at w =
@@ -149,11 +149,11 @@ module _ (w : List ℕ) (stop : ℕ) (found : stop ≡ 1 + length (front (other 
       let place : length w - length (after isBlank (drop 1 (closing w))) ≡ at = omega (arith, ap length rest, length-drop at w) in
       cond-yes _ _
       (and-both (inParts false (inside w)) (isClosed (closing w)) (ap (inParts false) (sym inside-at) ∙ k) (ap isClosed (sym closing-at) ∙ h))
-      ∙ ap (λ (n : ℕ). known n (named (meaning (spelled (inside w)) carried))) place
-      ∙ ap (λ (x : List ℕ). known at (named (meaning (spelled x) carried))) (sym inside-at)
+      ∙ ap (λ (n : ℕ). known n (keywordOrNothing (meaning (spelled (inside w)) carried))) place
+      ∙ ap (λ (x : List ℕ). known at (keywordOrNothing (meaning (spelled x) carried))) (sym inside-at)
 
   pub key-unknown : isClosed (drop stop w) ≡ true → inParts false (part 1 stop w) ≡ true
-      → named (meaning (spelled (part 1 stop w)) carried) ≡ Nothing → keyRead w ≡ Unknown
+      → keywordOrNothing (meaning (spelled (part 1 stop w)) carried) ≡ Nothing → keyRead w ≡ Unknown
   key-unknown h k e =
       let at : ℕ = stop + 1 + length (front isBlank (drop (stop + 1) w)) in
       key-known at h k refl

@@ -10,10 +10,10 @@ use Rattle.laws.specs.Lists.{eqs, all}
 use Rattle.laws.specs.Said.{Said, fault, orFault}
 use Rattle.laws.proofs.Tests.{by-test, cond-yes, cond-no, cond-map, and-first, and-second, impossible}
 use Rattle.laws.proofs.Same.{eqs-eq}
-use Rattle.name_table.specs.Names.{Entry, meaning}
+use Rattle.name_table.specs.Names.{Naming, meaning}
 use Rattle.keywords.specs.Form.{inside, isFormed, spelled}
 use Rattle.keywords.specs.Carried.{carried, keyOf}
-use Rattle.keywords.specs.Answers.{keywordSays, named, known, keyRead}
+use Rattle.keywords.specs.Answers.{keywordSays, keywordOrNothing, known, keyRead}
 use Rattle.keywords.specs.declared.Keyword.{Keyword}
 use Rattle.keywords.specs.declared.Keyword.the-variants.{IbisVer, InHeader, Opens, InComponent, InModel, End}
 use Rattle.keywords.specs.declared.HeaderPart.the-variants.{FileName, FileRev, FreeText}
@@ -22,6 +22,7 @@ use Rattle.keywords.specs.declared.Section.the-variants.{Component, Sele
 use Rattle.keywords.specs.declared.ComponentPart.the-variants.{Manufacturer, Package, Pin}
 use Rattle.keywords.specs.declared.ModelPart.the-variants.{VoltageRange, TemperatureRange, Current, Ramp, Waveform}
 use Rattle.keywords.specs.declared.CurrentTable.the-variants.{Pulldown, Pullup, GndClamp, PowerClamp}
+use Rattle.keywords.specs.declared.KeyRead.{KeyRead}
 use Rattle.keywords.specs.declared.KeyRead.the-variants.{Malformed}
 use Rattle.records.specs.declared.Edge.the-variants.{Rising, Falling}
 
@@ -80,7 +81,7 @@ spelling-known (InModel (Waveform Falling)) = refl
 spelling-known End = refl
 
 -- each name of a table is the spelling of what it means
-abbrev isSpelled : Entry Keyword → Bool
+abbrev isSpelled : Naming Keyword → Bool
 isSpelled e = eqs (e .name) (bytes (spelling (e .means)))
 
 carried-spelled : all isSpelled carried ≡ true
@@ -93,7 +94,7 @@ some-is a b e = cc
 none-some : {A : Type 0} {X : Type 0} (a : A) → none ≡ some a → X
 none-some a e = let z : _≡_ {A = ℕ} 0 1 = cc in impossible z
 
-meaning-spelled : (es : List (Entry Keyword)) → all isSpelled es ≡ true → (w : List ℕ) (k : Keyword) → meaning w es ≡ some k → w ≡ bytes (spelling k)
+meaning-spelled : (es : List (Naming Keyword)) → all isSpelled es ≡ true → (w : List ℕ) (k : Keyword) → meaning w es ≡ some k → w ≡ bytes (spelling k)
 unfolding all meaning
 meaning-spelled [] h w k e = none-some k e
 meaning-spelled (x ∷ es) h w k e =
@@ -109,7 +110,7 @@ spelled-known w k e = meaning-spelled carried carried-spelled w k e
 
 -- ---- what the code answers to a keyword line says what the line says
 
-known-says : (at : ℕ) (x : Option Keyword) → keywordSays (known at (named x)) ≡ orFault 6 x
+known-says : (at : ℕ) (x : Option Keyword) → keywordSays (known at (keywordOrNothing x)) ≡ orFault 6 x
 known-says at none = refl
 known-says at (some k) = refl
 
@@ -118,3 +119,7 @@ unfolding keyRead keyOf
 key-said w =
     cond-map keywordSays (isFormed w) _ Malformed
     ∙ ap (λ (x : Said Keyword). cond (isFormed w) x (fault 5)) (known-says _ (meaning (spelled (inside w)) carried))
+
+-- what is read of the line, and what it says
+pub said-too : (w : List ℕ) (r : KeyRead) → keyRead w ≡ r → (r ≡ keyRead w) × (keywordSays r ≡ keyOf w)
+said-too w r e = (sym e, ap keywordSays (sym e) ∙ key-said w)

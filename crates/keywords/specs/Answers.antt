@@ -21,13 +21,13 @@ keywordSays Unknown = fault 6
 keywordSays Malformed = fault 5
 
 -- a keyword or nothing
-abbrev pub named : Option Keyword → Named
-named none = Nothing
-named (some k) = Is k
+abbrev pub keywordOrNothing : Option Keyword → Named
+keywordOrNothing none = Nothing
+keywordOrNothing (some k) = Is k
 
 abbrev pub known : ℕ → Named → KeyRead
 known at Nothing = Unknown
 known at (Is k) = Known k at
 
 unfoldable pub keyRead : List ℕ → KeyRead
-keyRead w = cond (isFormed w) (known (length w - length (argument w)) (named (meaning (spelled (inside w)) carried))) Malformed
+keyRead w = cond (isFormed w) (known (length w - length (argument w)) (keywordOrNothing (meaning (spelled (inside w)) carried))) Malformed

@@ -3,7 +3,7 @@ use Prim.Native.Nat.{ℕ}
 use mathlib.Core.List.{List, [], _∷_}
 use mathlib.Core.Bool.{cond}
 use Rattle.laws.specs.Said.{Said, fault, orFault}
-use Rattle.name_table.specs.Names.{Entry, entry, meaning}
+use Rattle.name_table.specs.Names.{Naming, naming, meaning}
 use Rattle.keywords.specs.Form.{inside, isFormed, spelled}
 use Rattle.keywords.specs.declared.Keyword.{Keyword}
 use Rattle.keywords.specs.declared.Keyword.the-variants.{IbisVer, InHeader, Opens, InComponent, InModel, End}
@@ -15,19 +15,19 @@ use Rattle.keywords.specs.declared.ModelPart.the-variants.{VoltageRange,
 use Rattle.keywords.specs.declared.CurrentTable.the-variants.{Pulldown, Pullup, GndClamp, PowerClamp}
 use Rattle.records.specs.declared.Edge.the-variants.{Rising, Falling}
 
-unfoldable pub carried : List (Entry Keyword)
+unfoldable pub carried : List (Naming Keyword)
 carried =
-    entry "ibis_ver" IbisVer ∷ entry "file_name" (InHeader FileName) ∷ entry "file_rev" (InHeader FileRev)
-    ∷ entry "date" (InHeader (FreeText Date)) ∷ entry "source" (InHeader (FreeText Source)) ∷ entry "notes" (InHeader (FreeText Notes))
-    ∷ entry "disclaimer" (InHeader (FreeText Disclaimer)) ∷ entry "copyright" (InHeader (FreeText Copyright))
-    ∷ entry "component" (Opens Component) ∷ entry "manufacturer" (InComponent Manufacturer)
-    ∷ entry "package" (InComponent Package) ∷ entry "pin" (InComponent Pin)
-    ∷ entry "model_selector" (Opens Selector)
-    ∷ entry "model" (Opens Model) ∷ entry "voltage_range" (InModel VoltageRange) ∷ entry "temperature_range" (InModel TemperatureRange)
-    ∷ entry "pulldown" (InModel (Current Pulldown)) ∷ entry "pullup" (InModel (Current Pullup))
-    ∷ entry "gnd_clamp" (InModel (Current GndClamp)) ∷ entry "power_clamp" (InModel (Current PowerClamp)) ∷ entry "ramp" (InModel Ramp)
-    ∷ entry "rising_waveform" (InModel (Waveform Rising)) ∷ entry "falling_waveform" (InModel (Waveform Falling))
-    ∷ entry "end" End
+    naming "ibis_ver" IbisVer ∷ naming "file_name" (InHeader FileName) ∷ naming "file_rev" (InHeader FileRev)
+    ∷ naming "date" (InHeader (FreeText Date)) ∷ naming "source" (InHeader (FreeText Source)) ∷ naming "notes" (InHeader (FreeText Notes))
+    ∷ naming "disclaimer" (InHeader (FreeText Disclaimer)) ∷ naming "copyright" (InHeader (FreeText Copyright))
+    ∷ naming "component" (Opens Component) ∷ naming "manufacturer" (InComponent Manufacturer)
+    ∷ naming "package" (InComponent Package) ∷ naming "pin" (InComponent Pin)
+    ∷ naming "model_selector" (Opens Selector)
+    ∷ naming "model" (Opens Model) ∷ naming "voltage_range" (InModel VoltageRange) ∷ naming "temperature_range" (InModel TemperatureRange)
+    ∷ naming "pulldown" (InModel (Current Pulldown)) ∷ naming "pullup" (InModel (Current Pullup))
+    ∷ naming "gnd_clamp" (InModel (Current GndClamp)) ∷ naming "power_clamp" (InModel (Current PowerClamp)) ∷ naming "ramp" (InModel Ramp)
+    ∷ naming "rising_waveform" (InModel (Waveform Rising)) ∷ naming "falling_waveform" (InModel (Waveform Falling))
+    ∷ naming "end" End
     ∷ []
 
 -- 5, badly formed, goes first; then 6, not carried

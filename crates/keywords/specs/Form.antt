@@ -38,11 +38,11 @@ unfoldable pub isFormed : List ℕ → Bool
 isFormed w = inParts false (inside w) && isClosed (closing w)
 
 -- letter case is ignored, and space equals underscore
-unfoldable pub plain : ℕ → ℕ
-plain b = cond (eqb b (code " ")) (code "_") (small b)
+unfoldable pub spelledByte : ℕ → ℕ
+spelledByte b = cond (eqb b (code " ")) (code "_") (small b)
 
 unfoldable pub spelled : List ℕ → List ℕ
-spelled w = map plain w
+spelled w = map spelledByte w
 
 -- what follows the keyword, without the blanks before it
 unfoldable pub argument : List ℕ → List ℕ

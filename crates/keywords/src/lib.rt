@@ -6,9 +6,9 @@ ghost use lib.ListN.{length, take, drop};
 ghost use Rattle.laws.specs.Lists.{eqs};
 ghost use Rattle.name_table.specs.Names.{meaning};
 ghost use Rattle.name_table.specs.Places.{meaningAt};
-ghost use Rattle.keywords.specs.Form.{plain, spelled, isJoint, inParts, isClosed};
-ghost use Rattle.keywords.specs.Carried.{carried};
-ghost use Rattle.keywords.specs.Answers.{keyRead, named};
+ghost use Rattle.keywords.specs.Form.{spelledByte, spelled, isJoint, inParts, isClosed};
+ghost use Rattle.keywords.specs.Carried.{carried, keyOf};
+ghost use Rattle.keywords.specs.Answers.{keywordSays, keyRead, keywordOrNothing};
 use name_table::Found;
 use records::Edge;
 
@@ -83,7 +83,7 @@ struct Spelled {
 
 // The small letter of a capital, and an underscore for a space.
 fn lowered(b: u8) -> u8
-    ensures { λ r. ⌜ r ≡ plain b ⌝ }
+    ensures { λ r. ⌜ r ≡ spelledByte b ⌝ }
 {
     if b == b' ' {
         return b'_';
@@ -177,7 +177,7 @@ pub fn same_spelled(w: &[u8], name: &[u8]) -> bool
 
 // The keyword at a place of the table of names.
 fn keyword_at(k: usize) -> Named
-    ensures { λ r. ⌜ r ≡ named (meaningAt carried k) ⌝ }
+    ensures { λ r. ⌜ r ≡ keywordOrNothing (meaningAt carried k) ⌝ }
 {
     match k {
         0 => Named::Is(Keyword::IbisVer),
@@ -210,7 +210,7 @@ fn keyword_at(k: usize) -> Named
 
 // A keyword by its name.
 pub fn keyword_named(w: &[u8]) -> Named
-    ensures { λ r. ⌜ r ≡ named (meaning (spelled (now (w .entry))) carried) ⌝ }
+    ensures { λ r. ⌜ r ≡ keywordOrNothing (meaning (spelled (now (w .entry))) carried) ⌝ }
 {
     let n = w.len();
     if 32 < n {
@@ -229,6 +229,7 @@ pub fn keyword_named(w: &[u8]) -> Named
 // What a keyword line is. Its text begins with `[`.
 pub fn key_of(w: &[u8]) -> KeyRead
     ensures { λ r. ⌜ r ≡ keyRead (now (w .entry)) ⌝ }
+    ensures { λ r. ⌜ keywordSays r ≡ keyOf (now (w .entry)) ⌝ }
 {
     if w.len() == 0 {
         return KeyRead::Malformed;

@@ -5,7 +5,7 @@ use mathlib.Core.List.{List, [], _∷_}
 use lib.ListN.{length}
 use Rattle.laws.specs.Bytes.{bytes, isBlank}
 use Rattle.laws.specs.Lists.{eqs}
-use Rattle.words.specs.Words.{words, grown, onto}
+use Rattle.words.specs.Words.{words, grown, ontoWord}
 use Rattle.records.specs.declared.Edge.the-variants.{Rising}
 use Rattle.line_rules.specs.Fields.{oneOf}
 use Rattle.rules.specs.Reading.{rowsIn, edgeOf, waveformIn}
@@ -15,5 +15,5 @@ use Rattle.layout.specs.Laid.{waveformsLaid}
 pub rows-behind : (n : ℕ) (ls ks : List (List ℕ))
     → waveformsLaid (record { key = bytes "pulldown"; lines = ls } ∷ record { key = bytes "rising_waveform"; lines = ks } ∷ []) n
     ≡ waveformIn (n + length (rowsIn ls)) Rising ks ∷ []
-unfolding waveformsLaid oneOf eqs words grown onto isBlank edgeOf
+unfolding waveformsLaid oneOf eqs words grown ontoWord isBlank edgeOf
 rows-behind n ls ks = refl

@@ -8,7 +8,7 @@ use Rattle.laws.specs.Bytes.{bytes, isBlank}
 use Rattle.laws.specs.Lists.{front, eqs}
 use Rattle.laws.specs.Said.{says}
 use Rattle.laws.proofs.Tests.{by-test, cond-all, cond-map}
-use Rattle.words.specs.Words.{words, grown, onto}
+use Rattle.words.specs.Words.{words, grown, ontoWord}
 use Rattle.keywords.specs.Carried.{keyOf}
 use Rattle.keywords.specs.declared.Keyword.{Keyword}
 use Rattle.keywords.specs.declared.Keyword.the-variants as key
@@ -172,7 +172,7 @@ module _ (ls : List (List ℕ)) where
 
   spelling-tables : (more : List TableIs) (k : Keyword)
       → cond (not (isEnd (some k))) (namedTables (bytes (spelling k)) ls more) [] ≡ keyTables ls more (some k)
-  unfolding oneOf eqs words grown onto isBlank
+  unfolding oneOf eqs words grown ontoWord isBlank
   spelling-tables more = each-keyword _ refl refl refl refl refl refl refl refl refl refl refl refl refl refl refl refl refl refl refl refl refl refl refl refl
 
 -- ---- a text more, by its keyword
@@ -184,7 +184,7 @@ tableKeys =
     ∷ []
 
 tables-are : words (bytes tableKeywords) ≡ areSpellings tableKeys
-unfolding words grown onto isBlank
+unfolding words grown ontoWord isBlank
 tables-are = refl
 
 module _ (t : Text) (ts : List Text) where

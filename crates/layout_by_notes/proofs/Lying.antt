@@ -8,7 +8,7 @@ use lib.ListN.{length, length-append}
 use Rattle.laws.specs.Bytes.{isBlank}
 use Rattle.laws.specs.Lists.{eqs}
 use Rattle.laws.specs.Said.{Said, says}
-use Rattle.words.specs.Words.{words, grown, onto}
+use Rattle.words.specs.Words.{words, grown, ontoWord}
 use Rattle.keywords.specs.declared.Keyword.{Keyword}
 use Rattle.keywords.specs.declared.Keyword.the-variants as key
 use Rattle.keywords.specs.declared.ModelPart.the-variants.{Current, Waveform}
@@ -128,7 +128,7 @@ carried-on o t ts h u e p q c f = (
 -- the waveform that a table is, by its keyword: a current table is none
 waveform-none : (t : CurrentTable) (ls : List (List ℕ)) (tb : List TableIs) (n : ℕ)
     → waveformsLaid (tableOf (Current t) ls ∷ tb) n ≡ waveformsLaid tb (n + length (rowsIn ls))
-unfolding waveformsLaid oneOf eqs words grown onto isBlank
+unfolding waveformsLaid oneOf eqs words grown ontoWord isBlank
 waveform-none Pulldown ls tb n = refl
 waveform-none Pullup ls tb n = refl
 waveform-none GndClamp ls tb n = refl
@@ -136,7 +136,7 @@ waveform-none PowerClamp ls tb n = refl
 
 waveform-some : (e : Edge) (ls : List (List ℕ)) (tb : List TableIs) (n : ℕ)
     → waveformsLaid (tableOf (Waveform e) ls ∷ tb) n ≡ waveformIn n e ls ∷ waveformsLaid tb (n + length (rowsIn ls))
-unfolding waveformsLaid edgeOf oneOf eqs words grown onto isBlank
+unfolding waveformsLaid edgeOf oneOf eqs words grown ontoWord isBlank
 waveform-some Rising ls tb n = refl
 waveform-some Falling ls tb n = refl
 

@@ -9,7 +9,7 @@ use Rattle.laws.specs.Bytes.{bytes, isBlank}
 use Rattle.laws.specs.Lists.{eqs}
 use Rattle.laws.specs.Said.{Said, says, fault, faultIn, orElse}
 use Rattle.laws.proofs.Tests.{cond-yes, cond-no, and-both, and-left, and-right}
-use Rattle.words.specs.Words.{words, grown, onto}
+use Rattle.words.specs.Words.{words, grown, ontoWord}
 use Rattle.line_rules.specs.Fields.{sameWords, heading}
 use Rattle.line_cells.specs.Headings.{headingRead, headingFault, isLong, restRead}
 use Rattle.line_cells.specs.declared.HeadingRead.{HeadingRead}
@@ -46,13 +46,13 @@ rest-by (a ∷ b ∷ c ∷ d ∷ ws) =
     cond-no _ _ (and-right (eqs a (bytes "R_pin")) _ (and-right (eqs b (bytes "L_pin")) _ (and-right (eqs c (bytes "C_pin")) _ refl)))
 
 heading-from : (a b : List ℕ) (ws : List (List ℕ)) → headingRead (heading (a ∷ b ∷ ws)) ≡ cond (areNamed a b) (restRead ws) NoHeading
-unfolding heading sameWords words grown onto isBlank
+unfolding heading sameWords words grown ontoWord isBlank
 heading-from a b ws =
     heading-by (eqs a (bytes "signal_name")) (eqs b (bytes "model_name")) (sameWords ws []) (sameWords ws cells)
     ∙ ap (λ (r : HeadingRead). cond (areNamed a b) r NoHeading) (rest-by ws)
 
 pub heading-few : (ws : List (List ℕ)) → length ws ≤ 1 → NoHeading ≡ headingRead (heading ws)
-unfolding heading sameWords words grown onto isBlank
+unfolding heading sameWords words grown ontoWord isBlank
 heading-few [] h = refl
 heading-few (a ∷ []) h = rw (and-right (eqs a (bytes "signal_name")) false refl)
 heading-few (a ∷ b ∷ ws) h = absurd (omega arith)

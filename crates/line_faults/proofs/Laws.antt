@@ -11,7 +11,7 @@ use Rattle.laws.specs.Lists.{eqs}
 use Rattle.laws.proofs.Tests.{or-none}
 use Rattle.laws.proofs.Same.{eqs-apart}
 use Rattle.laws.specs.Said.{says, faultIn}
-use Rattle.words.specs.Words.{words, grown, onto}
+use Rattle.words.specs.Words.{words, grown, ontoWord}
 use Rattle.name_table.specs.Names.{placeFrom}
 use Rattle.name_table.specs.declared.Found.the-variants.{At}
 use Rattle.keywords.specs.declared.CurrentTable.{CurrentTable}
@@ -71,7 +71,7 @@ first-number n w h =
     rw (ne-eqb n 0 (omega arith), ne-eqb n 1 (omega arith), ne-eqb n 2 (omega arith), ne-eqb n 3 (omega arith))
 
 pub first-named : (n : ℕ) (w : List ℕ) → lineAt modelLines w ≡ At n → firstAt n w ≡ firstFault w
-unfolding firstAt firstFault placeFrom words grown onto isBlank eqs
+unfolding firstAt firstFault placeFrom words grown ontoWord isBlank eqs
 first-named n w e =
     rw (
       named-at modelLines "Model_type" w n 0 e refl,
@@ -83,7 +83,7 @@ first-named n w e =
 -- ---- a ramp's lines
 
 pub ramp-named : (n : ℕ) (w : List ℕ) → lineAt rampLines w ≡ At n → rampAt n w ≡ rampFault w
-unfolding rampAt rampFault placeFrom words grown onto isBlank eqs
+unfolding rampAt rampFault placeFrom words grown ontoWord isBlank eqs
 ramp-named n w e = rw (named-at rampLines "R_load" w n 2 e refl)
 
 -- ---- a test of the type's word, by the word behind the name

@@ -13,7 +13,7 @@ use Rattle.decimal.specs.Decimal.{numberOf, givenCell, cellOf, isMissing, above
 use Rattle.decimal.specs.declared.Decimal.{Decimal}
 use Rattle.decimal.specs.declared.Cell.{Cell}
 use Rattle.words.specs.Words.{word, words}
-use Rattle.name_table.specs.Names.{Entry, meaning, placeFrom}
+use Rattle.name_table.specs.Names.{Naming, meaning, placeFrom}
 use Rattle.name_table.specs.declared.Found.{Found}
 use Rattle.records.specs.declared.Triple.{Triple}
 use Rattle.records.specs.declared.Row.{Row}
@@ -57,7 +57,7 @@ isPinName w = isSized 8 w && not (isBracketed w)
 unfoldable pub oneWord : (List ℕ → Bool) → List (List ℕ) → Bool
 oneWord p ws = eqb (length ws) 1 && p (word 0 ws)
 
--- "1 to 40 of a–z, 0–9, _^$~!#%&-{})(@'`", "then `.ibs`"
+-- "1 to 40 of a–z, 0–9, ``_^$~!#%&-{})(@'` `` then `.ibs`"
 unfoldable pub isFileByte : ℕ → Bool
 isFileByte b = isSmall b || (isDigit b || among b (bytes "_^$~!#%&-{})(@'`"))
 
@@ -71,7 +71,7 @@ unfoldable pub exactly : {A : Type 0} → ℕ → (List (List ℕ) → Said A) �
 exactly n read ws = cond (eqb (length ws) n) (read ws) (fault 10)
 
 -- what a word means in a table; one that is none of the table's is 10
-unfoldable pub wordIn : {A : Type 0} → List (Entry A) → List (List ℕ) → Said A
+unfoldable pub wordIn : {A : Type 0} → List (Naming A) → List (List ℕ) → Said A
 wordIn table ws = orFault 10 (meaning (word 0 ws) table)
 
 -- ---- cells and rows
@@ -140,7 +140,7 @@ unfoldable pub behindName : {A : Type 0} → (List (List ℕ) → Said A) → Li
 behindName read w = cond (eqs (nameOf w) (word 0 (words w))) (read (drop 1 (words w))) (fault 10)
 
 -- a name and a word of a table; a name and three cells; a name and three of a ramp's cells
-unfoldable pub wordLine : {A : Type 0} → List (Entry A) → List ℕ → Said A
+unfoldable pub wordLine : {A : Type 0} → List (Naming A) → List ℕ → Said A
 wordLine table w = behindName (exactly 1 (wordIn table)) w
 
 unfoldable pub cellsLine : List ℕ → Said Triple

@@ -1,7 +1,7 @@
 -- The names and words that document 01 lists, in its order. Letter case counts.
 use Prim.Native.String.{String}
 use mathlib.Core.List.{List, [], _∷_}
-use Rattle.name_table.specs.Names.{Entry, entry}
+use Rattle.name_table.specs.Names.{Naming, naming}
 use Rattle.records.specs.declared.Location.{Location}
 use Rattle.records.specs.declared.Location.the-variants.{AtPin, AtDie}
 use Rattle.records.specs.declared.Polarity.{Polarity}
@@ -38,21 +38,21 @@ tableKeywords = "pulldown pullup gnd_clamp power_clamp rising_waveform falling_w
 
 -- ---- words, and what they mean
 
-unfoldable pub locations : List (Entry Location)
-locations = entry "Pin" AtPin ∷ entry "Die" AtDie ∷ []
+unfoldable pub locations : List (Naming Location)
+locations = naming "Pin" AtPin ∷ naming "Die" AtDie ∷ []
 
-unfoldable pub modelTypes : List (Entry ModelType)
+unfoldable pub modelTypes : List (Naming ModelType)
 modelTypes =
-    entry "Input" Input ∷ entry "Output" Output ∷ entry "I/O" InputOutput ∷ entry "3-state" ThreeState
-    ∷ entry "Open_drain" OpenDrain ∷ entry "I/O_open_drain" InputOutputOpenDrain
-    ∷ entry "Open_sink" OpenSink ∷ entry "I/O_open_sink" InputOutputOpenSink
-    ∷ entry "Open_source" OpenSource ∷ entry "I/O_open_source" InputOutputOpenSource
-    ∷ entry "Input_ECL" InputEcl ∷ entry "Output_ECL" OutputEcl ∷ entry "I/O_ECL" InputOutputEcl ∷ entry "3-state_ECL" ThreeStateEcl
-    ∷ entry "Terminator" Terminator
+    naming "Input" Input ∷ naming "Output" Output ∷ naming "I/O" InputOutput ∷ naming "3-state" ThreeState
+    ∷ naming "Open_drain" OpenDrain ∷ naming "I/O_open_drain" InputOutputOpenDrain
+    ∷ naming "Open_sink" OpenSink ∷ naming "I/O_open_sink" InputOutputOpenSink
+    ∷ naming "Open_source" OpenSource ∷ naming "I/O_open_source" InputOutputOpenSource
+    ∷ naming "Input_ECL" InputEcl ∷ naming "Output_ECL" OutputEcl ∷ naming "I/O_ECL" InputOutputEcl ∷ naming "3-state_ECL" ThreeStateEcl
+    ∷ naming "Terminator" Terminator
     ∷ []
 
-unfoldable pub polarities : List (Entry Polarity)
-polarities = entry "Inverting" Inverting ∷ entry "Non-Inverting" NonInverting ∷ []
+unfoldable pub polarities : List (Naming Polarity)
+polarities = naming "Inverting" Inverting ∷ naming "Non-Inverting" NonInverting ∷ []
 
-unfoldable pub enables : List (Entry Enable)
-enables = entry "Active-High" ActiveHigh ∷ entry "Active-Low" ActiveLow ∷ []
+unfoldable pub enables : List (Naming Enable)
+enables = naming "Active-High" ActiveHigh ∷ naming "Active-Low" ActiveLow ∷ []

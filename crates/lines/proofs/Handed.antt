@@ -13,26 +13,26 @@ use Rattle.laws.proofs.Tests.{by-test, by-order}
 use Rattle.laws.proofs.Lists.{part-length}
 use Rattle.laws.proofs.Fronts.{front-le}
 use Rattle.lines.specs.Lines.{Physical, linesOf}
-use Rattle.lines.specs.Places.{firstBytes, extent, lineAt, RawAt}
+use Rattle.lines.specs.Places.{firstBytes, extent, lineFrom, RawAt}
 use Rattle.lines.specs.declared.Line.{Line}
 use Rattle.lines.proofs.Places.{raw-last, raw-empty, raw-return, raw-other}
 
 -- the line at a place is l, and so it is handed out
 abbrev pub Hands : List ℕ → ℕ → Line → Type 0
-Hands s at l = RawAt s at l × (l ≡ lineAt s at)
+Hands s at l = RawAt s at l × (l ≡ lineFrom s at)
 
 module _ (s : List ℕ) (at : ℕ) where
   hands : (end next : ℕ) (b : Bool) → linesOf (drop at s) ≡ record { bytes = part at end s; ended = b } ∷ linesOf (drop next s)
       → at ≤ end → end ≤ length s → at < next → next ≤ length s → next ≡ at + extent (drop at s) → Hands s at (record { end = end; next = next })
-  unfolding lineAt firstBytes
+  unfolding lineFrom firstBytes
   hands end next b more starts ends rises within e =
       let l : end ≡ at + length (part at end s) = omega (arith, part-length s at end ends, starts) in
       let m : end ≡ at + length (firstBytes (linesOf (drop at s))) = l ∙ ap (λ (ls : List Physical). at + length (firstBytes ls)) (sym more) in
       (record { line = _; more = more; text = refl; starts = starts; ends = ends; rises = rises; within = within }, λ i. record { end = m i; next = e i })
 
   -- no line is left
-  pub hands-none : length s ≤ at → record { end = at; next = at } ≡ lineAt s at
-  unfolding lineAt firstBytes extent linesOf front
+  pub hands-none : length s ≤ at → record { end = at; next = at } ≡ lineFrom s at
+  unfolding lineFrom firstBytes extent linesOf front
   hands-none h =
       let n : at ≡ at + 0 = omega arith in
       (λ i. record { end = n i; next = n i })
@@ -61,10 +61,10 @@ module _ (s : List ℕ) (at : ℕ) where
       pub hands-other : at < stop → (getD s (stop - 1) 0 ≡ code "\r" → ⊥) → Hands s at (record { end = stop; next = stop + 1 })
       hands-other h e = hands stop (stop + 1) true (raw-other s at stop found more h e) (omega arith) (omega arith) (omega arith) (omega arith) next
 
-  of : (l : Line) → Hands s at l → RawAt s at (lineAt s at)
+  of : (l : Line) → Hands s at l → RawAt s at (lineFrom s at)
   of l h = subst (RawAt s at) (h .1) (h .0)
 
-  pub raw-at : at < length s → RawAt s at (lineAt s at)
+  pub raw-at : at < length s → RawAt s at (lineFrom s at)
   raw-at k =
       let stop : ℕ = at + length (front (other (code "\n")) (drop at s)) in
       by-order (length s) stop

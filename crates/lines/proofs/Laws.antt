@@ -9,22 +9,22 @@ use lib.Dec.{eqb, leb}
 use borrow.Author.Tests.{ne-eqb, eqb-true, leb-true, not-true}
 use Rattle.laws.specs.Lists.{all, other}
 use Rattle.laws.proofs.Tests.{by-test, and-right}
-use Rattle.lines.specs.Lines.{Physical, isReturn, onto, linesOf, isAllowed}
+use Rattle.lines.specs.Lines.{Physical, isReturn, ontoLine, linesOf, isAllowed}
 
 -- the bytes go in front of the first line
 abbrev pub ontoAll : List ℕ → List Physical → List Physical
-ontoAll f ls = foldr onto ls f
+ontoAll f ls = foldr ontoLine ls f
 
 pub onto-line : (f : List ℕ) (l : Physical) (ls : List Physical)
     → ontoAll f (l ∷ ls) ≡ record { bytes = f ++ l .bytes; ended = l .ended } ∷ ls
-unfolding onto
+unfolding ontoLine
 onto-line [] l ls = refl
-onto-line (b ∷ f) l ls = ap (onto b) (onto-line f l ls)
+onto-line (b ∷ f) l ls = ap (ontoLine b) (onto-line f l ls)
 
 pub onto-none : (b : ℕ) (f : List ℕ) → ontoAll (b ∷ f) [] ≡ record { bytes = b ∷ f; ended = false } ∷ []
-unfolding onto
+unfolding ontoLine
 onto-none b [] = refl
-onto-none b (x ∷ f) = ap (onto b) (onto-none x f)
+onto-none b (x ∷ f) = ap (ontoLine b) (onto-none x f)
 
 pub onto-empty : (f : List ℕ) (ls : List Physical)
     → ontoAll f (record { bytes = []; ended = true } ∷ ls) ≡ record { bytes = f; ended = true } ∷ ls
@@ -42,7 +42,7 @@ pub lines-return : (r : List ℕ) → linesOf (code "\r" ∷ code "\n" ∷ r) �
 unfolding linesOf isReturn
 lines-return r = refl
 
-pub lines-byte : (b : ℕ) (r : List ℕ) → eqb b (code "\n") ≡ false → isReturn b r ≡ false → linesOf (b ∷ r) ≡ onto b (linesOf r)
+pub lines-byte : (b : ℕ) (r : List ℕ) → eqb b (code "\n") ≡ false → isReturn b r ≡ false → linesOf (b ∷ r) ≡ ontoLine b (linesOf r)
 unfolding linesOf
 lines-byte b r h k = rw (h, k)
 
@@ -73,7 +73,7 @@ lines-plain (b ∷ x ∷ f) a h k =
     by-test (other (code "\n") b)
     (λ e.
     by-test (other (code "\n") x)
-    (λ q. lines-byte b (x ∷ f ++ a) (not-break b e) (no-return b (x ∷ f ++ a) q) ∙ ap (onto b) (lines-plain (x ∷ f) a (simp e at h) k))
+    (λ q. lines-byte b (x ∷ f ++ a) (not-break b e) (no-return b (x ∷ f ++ a) q) ∙ ap (ontoLine b) (lines-plain (x ∷ f) a (simp e at h) k))
     (λ q. let z : false ≡ true = simp (e, q) at h in cc))
     (λ e. let z : false ≡ true = simp e at h in cc)
 
@@ -95,10 +95,10 @@ lines-crlf f r h =
 -- by LF alone, the byte before it not CR
 pub lines-lf : (f : List ℕ) (b : ℕ) (r : List ℕ) → all (other (code "\n")) f ≡ true → other (code "\n") b ≡ true → (b ≡ code "\r" → ⊥)
     → linesOf (f ++ (b ∷ code "\n" ∷ r)) ≡ record { bytes = f ++ (b ∷ []); ended = true } ∷ linesOf r
-unfolding noBreak isReturn onto
+unfolding noBreak isReturn ontoLine
 lines-lf f b r h k e =
     lines-plain f (b ∷ 10 ∷ r) h k
-    ∙ ap (ontoAll f) (lines-byte b (10 ∷ r) (not-break b k) (rw (ne-eqb b 13 e)) ∙ ap (onto b) (lines-break r))
+    ∙ ap (ontoAll f) (lines-byte b (10 ∷ r) (not-break b k) (rw (ne-eqb b 13 e)) ∙ ap (ontoLine b) (lines-break r))
     ∙ onto-line f (record { bytes = b ∷ []; ended = true }) (linesOf r)
 
 -- ---- allowed bytes
@@ -124,5 +124,5 @@ lines-allowed (b ∷ f) a h =
     by-test (isAllowed b)
     (λ e.
     lines-byte b (f ++ a) (allowed-plain b e .0) (return-not b (f ++ a) (allowed-plain b e .1))
-    ∙ ap (onto b) (lines-allowed f a (simp e at h)))
+    ∙ ap (ontoLine b) (lines-allowed f a (simp e at h)))
     (λ e. let z : false ≡ true = simp e at h in cc)

@@ -15,7 +15,7 @@ use Rattle.laws.proofs.Tests.{by-test, cond-yes, cond-no, and-first, and-second
 use Rattle.laws.proofs.Lists.{from-cons, take-down, none-of}
 use Rattle.laws.proofs.Fronts.{front-all, all-fails, all-first, all-second, split-at, other-is, front-at, after-at, after-stops, front-le, front-take, take-front}
 use Rattle.laws.proofs.Trims.{trim-take, trim-le}
-use Rattle.lines.specs.Lines.{Physical, isReturn, onto, linesOf, isAllowed, lineFault, faultFrom, cut}
+use Rattle.lines.specs.Lines.{Physical, isReturn, ontoLine, linesOf, isAllowed, lineFault, faultFrom, cut}
 use Rattle.lines.specs.Breaks.{breakOf}
 use Rattle.lines.specs.declared.Bytes.the-variants.{Faulty}
 use Rattle.lines.proofs.Laws.{ontoAll, onto-line, onto-none, lines-break, lines-byte, lines-allowed, lines-last, lines-crlf, lines-lf, onto-empty}
@@ -75,8 +75,8 @@ fault-0 f h k = rw (h, le-leb (length f) 120 k)
 
 -- some line begins with the byte
 onto-cons : (k n b : ℕ) (f : List ℕ) (ls : List Physical) → isAllowed b ≡ false
-    → faultFrom k (ontoAll f (onto b ls)) ≡ Faulty (record { number = 2; line = k })
-unfolding onto
+    → faultFrom k (ontoAll f (ontoLine b ls)) ≡ Faulty (record { number = 2; line = k })
+unfolding ontoLine
 onto-cons k n b f [] h =
     ap (faultFrom k) (onto-line f _ []) ∙ fault-bad k 2 _ _ (fault-2 f b [] false h) (omega arith)
 onto-cons k n b f (l ∷ ls) h =

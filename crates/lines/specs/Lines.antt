@@ -22,9 +22,9 @@ isReturn b [] = false
 isReturn b (x ∷ xs) = eqb b (code "\r") && eqb x (code "\n")
 
 -- the byte goes in front of the first line
-unfoldable pub onto : ℕ → List Physical → List Physical
-onto b [] = record { bytes = b ∷ []; ended = false } ∷ []
-onto b (l ∷ ls) = record { bytes = b ∷ l .bytes; ended = l .ended } ∷ ls
+unfoldable pub ontoLine : ℕ → List Physical → List Physical
+ontoLine b [] = record { bytes = b ∷ []; ended = false } ∷ []
+ontoLine b (l ∷ ls) = record { bytes = b ∷ l .bytes; ended = l .ended } ∷ ls
 
 -- a line is ended by LF or CR LF
 unfoldable pub linesOf : List ℕ → List Physical
@@ -32,7 +32,7 @@ linesOf [] = []
 linesOf (b ∷ bs) =
     cond (eqb b (code "\n")) (record { bytes = []; ended = true } ∷ linesOf bs)
     (cond (isReturn b bs) (linesOf bs)
-    (onto b (linesOf bs)))
+    (ontoLine b (linesOf bs)))
 
 -- ---- faults 1 to 4
 

@@ -33,12 +33,12 @@ unfoldable pub extent : List ℕ → ℕ
 extent s = min (length (front (other (code "\n")) s) + 1) (length s)
 
 -- where the line at a place ends, and where the next begins; past the last line both are the place
-unfoldable pub lineAt : List ℕ → ℕ → Line
-lineAt s at = record { end = at + length (firstBytes (linesOf (drop at s))); next = at + extent (drop at s) }
+unfoldable pub lineFrom : List ℕ → ℕ → Line
+lineFrom s at = record { end = at + length (firstBytes (linesOf (drop at s))); next = at + extent (drop at s) }
 
 -- a reader behind the line that it handed out
-abbrev pub passed : LineReader → Line → LineReader
-passed r l = record { src = r .src; at = l .next }
+abbrev pub readerBehind : LineReader → Line → LineReader
+readerBehind r l = record { src = r .src; at = l .next }
 
 -- The first of the lines from `at` on lies from there to end, without its line's end; the others begin at next.
 pub record RawAt (s : List ℕ) (at : ℕ) (r : Line) : Type 0 where

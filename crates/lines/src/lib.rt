@@ -4,7 +4,7 @@ ghost use Prim.Native.Nat.{ℕ, _+_, _≤_, _<_};
 ghost use lib.ListN.{length, drop};
 ghost use Rattle.laws.specs.Lists.{front};
 ghost use Rattle.lines.specs.Lines.{isAllowed, linesOf, faultFrom, bytesFault, cut};
-ghost use Rattle.lines.specs.Places.{checked, Goes, lineAt, passed};
+ghost use Rattle.lines.specs.Places.{checked, Goes, lineFrom, readerBehind};
 ghost use Rattle.lines.specs.Breaks.{breakOf};
 use records::Fault;
 
@@ -133,7 +133,7 @@ pub fn check_bytes(s: &[u8]) -> Bytes
 
 // The line at a place, whole.
 fn whole_line(s: &[u8], at: usize) -> Line
-    ensures { λ r. ⌜ r ≡ lineAt (now (s .entry)) at ⌝ }
+    ensures { λ r. ⌜ r ≡ lineFrom (now (s .entry)) at ⌝ }
 {
     if s.len() <= at {
         return Line { end: at, next: at };
@@ -170,7 +170,7 @@ impl<'a> LineReader<'a> {
 
     // Hands out the line at its place, and stands behind it.
     pub fn next<'s>(self: &'s mut LineReader<'a>) -> Line
-        ensures { λ l. ⌜ (l ≡ lineAt (now (now (self .entry) .src)) (now (self .entry) .at)) × (now (self .exit) ≡ passed (now (self .entry)) (lineAt (now (now (self .entry) .src)) (now (self .entry) .at))) ⌝ }
+        ensures { λ l. ⌜ (l ≡ lineFrom (now (now (self .entry) .src)) (now (self .entry) .at)) × (now (self .exit) ≡ readerBehind (now (self .entry)) (lineFrom (now (now (self .entry) .src)) (now (self .entry) .at))) ⌝ }
     {
         let l = whole_line(self.src, self.at);
         self.at = l.next;
@@ -180,7 +180,7 @@ impl<'a> LineReader<'a> {
 
 // The line at a place: a reader that stands there hands it out.
 pub fn line_at(src: &[u8], at: usize) -> Line
-    ensures { λ r. ⌜ r ≡ lineAt (now (src .entry)) at ⌝ }
+    ensures { λ r. ⌜ r ≡ lineFrom (now (src .entry)) at ⌝ }
 {
     let mut reader = LineReader::new(src, at);
     reader.next()

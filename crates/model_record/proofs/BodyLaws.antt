@@ -10,7 +10,7 @@ use lib.ListN.{length, length-append}
 use Rattle.laws.specs.Bytes.{bytes, isBlank}
 use Rattle.laws.specs.Lists.{front, eqs}
 use Rattle.laws.proofs.Tests.{by-test, cond-yes, cond-same}
-use Rattle.words.specs.Words.{words, grown, onto}
+use Rattle.words.specs.Words.{words, grown, ontoWord}
 use Rattle.keywords.specs.declared.Keyword.{Keyword}
 use Rattle.keywords.specs.declared.Keyword.the-variants.{InModel}
 use Rattle.keywords.specs.declared.ModelPart.the-variants.{VoltageRange, TemperatureRange, Ramp}
@@ -31,7 +31,7 @@ use Rattle.lines_under.proofs.Keyed.{KeyFold}
 use Rattle.table_rows.specs.Parts.{opensTable}
 use Rattle.table_rows.proofs.PartLaws.{moreTables, tables-more}
 use Rattle.model_record.specs.Firsts.{bareLines, firstsOn, defaulted}
-use Rattle.model_record.specs.Bodies.{noTable, bareBody, withTable, bodyStep, tableOn, bodyOn, modelOver}
+use Rattle.model_record.specs.Bodies.{absentTable, bareBody, withTable, bodyStep, tableOn, bodyOn, modelOver}
 use Rattle.model_record.specs.declared.Body.{Body}
 
 -- ---- a table more: x, if t is true; n is the next row's place
@@ -80,7 +80,7 @@ module _ (key : String) where
       in
       ap (λ (v : Table). tableOn v ts (n + length (rowsOf t)) key) same ∙ first-counts ts u (n + length (rowsOf t)) e
 
-  first-is : (ts : List TableIs) (n : ℕ) → tableOn noTable ts n key ≡ tableAt ts n key
+  first-is : (ts : List TableIs) (n : ℕ) → tableOn absentTable ts n key ≡ tableAt ts n key
   unfolding tableOn tableAt
   first-is [] n = refl
   first-is (t ∷ ts) n =
@@ -121,7 +121,7 @@ tableOf k ls = record { key = bytes (spelling k); lines = ls }
 
 body-by : (b : Body) (w : List ℕ) (ls : List (List ℕ)) (ts : List Text) (k : Keyword)
     → bodyBy b (bytes (spelling k)) (opensTable k) (tableOf k ls) w ls ts ≡ bodyOn (bodyStep b k w ls) ts
-unfolding bodyOn oneOf eqs words grown onto isBlank
+unfolding bodyOn oneOf eqs words grown ontoWord isBlank
 body-by b w ls ts = each-keyword _ refl refl refl refl refl refl refl refl refl refl refl refl refl refl refl refl refl refl refl refl refl refl refl refl
 
 body-more : (b : Body) (t : Text) (ts : List Text) (k : Keyword) → keyAt t ≡ some k → bodyOn b (t ∷ ts) ≡ bodyOn (bodyStep b k (argumentAt t) (under ts)) ts

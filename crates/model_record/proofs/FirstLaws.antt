@@ -6,7 +6,7 @@ use native.Mathlib.Omega.{arith}
 use Rattle.laws.specs.Bytes.{isBlank}
 use Rattle.laws.specs.Lists.{eqs}
 use Rattle.laws.specs.Said.{Said, says, fault, faultIn, orElse}
-use Rattle.words.specs.Words.{words, grown, onto}
+use Rattle.words.specs.Words.{words, grown, ontoWord}
 use Rattle.name_table.specs.Names.{placeFrom}
 use Rattle.name_table.specs.declared.Found.the-variants.{Nothing}
 use Rattle.line_rules.specs.Fields.{lineAt, wordLine, cellsLine, numberLine, lineSays}
@@ -26,7 +26,7 @@ unfolding firstsOn lineSays
 first-fold = record { none = λ f. refl; more = λ f w ws. refl }
 
 pub first-nothing : (f : FirstLines) (w : List ℕ) → lineAt modelLines w ≡ Nothing → f ≡ firstLine f w
-unfolding placeFrom words grown onto isBlank eqs
+unfolding placeFrom words grown ontoWord isBlank eqs
 first-nothing f w e =
     rw (
       takes-nothing "Model_type" (wordLine modelTypes) (f .kind) w modelLines 0 e refl,

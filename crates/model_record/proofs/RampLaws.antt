@@ -4,7 +4,7 @@ use mathlib.Core.Path.{_≡_, refl}
 use mathlib.Core.List.{List, []}
 use Rattle.laws.specs.Bytes.{isBlank}
 use Rattle.laws.specs.Lists.{eqs}
-use Rattle.words.specs.Words.{words, grown, onto}
+use Rattle.words.specs.Words.{words, grown, ontoWord}
 use Rattle.name_table.specs.Names.{placeFrom}
 use Rattle.name_table.specs.declared.Found.the-variants.{Nothing}
 use Rattle.line_rules.specs.Fields.{lineAt, slopesLine, numberLine, lineSays}
@@ -24,7 +24,7 @@ unfolding rampOn numberSaid
 ramp-is ls = refl
 
 pub ramp-nothing : (r : RampTable) (w : List ℕ) → lineAt rampLines w ≡ Nothing → r ≡ rampLine r w
-unfolding placeFrom words grown onto isBlank eqs
+unfolding placeFrom words grown ontoWord isBlank eqs
 ramp-nothing r w e =
     rw (
       takes-nothing "dV/dt_r" slopesLine (r .rise) w rampLines 0 e refl,

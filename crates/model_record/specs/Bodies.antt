@@ -36,8 +36,8 @@ use Rattle.model_record.specs.declared.FirstLines.{FirstLines}
 use Rattle.model_record.specs.declared.Body.{Body}
 use Rattle.model_record.specs.declared.Taken.{Taken}
 
-abbrev pub noTable : Table
-noTable = record { given = false; rows = record { start = 0; count = 0 } }
+abbrev pub absentTable : Table
+absentTable = record { given = false; rows = record { start = 0; count = 0 } }
 
 -- before the first keyword; the next row's place is n
 abbrev pub bareBody : ℕ → Body
@@ -45,10 +45,10 @@ bareBody n =
     record {
       voltage = noCells;
       temperature = noRange;
-      pulldown = noTable;
-      pullup = noTable;
-      ground = noTable;
-      power = noTable;
+      pulldown = absentTable;
+      pullup = absentTable;
+      ground = absentTable;
+      power = absentTable;
       ramp = noRamp;
       waveforms = 0;
       row = n;

@@ -13,7 +13,7 @@ ghost use Rattle.records.specs.Stored.{noCells};
 ghost use Rattle.records.specs.declared.Edge.{Edge};
 ghost use Rattle.records.specs.declared.RampTable.{RampTable};
 ghost use Rattle.records.specs.declared.Triple.{Triple};
-ghost use Rattle.model_record.specs.Bodies.{noTable, bareBody, withTable, partOn, bodyOn, KeyTaken};
+ghost use Rattle.model_record.specs.Bodies.{absentTable, bareBody, withTable, partOn, bodyOn, KeyTaken};
 use crate::Body;
 use crate::Taken;
 use crate::ramps::no_slopes;
@@ -31,7 +31,7 @@ use records::Table;
 use records::Triple;
 
 fn no_table() -> Table
-    ensures { λ r. ⌜ r ≡ noTable ⌝ }
+    ensures { λ r. ⌜ r ≡ absentTable ⌝ }
 {
     Table {
         given: false,

@@ -10,7 +10,7 @@ use Rattle.laws.specs.Lists.{eqs}
 use Rattle.laws.specs.Said.{Said, says, fault, orElse}
 use Rattle.laws.proofs.Tests.{by-test, cond-yes, cond-no, and-both, and-left, and-right}
 use Rattle.decimal.specs.declared.Decimal.{Decimal}
-use Rattle.words.specs.Words.{words, grown, onto}
+use Rattle.words.specs.Words.{words, grown, ontoWord}
 use Rattle.name_table.specs.Names.{placeFrom}
 use Rattle.name_table.specs.declared.Found.the-variants.{At}
 use Rattle.records.specs.declared.Row.{Row}
@@ -31,29 +31,29 @@ use Rattle.model_steps.specs.Rows.{onRow, rowStep, rowWent}
 
 module _ {A : Type 0} (read : List ℕ → Said A) (before : A) (w : List ℕ) (n : ℕ) (e : lineAt modelLines w ≡ At n) where
   pub takes-type : cond (eqb n 0) (orElse before (read w)) before ≡ takes "Model_type" read before w
-  unfolding takes placeFrom words grown onto isBlank eqs
+  unfolding takes placeFrom words grown ontoWord isBlank eqs
   takes-type = rw (named-at modelLines "Model_type" w n 0 e refl)
 
   pub takes-vinl : cond (eqb n 4) (orElse before (read w)) before ≡ takes "Vinl" read before w
-  unfolding takes placeFrom words grown onto isBlank eqs
+  unfolding takes placeFrom words grown ontoWord isBlank eqs
   takes-vinl = rw (named-at modelLines "Vinl" w n 4 e refl)
 
   pub takes-vinh : cond (eqb n 5) (orElse before (read w)) before ≡ takes "Vinh" read before w
-  unfolding takes placeFrom words grown onto isBlank eqs
+  unfolding takes placeFrom words grown ontoWord isBlank eqs
   takes-vinh = rw (named-at modelLines "Vinh" w n 5 e refl)
 
 -- ---- what was given, by name
 
 pub ramp-given : (g : Given) → bothGiven g ≡ (gave g rampLines "dV/dt_r" && gave g rampLines "dV/dt_f")
-unfolding gave placeFrom words grown onto isBlank eqs
+unfolding gave placeFrom words grown ontoWord isBlank eqs
 ramp-given g = refl
 
 pub fixture-given : (g : Given) → bothGiven g ≡ (gave g fixtures "R_fixture" && gave g fixtures "V_fixture")
-unfolding gave placeFrom words grown onto isBlank eqs
+unfolding gave placeFrom words grown ontoWord isBlank eqs
 fixture-given g = refl
 
 pub done-whole : (m : ModelState) → modelDone m ≡ cond (isWhole m) (cond (isCrossed m) 20 0) 9
-unfolding modelDone gave placeFrom words grown onto isBlank eqs
+unfolding modelDone gave placeFrom words grown ontoWord isBlank eqs
 done-whole m = refl
 
 -- ---- rows

@@ -18,7 +18,7 @@ use Rattle.rules.specs.Outline.{Entry, place, is, named, isUsed}
 use Rattle.records.specs.declared.Kind.{Kind}
 use Rattle.records.specs.declared.Kind.the-variants.{OfComponent, OfPin, OfSelector, OfChoice, OfModel}
 use Rattle.notes.specs.Noted.{orUsed, clash}
-use Rattle.note_words.specs.Store.{mostNames, lineAt, nameAt, noteAt, notesTo}
+use Rattle.note_words.specs.Store.{mostNames, notedLine, nameAt, noteAt, notesTo}
 use Rattle.note_words.proofs.Laws.{note-name, note-line}
 use Rattle.name_checks.specs.declared.Clash.the-variants.{At, NoClash}
 use Rattle.name_checks.specs.declared.Meeting.{Meeting}
@@ -178,8 +178,8 @@ module _ (s xs : List ℕ) where
       let z : i ≡ suc n = omega (arith, h, g) in
       sym (ap (λ (m : ℕ). clash (entriesTo s xs m)) z) ∙ e)
 
-  pub clash-here : (i n : ℕ) → i < n → clash (entriesTo s xs i) ≡ none → usedAt s xs i i ≡ true → clash (entriesTo s xs n) ≡ some (lineAt xs i)
-  clash-here i n g h u = clash-stays (suc i) n (lineAt xs i) g (clash-suc i h ∙ rw u (ap some (note-line s xs i)))
+  pub clash-here : (i n : ℕ) → i < n → clash (entriesTo s xs i) ≡ none → usedAt s xs i i ≡ true → clash (entriesTo s xs n) ≡ some (notedLine xs i)
+  clash-here i n g h u = clash-stays (suc i) n (notedLine xs i) g (clash-suc i h ∙ rw u (ap some (note-line s xs i)))
 
   pub clash-none : clash (entriesTo s xs 0) ≡ none
   unfolding notesTo clash

@@ -17,12 +17,12 @@ use Rattle.name_table.specs.declared.Found.{Found}
 use Rattle.name_table.specs.declared.Found.the-variants.{At, Nothing}
 use Rattle.rules.specs.Outline.{Entry, place, is, lists, isListed, firstFailing}
 use Rattle.rules.specs.Whole.{Outcome, refused, lastChecks}
-use Rattle.rules.specs.Last.{found, listed}
+use Rattle.rules.specs.Last.{found, listedIn}
 use Rattle.records.specs.declared.Fault.{Fault}
 use Rattle.records.specs.declared.Kind.{Kind}
 use Rattle.records.specs.declared.Kind.the-variants.{OfComponent, OfPin, OfSelector, OfChoice, OfModel}
 use Rattle.notes.specs.Noted.{clash}
-use Rattle.note_words.specs.Store.{namesHeld, byKindFrom, storeLength, lineAt, noteAt, notesTo}
+use Rattle.note_words.specs.Store.{namesHeld, byKindFrom, storeLength, notedLine, noteAt, notesTo}
 use Rattle.note_words.proofs.Laws.{note-line}
 use Rattle.name_checks.specs.declared.Last.{Last}
 use Rattle.name_checks.specs.declared.Last.the-variants.{Fine, Faulty}
@@ -71,7 +71,7 @@ module _ (xs : List ℕ) (i k : ℕ) (later : Last) (kind : k ≡ placeAt xs i) 
   unfolding unmarked
   unmarked-kept w h e o = rw (← kind) rw h rw (← e) rw o refl
 
-  pub unmarked-told : (w : ℕ) → modelOrSelector k ≡ true → w ≡ getD xs (byKindFrom + i) 0 → (w ≡ 1 → ⊥) → toldOf 16 (lineAt xs i) ≡ unmarked xs i later
+  pub unmarked-told : (w : ℕ) → modelOrSelector k ≡ true → w ≡ getD xs (byKindFrom + i) 0 → (w ≡ 1 → ⊥) → toldOf 16 (notedLine xs i) ≡ unmarked xs i later
   unfolding unmarked
   unmarked-told w h e o = rw (← kind) rw h rw (← e) rw (ne-eqb w 1 o) refl
 
@@ -263,20 +263,20 @@ listed-kind es f OfChoice later line = refl
 listed-kind es f OfModel later line = refl
 
 module _ (s xs ys : List ℕ) (n : ℕ) (es : List Entry) (small : n ≤ namesHeld) (o : Outside xs ys) (marks : Marks s xs es n ys) where
-  unlisted-told : (j : ℕ) (later : Last) → j < n → unmarked ys j later ≡ cond (listed es (entryAt s xs j)) later (toldOf 16 (noteAt s xs j .line))
+  unlisted-told : (j : ℕ) (later : Last) → j < n → unmarked ys j later ≡ cond (listedIn es (entryAt s xs j)) later (toldOf 16 (noteAt s xs j .line))
   unfolding unmarked
   unlisted-told j later h =
       let b : j ≤ namesHeld = omega (arith, h, small) in
       rw (outside-place xs ys j o b) rw (marks j h) rw (line-outside s xs ys o j b)
       rw (← (note-kind s xs j)) rw (← (note-line s xs j)) (listed-kind es (entryAt s xs j) (noteAt s xs j .kind) later (toldOf 16 (noteAt s xs j .line)))
 
-  unlisted-from : (j m : ℕ) → j + m ≤ n → unmarkedFrom ys j m ≡ toldOf 16 (firstFailing (listed es) (entriesFrom s xs j m))
+  unlisted-from : (j m : ℕ) → j + m ≤ n → unmarkedFrom ys j m ≡ toldOf 16 (firstFailing (listedIn es) (entriesFrom s xs j m))
   unfolding unmarkedFrom entriesFrom firstFailing toldOf
   unlisted-from j zero h = refl
   unlisted-from j (suc m) h =
       ap (unmarked ys j) (unlisted-from (j + 1) m (omega (arith, h)))
-      ∙ unlisted-told j (toldOf 16 (firstFailing (listed es) (entriesFrom s xs (j + 1) m))) (omega (arith, h))
-      ∙ sym (cond-map (toldOf 16) (listed es (entryAt s xs j)) (firstFailing (listed es) (entriesFrom s xs (j + 1) m)) (noteAt s xs j .line))
+      ∙ unlisted-told j (toldOf 16 (firstFailing (listedIn es) (entriesFrom s xs (j + 1) m))) (omega (arith, h))
+      ∙ sym (cond-map (toldOf 16) (listedIn es (entryAt s xs j)) (firstFailing (listedIn es) (entriesFrom s xs (j + 1) m)) (noteAt s xs j .line))
 
 -- ---- the last checks
 
@@ -302,7 +302,7 @@ module _ (a b : ℕ) (d : Outcome) where
 module _ (s xs ys : List ℕ) (n : ℕ) (r : Last) (m : Marked s xs ys n r) where
   pub concludes-missing : (f : Fault) → r ≡ Faulty f → Concludes (entriesTo s xs n) (Faulty f)
   unfolding lastChecks
-  concludes-missing f h d = rw (file-order s xs n) (first-told _ (firstFailing (listed (entriesFrom s xs 0 n)) (entriesFrom s xs 0 n)) d f (sym (m .first) ∙ h))
+  concludes-missing f h d = rw (file-order s xs n) (first-told _ (firstFailing (listedIn (entriesFrom s xs 0 n)) (entriesFrom s xs 0 n)) d f (sym (m .first) ∙ h))
 
   pub concludes-listed : r ≡ Fine → n ≤ namesHeld → (u : Last) → u ≡ unmarkedFrom ys 0 n → Concludes (entriesTo s xs n) u
   unfolding lastChecks

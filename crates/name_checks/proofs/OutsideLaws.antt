@@ -7,7 +7,7 @@ use lib.ListN.{set, length-set}
 use lib.Seq.{getD-set-other}
 use Rattle.rules.specs.Outline.{place}
 use Rattle.notes.specs.Noted.{entryOf}
-use Rattle.note_words.specs.Store.{namesHeld, wordsPerName, byKindFrom, wavesFrom, kindOf, nameWord, lineAt, nameAt, noteAt}
+use Rattle.note_words.specs.Store.{namesHeld, wordsPerName, byKindFrom, wavesFrom, kindOf, nameWord, notedLine, nameAt, noteAt}
 use Rattle.note_words.proofs.Laws.{notes-agree, note-agree}
 use Rattle.name_checks.specs.Lookup.{placeAt, modelAt, entriesTo, Outside}
 
@@ -33,7 +33,7 @@ module _ (s xs ys : List ℕ) (o : Outside xs ys) where
   word-outside : (i k : ℕ) → i ≤ namesHeld → k < wordsPerName → nameWord ys i k ≡ nameWord xs i k
   word-outside i k h g = o .below (wordsPerName * i + k) (omega arith) (omega (arith, h, g))
 
-  pub line-outside : (i : ℕ) → i ≤ namesHeld → lineAt ys i ≡ lineAt xs i
+  pub line-outside : (i : ℕ) → i ≤ namesHeld → notedLine ys i ≡ notedLine xs i
   line-outside i h = word-outside i 1 h (omega arith)
 
   pub name-outside : (i : ℕ) → i ≤ namesHeld → nameAt s ys i ≡ nameAt s xs i

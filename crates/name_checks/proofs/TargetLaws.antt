@@ -18,7 +18,7 @@ use Rattle.rules.specs.Last.{found}
 use Rattle.records.specs.declared.Kind.{Kind}
 use Rattle.records.specs.declared.Kind.the-variants.{OfComponent, OfPin, OfSelector, OfChoice, OfModel}
 use Rattle.notes.specs.Noted.{orUsed, clash}
-use Rattle.note_words.specs.Store.{namesHeld, kindAt, lineAt, nameAt, noteOf, noteAt, notesTo}
+use Rattle.note_words.specs.Store.{namesHeld, kindAt, notedLine, nameAt, noteOf, noteAt, notesTo}
 use Rattle.note_words.proofs.Laws.{note-name, note-line}
 use Rattle.name_checks.specs.declared.Last.{Last}
 use Rattle.name_checks.specs.Lookup.{placeAt, modelAt, entryAt, entriesTo, entriesFrom, Outside, modelOrSelector, enclosed, reaches, reachesAt, targetTo, excused, toldOf, missing, withMark}
@@ -182,14 +182,14 @@ row-reaches OfModel = refl
 module _ (s xs : List ℕ) (i n : ℕ) (later : Last) where
   told-unless : (t : Found) → excused (placeAt xs i) (modelAt s xs i) ≡ true → later ≡ missing s xs i later t
   told-unless (At j) h = refl
-  told-unless Nothing h = sym (cond-yes later (toldOf 15 (lineAt xs i)) h)
+  told-unless Nothing h = sym (cond-yes later (toldOf 15 (notedLine xs i)) h)
 
-  pin-told : (t : Found) → placeAt xs i ≡ 1 → cond (needsNoModel (modelAt s xs i) || isAt t) later (toldOf 15 (lineAt xs i)) ≡ missing s xs i later t
+  pin-told : (t : Found) → placeAt xs i ≡ 1 → cond (needsNoModel (modelAt s xs i) || isAt t) later (toldOf 15 (notedLine xs i)) ≡ missing s xs i later t
   unfolding excused
   pin-told (At j) h = by-test (needsNoModel (modelAt s xs i)) (λ t. rw t refl) (λ t. rw t refl)
   pin-told Nothing h = rw h rw (or-none (needsNoModel (modelAt s xs i))) refl
 
-  row-told : (t : Found) → placeAt xs i ≡ 3 → cond (isAt t) later (toldOf 15 (lineAt xs i)) ≡ missing s xs i later t
+  row-told : (t : Found) → placeAt xs i ≡ 3 → cond (isAt t) later (toldOf 15 (notedLine xs i)) ≡ missing s xs i later t
   unfolding excused
   row-told (At j) h = refl
   row-told Nothing h = rw h refl
@@ -201,7 +201,7 @@ module _ (s xs : List ℕ) (i n : ℕ) (later : Last) where
   hits-as : (k : Kind) → noteAt s xs i .kind ≡ k → (j : ℕ) → (reaches (place k) (place (noteAt s xs j .kind)) && eqs (noteAt s xs i .names) (noteAt s xs j .name)) ≡ reachesAt s xs i j
   hits-as k e j = subst (λ (x : Kind). (reaches (place x) (place (noteAt s xs j .kind)) && eqs (noteAt s xs i .names) (noteAt s xs j .name)) ≡ reachesAt s xs i j) e (hits-at s xs i j)
 
-  found-kind : (k : Kind) → noteAt s xs i .kind ≡ k → cond (isFound (entriesFrom s xs 0 n) (entryAt s xs i) k) later (toldOf 15 (lineAt xs i)) ≡ missing s xs i later (targetTo s xs i n)
+  found-kind : (k : Kind) → noteAt s xs i .kind ≡ k → cond (isFound (entriesFrom s xs 0 n) (entryAt s xs i) k) later (toldOf 15 (notedLine xs i)) ≡ missing s xs i later (targetTo s xs i n)
   unfolding excused enclosed
   found-kind OfComponent e = told-unless (targetTo s xs i n) (rw (number OfComponent e) refl)
   found-kind OfPin e =
@@ -251,10 +251,10 @@ module _ (s xs : List ℕ) (i k : ℕ) (kind : k ≡ placeAt xs i) where
 -- nothing is found: by whether something must be
 module _ (s xs : List ℕ) (i : ℕ) (later : Last) (t : Bool) (e : t ≡ excused (placeAt xs i) (modelAt s xs i)) where
   pub missing-excused : t ≡ true → later ≡ missing s xs i later Nothing
-  missing-excused h = sym (cond-yes later (toldOf 15 (lineAt xs i)) (sym e ∙ h))
+  missing-excused h = sym (cond-yes later (toldOf 15 (notedLine xs i)) (sym e ∙ h))
 
-  pub missing-told : t ≡ false → toldOf 15 (lineAt xs i) ≡ missing s xs i later Nothing
-  missing-told h = sym (cond-no later (toldOf 15 (lineAt xs i)) (sym e ∙ h))
+  pub missing-told : t ≡ false → toldOf 15 (notedLine xs i) ≡ missing s xs i later Nothing
+  missing-told h = sym (cond-no later (toldOf 15 (notedLine xs i)) (sym e ∙ h))
 
 -- what the search says, said of what is marked and told
 pub target-marks : (s xs : List ℕ) (i n : ℕ) (later v : Last) (t x : Found) → t ≡ targetTo s xs i n → t ≡ x → v ≡ missing s xs i later x

@@ -18,7 +18,7 @@ use Rattle.records.specs.Bounds.{most}
 use Rattle.records.specs.declared.Kind.{Kind}
 use Rattle.records.specs.declared.Kind.the-variants.{OfComponent, OfPin, OfSelector, OfChoice, OfModel}
 use Rattle.notes.specs.Noted.{Note, entryOf}
-use Rattle.note_words.specs.Store.{mostNames, byKindFrom, listFrom, wavesFrom, storeLength, kindOf, kindAt, lineAt, nameAt, rowAt, noteAt, notesTo}
+use Rattle.note_words.specs.Store.{mostNames, byKindFrom, listFrom, wavesFrom, storeLength, kindOf, kindAt, notedLine, nameAt, rowAt, noteAt, notesTo}
 use Rattle.layout_by_notes.specs.Lies.{pick, isOf}
 use Rattle.name_checks.specs.declared.Clash.{Clash}
 use Rattle.name_checks.specs.declared.Clash.the-variants.{At, NoClash}
@@ -139,7 +139,7 @@ toldOf number line = cond (eqb line 0) Fine (Faulty (record { number = number; l
 -- the fault of the name at place i where it names nothing, else that of the later ones
 abbrev pub missing : List ℕ → List ℕ → ℕ → Last → Found → Last
 missing s xs i later (answer.At j) = later
-missing s xs i later answer.Nothing = cond (excused (placeAt xs i) (modelAt s xs i)) later (toldOf 15 (lineAt xs i))
+missing s xs i later answer.Nothing = cond (excused (placeAt xs i) (modelAt s xs i)) later (toldOf 15 (notedLine xs i))
 
 -- ---- marks of what is listed: a word a name, where later the names lie by kind
 
@@ -178,7 +178,7 @@ pub record Marked (s xs ys : List ℕ) (n : ℕ) (r : Last) : Type 0 where
 
 -- the fault of the name at place j where it is a model's or a selector's and not marked, else that of the later ones
 unfoldable pub unmarked : List ℕ → ℕ → Last → Last
-unmarked xs j later = cond (modelOrSelector (placeAt xs j)) (cond (isMarked xs j) later (toldOf 16 (lineAt xs j))) later
+unmarked xs j later = cond (modelOrSelector (placeAt xs j)) (cond (isMarked xs j) later (toldOf 16 (notedLine xs j))) later
 
 -- the first such fault of n names from place j on
 unfoldable pub unmarkedFrom : List ℕ → ℕ → ℕ → Last

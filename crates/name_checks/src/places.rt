@@ -2,7 +2,7 @@
 ghost use mathlib.Core.Path.{_≡_};
 ghost use Prim.Native.Nat.{_≤_, _<_};
 ghost use Rattle.laws.specs.Lists.{part, eqs};
-ghost use Rattle.note_words.specs.Store.{namesHeld, mostNames, byKindFrom, lineAt};
+ghost use Rattle.note_words.specs.Store.{namesHeld, mostNames, byKindFrom, notedLine};
 ghost use Rattle.name_checks.specs.Lookup.{placeAt, partSaid, Within, keyFrom, keyAt, keysTo};
 use note_words::LINE;
 use note_words::MOST_NAMES;
@@ -24,7 +24,7 @@ pub fn kind_at(notes: &[u32], i: usize) -> usize
 
 pub fn line_at(notes: &[u32], i: usize) -> u64
     requires { ⌜ i ≤ namesHeld ⌝ }
-    ensures { λ r. ⌜ r ≡ lineAt (now (notes .entry)) i ⌝ }
+    ensures { λ r. ⌜ r ≡ notedLine (now (notes .entry)) i ⌝ }
 {
     note_words::word(notes, WORDS_PER_NAME * i + LINE) as u64
 }

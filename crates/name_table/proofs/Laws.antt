@@ -9,7 +9,7 @@ use native.Mathlib.Omega.{arith}
 use lib.ListN.{length}
 use Rattle.laws.specs.Lists.{eqs}
 use Rattle.laws.proofs.Tests.{by-test, cond-yes, cond-no}
-use Rattle.name_table.specs.Names.{Entry, meaning, placeFrom}
+use Rattle.name_table.specs.Names.{Naming, meaning, placeFrom}
 use Rattle.name_table.specs.Places.{namesOf, meaningAt, meaningOf}
 use Rattle.name_table.specs.declared.Found.{Found}
 use Rattle.name_table.specs.declared.Found.the-variants.{At, Nothing}
@@ -32,7 +32,7 @@ place-later k w n ns more e h = ap (placeFrom k w) e ∙ cond-no _ _ h
 -- ---- a table's names and meanings
 
 -- the place is counted from k on: what stands there is what stands that much further
-abbrev later : {A : Type 0} → List (Entry A) → ℕ → Found → Option A
+abbrev later : {A : Type 0} → List (Naming A) → ℕ → Found → Option A
 later es k Nothing = none
 later es k (At n) = meaningAt es (n - k)
 
@@ -51,14 +51,14 @@ past k w (n ∷ ns) =
     weaken Nothing h = tt
     weaken (At n) h = omega arith
 
-later-suc : {A : Type 0} (e : Entry A) (es : List (Entry A)) (k : ℕ) (f : Found) → Past (k + 1) f → later (e ∷ es) k f ≡ later es (k + 1) f
+later-suc : {A : Type 0} (e : Naming A) (es : List (Naming A)) (k : ℕ) (f : Found) → Past (k + 1) f → later (e ∷ es) k f ≡ later es (k + 1) f
 unfolding Past meaningAt
 later-suc e es k Nothing h = refl
 later-suc e es k (At n) h =
     let q : n - k ≡ suc (n - (k + 1)) = omega arith in
     ap (meaningAt (e ∷ es)) q
 
-meaning-from : {A : Type 0} (w : List ℕ) (es : List (Entry A)) (k : ℕ) → meaning w es ≡ later es k (placeFrom k w (namesOf es))
+meaning-from : {A : Type 0} (w : List ℕ) (es : List (Naming A)) (k : ℕ) → meaning w es ≡ later es k (placeFrom k w (namesOf es))
 unfolding meaning placeFrom namesOf meaningAt
 meaning-from w [] k = refl
 meaning-from w (e ∷ es) k =
@@ -67,7 +67,7 @@ meaning-from w (e ∷ es) k =
     (λ h. rw h (meaning-from w es (k + 1) ∙ sym (later-suc e es k (placeFrom (k + 1) w (namesOf es)) (past (k + 1) w (namesOf es)))))
 
 -- the meaning is what stands at the place found
-pub meaning-place : {A : Type 0} (w : List ℕ) (es : List (Entry A)) → meaning w es ≡ meaningOf es (placeFrom 0 w (namesOf es))
+pub meaning-place : {A : Type 0} (w : List ℕ) (es : List (Naming A)) → meaning w es ≡ meaningOf es (placeFrom 0 w (namesOf es))
 unfolding meaningOf
 meaning-place w es = meaning-from w es 0 ∙ plain (placeFrom 0 w (namesOf es))
   where
@@ -76,7 +76,7 @@ meaning-place w es = meaning-from w es 0 ∙ plain (placeFrom 0 w (namesOf es))
     plain (At n) = let q : n - 0 ≡ n = omega arith in ap (meaningAt es) q
 
 -- past the end of a table nothing stands
-pub meaning-past : {A : Type 0} (es : List (Entry A)) (k : ℕ) → length es ≤ k → meaningAt es k ≡ none
+pub meaning-past : {A : Type 0} (es : List (Naming A)) (k : ℕ) → length es ≤ k → meaningAt es k ≡ none
 unfolding meaningAt
 meaning-past [] k h = refl
 meaning-past (e ∷ es) zero h = absurd (omega arith)

@@ -10,15 +10,15 @@ use Rattle.name_table.specs.declared.Found.{Found}
 use Rattle.name_table.specs.declared.Found.the-variants.{At, Nothing}
 
 -- a name and what it means
-pub record Entry (A : Type 0) : Type 0 where
+pub record Naming (A : Type 0) : Type 0 where
   pub name : List ℕ
   pub means : A
 
-abbrev pub entry : {A : Type 0} → String → A → Entry A
-entry s a = record { name = bytes s; means = a }
+abbrev pub naming : {A : Type 0} → String → A → Naming A
+naming s a = record { name = bytes s; means = a }
 
 -- what a name means in a table
-unfoldable pub meaning : {A : Type 0} → List ℕ → List (Entry A) → Option A
+unfoldable pub meaning : {A : Type 0} → List ℕ → List (Naming A) → Option A
 meaning w [] = none
 meaning w (e ∷ es) = cond (eqs w (e .name)) (some (e .means)) (meaning w es)
 

@@ -11,7 +11,7 @@ use Rattle.records.specs.declared.Counts.{Counts}
 use Rattle.laws.proofs.Tests.{by-test, cond-yes, cond-no}
 use Rattle.records.specs.declared.Kind.{Kind}
 use Rattle.notes.specs.Noted.{Note}
-use Rattle.note_words.specs.Store.{namesHeld, mostNames, wordsPerName, wordsPerWave, wavesFrom, wordsOfSection, sectionFrom, sectionAt, wordsOfRow, rowFrom, rowAt, kindOf, kindAt, nameWord, lineAt, nameAt, isSection, noteOf, noteAt, waveWords, waveAt, notesTo, wavesTo, logIn}
+use Rattle.note_words.specs.Store.{namesHeld, mostNames, wordsPerName, wordsPerWave, wavesFrom, wordsOfSection, sectionFrom, sectionAt, wordsOfRow, rowFrom, rowAt, kindOf, kindAt, nameWord, notedLine, nameAt, isSection, noteOf, noteAt, waveWords, waveAt, notesTo, wavesTo, logIn}
 use Rattle.note_words.specs.declared.SectionNote.{SectionNote}
 use Rattle.note_words.specs.declared.RowNote.{RowNote}
 use lib.Seq.{sets, getD-set-same, getD-set-other, drop-cons}
@@ -105,7 +105,7 @@ module _ (s xs : List ℕ) (i : ℕ) where
   unfolding noteAt
   note-kind = of-kind (kindAt xs i)
 
-  pub note-line : noteAt s xs i .line ≡ lineAt xs i
+  pub note-line : noteAt s xs i .line ≡ notedLine xs i
   unfolding noteAt
   note-line = by-test (isSection (kindAt xs i)) (λ t. rw t refl) (λ t. rw t refl)
 

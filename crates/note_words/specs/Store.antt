@@ -76,8 +76,8 @@ kindAt xs i = kindOf (getD xs (wordsPerName * i) 0)
 abbrev pub nameWord : List ℕ → ℕ → ℕ → ℕ
 nameWord xs i j = getD xs (wordsPerName * i + j) 0
 
-abbrev pub lineAt : List ℕ → ℕ → ℕ
-lineAt xs i = nameWord xs i 1
+abbrev pub notedLine : List ℕ → ℕ → ℕ
+notedLine xs i = nameWord xs i 1
 
 abbrev pub nameAt : List ℕ → List ℕ → ℕ → List ℕ
 nameAt s xs i = part (nameWord xs i 2) (nameWord xs i 3) s

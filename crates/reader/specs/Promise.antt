@@ -29,7 +29,7 @@ abbrev pub lengthsIn : Lent → Lengths
 lengthsIn t =
     lengthsOf (length (t .components)) (length (t .pins)) (length (t .selectors)) (length (t .choices)) (length (t .models)) (length (t .waveforms)) (length (t .rows))
 
--- an accepted file is laid over what the tables held; "after a fault, the lent tables hold what they held before"
+-- an accepted file is laid over what the tables held; demand 1: "after a fault, the lent tables hold what they held before"
 abbrev pub left : Outcome → Laid → Lent → Lent
 left (passed h) a t =
     tables (over (t .components) (a .components)) (over (t .pins) (a .pins)) (over (t .selectors) (a .selectors)) (over (t .choices) (a .choices))

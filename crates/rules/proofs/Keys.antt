@@ -10,7 +10,7 @@ use Rattle.laws.specs.Lists.{eqs, front}
 use Rattle.laws.specs.Said.{orFault}
 use Rattle.laws.proofs.Tests.{by-test, cond-yes, cond-no, cond-map, impossible}
 use Rattle.laws.proofs.Same.{eqs-eq}
-use Rattle.words.specs.Words.{word, words, grown, onto}
+use Rattle.words.specs.Words.{word, words, grown, ontoWord}
 use Rattle.name_table.specs.Names.{meaning}
 use Rattle.keywords.specs.Form.{inside, isFormed, spelled}
 use Rattle.keywords.specs.Carried.{carried, keyOf}
@@ -123,7 +123,7 @@ abbrev bounds : List (List ℕ)
 bounds = words (bytes "component model_selector model end")
 
 spelling-within : (k : Keyword) → oneOf (bytes (spelling k)) bounds ≡ isEnd (some k)
-unfolding oneOf eqs words grown onto isBlank
+unfolding oneOf eqs words grown ontoWord isBlank
 spelling-within = each-keyword _ refl refl refl refl refl refl refl refl refl refl refl refl refl refl refl refl refl refl refl refl refl refl refl refl
 
 -- none of the names in a list of keywords' spellings
@@ -137,7 +137,7 @@ none-of-spellings t [] e = refl
 none-of-spellings t (k ∷ ks) e = rw (key-unnamed t k e) (none-of-spellings t ks e)
 
 bounds-are : bounds ≡ areSpellings (Opens Component ∷ Opens Selector ∷ Opens Model ∷ End ∷ [])
-unfolding words grown onto isBlank
+unfolding words grown ontoWord isBlank
 bounds-are = refl
 
 within-by : (t : Text) (x : Option Keyword) → keyAt t ≡ x → isWithin t ≡ not (isEnd x)

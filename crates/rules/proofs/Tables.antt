@@ -5,7 +5,7 @@ use mathlib.Core.Bool.{Bool, cond}
 use mathlib.Core.Option.{none, some}
 use Prim.Native.Nat.{ℕ}
 use Rattle.laws.specs.Bytes.{bytes, isBlank}
-use Rattle.words.specs.Words.{words, grown, onto}
+use Rattle.words.specs.Words.{words, grown, ontoWord}
 use Rattle.keywords.specs.declared.Keyword.{Keyword}
 use Rattle.keywords.specs.declared.Keyword.the-variants.{InModel}
 use Rattle.keywords.specs.declared.ModelPart.the-variants.{Current, Waveform}
@@ -26,7 +26,7 @@ tableKeys =
     ∷ []
 
 tables-are : words (bytes tableKeywords) ≡ areSpellings tableKeys
-unfolding words grown onto isBlank tableKeys
+unfolding words grown ontoWord isBlank tableKeys
 tables-are = refl
 
 -- the table under a keyword of this name, if there is one

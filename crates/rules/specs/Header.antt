@@ -38,10 +38,10 @@ headerFault argument FileName = cond (oneWord isFileName (words argument)) 0 10
 headerFault argument FileRev = cond (eqb (length argument) 0) 10 0
 headerFault argument (FreeText t) = 0
 
--- of the five texts, from place 2 on, the "text runs to the next keyword"
+-- of the five texts, [Date] the first of them, the "text runs to the next keyword"
 unfoldable pub headerPart : HeaderState → ℕ → List ℕ → HeaderPart → Went
 headerPart h k argument p =
-    once (h .parts) (headerPlace p) (headerFault argument p) k (λ g. InHeader (record { line = h .line; text = leb 2 (headerPlace p); parts = g }))
+    once (h .parts) (headerPlace p) (headerFault argument p) k (λ g. InHeader (record { line = h .line; text = leb (headerPlace (FreeText Date)) (headerPlace p); parts = g }))
 
 -- a line that is no keyword line: part of a text, or without a place
 unfoldable pub headerLine : HeaderState → ℕ → Went

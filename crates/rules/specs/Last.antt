@@ -6,5 +6,5 @@ use Rattle.rules.specs.Outline.{Entry, isFound, isListed}
 abbrev pub found : List Entry → Entry → Bool
 found all e = isFound all e (e .kind)
 
-abbrev pub listed : List Entry → Entry → Bool
-listed all e = isListed all e (e .kind)
+abbrev pub listedIn : List Entry → Entry → Bool
+listedIn all e = isListed all e (e .kind)

@@ -26,7 +26,7 @@ use Rattle.note_words.specs.declared.SectionNote.{SectionNote}
 use Rattle.note_words.specs.declared.RowNote.{RowNote}
 use Rattle.note_words.proofs.Laws.{section-said, row-said, log-note, log-wave}
 use Rattle.scan.specs.Places.{FirstIn}
-use Rattle.scan.specs.Events.{logOf, toldIs, loggedAt, sectionIn, rowIn, counted, Within, Kept, Ready}
+use Rattle.scan.specs.Events.{logOf, toldIs, loggedAt, sectionIn, rowIn, counted, Within, KeptCounts, Ready}
 use Rattle.scan.specs.declared.Spot.{Spot}
 use Rattle.scan.specs.declared.Tally.{Tally}
 use Rattle.scan.specs.declared.Told.{Told}
@@ -65,7 +65,7 @@ name-told s xs ws l t n within nine says =
 
 -- ---- the bounds
 
-pub kept-more : (l : Lengths) (t : Tally) (k : Kind) → Within t → used (t .counts) k < bound l k → Kept t (record { names = t .names + 1; counts = oneMore (t .counts) k })
+pub kept-more : (l : Lengths) (t : Tally) (k : Kind) → Within t → used (t .counts) k < bound l k → KeptCounts t (record { names = t .names + 1; counts = oneMore (t .counts) k })
 kept-more l t OfComponent w h = record { within = record { names = omega (arith, w .names); components = omega (arith, h); pins = w .pins; selectors = w .selectors; choices = w .choices; models = w .models; waveforms = w .waveforms }; rows = omega arith }
 kept-more l t OfPin w h = record { within = record { names = omega (arith, w .names); components = w .components; pins = omega (arith, h); selectors = w .selectors; choices = w .choices; models = w .models; waveforms = w .waveforms }; rows = omega arith }
 kept-more l t OfSelector w h = record { within = record { names = omega (arith, w .names); components = w .components; pins = w .pins; selectors = omega (arith, h); choices = w .choices; models = w .models; waveforms = w .waveforms }; rows = omega arith }
@@ -119,7 +119,7 @@ module _ (s xs : List ℕ) (l : Lengths) (t : Tally) (p : Spot) (ready : Ready s
       rw (log-wave s xs (t .names) (t .counts .waveforms) (p .start) (p .line) (p .next .comment) (t .counts .rows) (moreWaveforms (t .counts)) (omega (arith, n)) (omega (arith, h, ready .store)) refl)
       rw (ready .text .here) refl
 
-  pub kept-waveform : t .counts .waveforms < min mostWaveforms (l .waveforms) → Kept t (record { names = t .names; counts = moreWaveforms (t .counts) })
+  pub kept-waveform : t .counts .waveforms < min mostWaveforms (l .waveforms) → KeptCounts t (record { names = t .names; counts = moreWaveforms (t .counts) })
   kept-waveform h =
       let w : Within t = ready .within in
       record { within = record { names = w .names; components = w .components; pins = w .pins; selectors = w .selectors; choices = w .choices; models = w .models; waveforms = omega (arith, h) }; rows = omega arith }
@@ -134,12 +134,12 @@ module _ (s xs : List ℕ) (l : Lengths) (t : Tally) (p : Spot) (ready : Ready s
   unfolding logIn
   rows-going h = rw (lt-leb (l .rows) (t .counts .rows) h) refl
 
-  pub kept-row : Kept t (record { names = t .names; counts = moreRows (t .counts) })
+  pub kept-row : KeptCounts t (record { names = t .names; counts = moreRows (t .counts) })
   kept-row =
       let w : Within t = ready .within in
       record { within = record { names = w .names; components = w .components; pins = w .pins; selectors = w .selectors; choices = w .choices; models = w .models; waveforms = w .waveforms }; rows = omega arith }
 
-  pub kept-same : Kept t t
+  pub kept-same : KeptCounts t t
   kept-same = record { within = ready .within; rows = omega arith }
 
   pub end-none : (alone : Bool) → t .counts .components ≡ 0 → loggedAt l s xs t p (Ended alone) ≡ full 9 (p .line) (logOf s xs t)

@@ -22,7 +22,7 @@ use Rattle.rules.specs.declared.Went.{Went}
 use Rattle.rules.specs.declared.Went.the-variants.{On, Stop}
 use Rattle.notes.specs.Noted.{Finish, going, full, broken, outOfLines, runLog, emptyLog, nothingUsed}
 use Rattle.note_words.specs.Store.{logIn, notesTo, wavesTo, storeLength}
-use Rattle.scan.specs.Events.{logOf, loggedAt, Within, Kept, Ready}
+use Rattle.scan.specs.Events.{logOf, loggedAt, Within, KeptCounts, Ready}
 use Rattle.scan.specs.Scans.{finishIs, textStep, changeStep, GoesOn, Ends, StepIs, runFrom, Sound, Moves, TurnIs}
 use Rattle.scan.specs.declared.Spot.{Spot}
 use Rattle.scan.specs.declared.Tally.{Tally}

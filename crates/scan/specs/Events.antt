@@ -63,12 +63,12 @@ pub record Within (t : Tally) : Type 0 where
   pub waveforms : t .counts .waveforms ≤ mostWaveforms
 
 -- at most one row more
-pub record Kept (t u : Tally) : Type 0 where
+pub record KeptCounts (t u : Tally) : Type 0 where
   pub within : Within u
   pub rows : u .counts .rows ≤ t .counts .rows + 1
 
 abbrev pub KeptBy : Tally → Told → Type 0
-KeptBy t (Going u) = Kept t u
+KeptBy t (Going u) = KeptCounts t u
 KeptBy t (Full n u) = u .names ≤ mostNames
 
 -- a text of the file, with room in the store for what it adds

@@ -14,7 +14,7 @@ use Rattle.records.specs.declared.Lengths.{Lengths}
 use Rattle.rules.specs.declared.Stage.{Stage}
 use Rattle.notes.specs.Noted.{Log, Finish, afterWent, runLog}
 use Rattle.note_words.specs.Store.{mostNames, storeLength}
-use Rattle.scan.specs.Events.{logOf, Within, Kept}
+use Rattle.scan.specs.Events.{logOf, Within, KeptCounts}
 use Rattle.scan.specs.declared.Spot.{Spot}
 use Rattle.scan.specs.declared.Tally.{Tally}
 use Rattle.scan.specs.declared.Standing.{Standing}
@@ -24,12 +24,12 @@ use Rattle.scan.specs.declared.Ending.the-variants.{Whole, Broken}
 use Rattle.scan.specs.declared.Turn.{Turn}
 use Rattle.scan.specs.declared.Turn.the-variants.{On, End}
 
-abbrev pub faultIn : Ending → Option Fault
-faultIn Whole = none
-faultIn (Broken f) = some f
+abbrev pub faultOfEnding : Ending → Option Fault
+faultOfEnding Whole = none
+faultOfEnding (Broken f) = some f
 
 abbrev pub finishIs : List ℕ → List ℕ → Scanned → Finish
-finishIs s xs r = record { fault = faultIn (r .ending); log = logOf s xs (r .tally) }
+finishIs s xs r = record { fault = faultOfEnding (r .ending); log = logOf s xs (r .tally) }
 
 -- ---- one text: n is the number of the line after the last
 
@@ -47,7 +47,7 @@ changeStep l n s xs g t k f c =
 pub record GoesOn (l : Lengths) (n : ℕ) (s xs : List ℕ) (f : Finish) (t : Tally) (c : Cursor) (y : Standing) : Type 0 where
   pub says : f ≡ runLog l n (y .stage) (logOf s xs (y .tally)) (rest s (y .cursor))
   pub cursor : y .cursor ≡ c
-  pub kept : Kept t (y .tally)
+  pub kept : KeptCounts t (y .tally)
 
 -- lines read to the end leave a tally within the bounds
 abbrev pub WithinAt : Tally → Ending → Type 0

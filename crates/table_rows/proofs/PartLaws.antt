@@ -6,7 +6,7 @@ use mathlib.Core.Bool.{Bool, true, false, cond}
 use mathlib.Core.Option.{none, some}
 use Rattle.laws.specs.Bytes.{bytes, isBlank}
 use Rattle.laws.specs.Lists.{eqs}
-use Rattle.words.specs.Words.{words, grown, onto}
+use Rattle.words.specs.Words.{words, grown, ontoWord}
 use Rattle.keywords.specs.declared.Keyword.{Keyword}
 use Rattle.keywords.proofs.Spelling.{spelling}
 use Rattle.cut_lines.specs.Texts.{Text}
@@ -24,7 +24,7 @@ use Rattle.table_rows.proofs.Stores.{stored-append}
 
 -- by name and by case
 spelling-table : (k : Keyword) → oneOf (bytes (spelling k)) (words (bytes tableKeywords)) ≡ opensTable k
-unfolding oneOf eqs words grown onto isBlank
+unfolding oneOf eqs words grown ontoWord isBlank
 spelling-table = each-keyword _ refl refl refl refl refl refl refl refl refl refl refl refl refl refl refl refl refl refl refl refl refl refl refl refl
 
 -- a table more, if t is true

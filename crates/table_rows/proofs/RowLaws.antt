@@ -14,7 +14,7 @@ use Rattle.rules.specs.Reading.{ontoRows, rowsIn}
 use Rattle.records.specs.Stored.{rowWords, stored}
 use Rattle.records.specs.declared.Row.{Row}
 use Rattle.lines_under.proofs.Folds.{Folds, Small}
-use Rattle.table_rows.specs.Rows.{withRow, counted}
+use Rattle.table_rows.specs.Rows.{withSaidRow, counted}
 
 -- ---- what the code answers of a line
 
@@ -28,11 +28,11 @@ module _ {read : RowRead} (w : List ℕ) (i : read ≡ rowRead (rowOf (words w))
 -- ---- a line more
 
 module _ {X : Type 0} {f : X → List Row → X} {add : X → Row → X} (k : Folds f add) where
-  pub onto-row : (x : X) (read : Said Row) (rs : List Row) → f x (ontoRows read rs) ≡ f (withRow add x read) rs
+  pub onto-row : (x : X) (read : Said Row) (rs : List Row) → f x (ontoRows read rs) ≡ f (withSaidRow add x read) rs
   onto-row x (says r) rs = k .more x r rs
   onto-row x (fault n) rs = refl
 
-  pub row-fold : Folds (λ (x : X) (ls : List (List ℕ)). f x (rowsIn ls)) (λ (x : X) (w : List ℕ). withRow add x (rowOf (words w)))
+  pub row-fold : Folds (λ (x : X) (ls : List (List ℕ)). f x (rowsIn ls)) (λ (x : X) (w : List ℕ). withSaidRow add x (rowOf (words w)))
   unfolding rowsIn
   row-fold = record { none = k .none; more = λ x w ws. onto-row x (rowOf (words w)) (rowsIn ws) }
 
@@ -48,7 +48,7 @@ row-small n w = counted-small n (rowOf (words w))
 -- ---- as words
 
 abbrev pub worded : List ℕ → Said Row → List ℕ
-worded = withRow (λ (v : List ℕ) (r : Row). v ++ rowWords r)
+worded = withSaidRow (λ (v : List ℕ) (r : Row). v ++ rowWords r)
 
 pub words-fold : Folds (λ (v : List ℕ) (rs : List Row). v ++ stored rs) (λ (v : List ℕ) (r : Row). v ++ rowWords r)
 unfolding stored

@@ -12,7 +12,7 @@ use Rattle.laws.specs.Said.{says, fault}
 use Rattle.laws.proofs.Tests.{by-test, cond-yes, cond-no, impossible}
 use Rattle.laws.proofs.Same.{eqs-eq}
 use Rattle.decimal.specs.declared.Cell.{Cell}
-use Rattle.words.specs.Words.{word, words, grown, onto}
+use Rattle.words.specs.Words.{word, words, grown, ontoWord}
 use Rattle.name_table.specs.Names.{placeFrom}
 use Rattle.name_table.specs.declared.Found.the-variants.{At, Nothing}
 use Rattle.line_rules.specs.Fields.{nameOf, isNamed, lineAt, numberLine, rowOf, takes, lineSays}
@@ -26,24 +26,24 @@ use Rattle.records.specs.declared.Row.{Row}
 use Rattle.records.specs.declared.Waveform.{Waveform}
 use Rattle.lines_under.proofs.Folds.{Folds, Small, count-fold}
 use Rattle.table_rows.specs.Rows.{counted}
-use Rattle.table_rows.specs.Waveforms.{bareWaveform, withCount, fixtureAt, fixtureLine, waveformLine, waveformOn}
+use Rattle.table_rows.specs.Waveforms.{bareWaveform, withCount, fixtureAt, fixtureLine, withWaveformLine, waveformOn}
 use Rattle.table_rows.proofs.RowLaws.{onto-row, row-small}
 
 -- ---- the fold
 
-waveform-more : (x : Waveform) (w : List ℕ) (ws : List (List ℕ)) → waveformOn x (w ∷ ws) ≡ waveformOn (waveformLine x w) ws
+waveform-more : (x : Waveform) (w : List ℕ) (ws : List (List ℕ)) → waveformOn x (w ∷ ws) ≡ waveformOn (withWaveformLine x w) ws
 unfolding waveformOn lineSays rowsIn
-waveform-more x w ws = ap (withCount (waveformOn (waveformLine x w) ws)) (onto-row count-fold (x .rows .count) (rowOf (words w)) (rowsIn ws))
+waveform-more x w ws = ap (withCount (waveformOn (withWaveformLine x w) ws)) (onto-row count-fold (x .rows .count) (rowOf (words w)) (rowsIn ws))
 
 waveform-none : (x : Waveform) → waveformOn x [] ≡ x
 unfolding waveformOn lineSays rowsIn
 waveform-none x = let z : x .rows .count + 0 ≡ x .rows .count = omega arith in ap (withCount x) z
 
-pub waveform-fold : Folds waveformOn waveformLine
+pub waveform-fold : Folds waveformOn withWaveformLine
 waveform-fold = record { none = waveform-none; more = waveform-more }
 
 -- a line adds at most one row
-pub waveform-small : Small waveformLine (λ (x : Waveform). x .rows .count)
+pub waveform-small : Small withWaveformLine (λ (x : Waveform). x .rows .count)
 waveform-small x w = row-small (x .rows .count) w
 
 pub waveform-is : (e : Edge) (n : ℕ) (ls : List (List ℕ)) → waveformOn (bareWaveform e n) ls ≡ waveformIn n e ls
@@ -54,7 +54,7 @@ waveform-is e n ls = let z : 0 + length (rowsIn ls) ≡ length (rowsIn ls) = ome
 
 module _ (x : Waveform) (w : List ℕ) where
   pub fixture-named : (n : ℕ) (v : Cell) → lineAt fixtures w ≡ At n → numberLine w ≡ says v → fixtureAt x n v ≡ fixtureLine x w
-  unfolding placeFrom words grown onto isBlank eqs
+  unfolding placeFrom words grown ontoWord isBlank eqs
   fixture-named n v e q =
       rw (
         takes-at "R_fixture" numberLine (x .rfixture) w fixtures n 0 e refl q,
@@ -88,7 +88,7 @@ module _ (x : Waveform) (w : List ℕ) where
   fixture-bad n q = fixture-kept (λ name v h. takes-fault name numberLine v w n q)
 
   pub fixture-nothing : lineAt fixtures w ≡ Nothing → x ≡ fixtureLine x w
-  unfolding placeFrom words grown onto isBlank eqs
+  unfolding placeFrom words grown ontoWord isBlank eqs
   fixture-nothing e =
       rw (
         takes-nothing "R_fixture" numberLine (x .rfixture) w fixtures 0 e refl,
@@ -124,10 +124,10 @@ takes-row w r e name v h =
     (λ q. cond-no _ _ q)
 
 module _ (x : Waveform) (w : List ℕ) where
-  pub line-row : (r : Row) → says r ≡ rowOf (words w) → withCount x (x .rows .count + 1) ≡ waveformLine x w
+  pub line-row : (r : Row) → says r ≡ rowOf (words w) → withCount x (x .rows .count + 1) ≡ withWaveformLine x w
   line-row r e =
       ap (λ (y : Waveform). withCount y (x .rows .count + 1)) (fixture-kept x w (takes-row w r e))
       ∙ ap (λ read. withCount (fixtureLine x w) (counted (x .rows .count) read)) e
 
-  pub line-fixture : (n : ℕ) → fault n ≡ rowOf (words w) → fixtureLine x w ≡ waveformLine x w
+  pub line-fixture : (n : ℕ) → fault n ≡ rowOf (words w) → fixtureLine x w ≡ withWaveformLine x w
   line-fixture n e = ap (λ read. withCount (fixtureLine x w) (counted (x .rows .count) read)) e

@@ -18,12 +18,12 @@ abbrev pub rowsAt : List ℕ → Cursor → List Row
 rowsAt s c = rowsIn (under (rest s c))
 
 -- a line more: it has a row, or nothing
-abbrev pub withRow : {X : Type 0} → (X → Row → X) → X → Said Row → X
-withRow add x (says r) = add x r
-withRow add x (fault n) = x
+abbrev pub withSaidRow : {X : Type 0} → (X → Row → X) → X → Said Row → X
+withSaidRow add x (says r) = add x r
+withSaidRow add x (fault n) = x
 
 abbrev pub counted : ℕ → Said Row → ℕ
-counted = withRow (λ (n : ℕ) (r : Row). n + 1)
+counted = withSaidRow (λ (n : ℕ) (r : Row). n + 1)
 
 -- every row has a byte
 pub record CountIs (s : List ℕ) (c : Cursor) (r : Counted) : Type 0 where

@@ -82,8 +82,8 @@ fixtureLine x w =
     }
 
 -- what a line makes of it, and what lines do
-abbrev pub waveformLine : Waveform → List ℕ → Waveform
-waveformLine x w = withCount (fixtureLine x w) (counted (x .rows .count) (rowOf (words w)))
+abbrev pub withWaveformLine : Waveform → List ℕ → Waveform
+withWaveformLine x w = withCount (fixtureLine x w) (counted (x .rows .count) (rowOf (words w)))
 
 unfoldable pub waveformOn : Waveform → List (List ℕ) → Waveform
 waveformOn x ls =

@@ -5,7 +5,7 @@ ghost use Prim.Native.Nat.{_+_, _^_, _<_};
 ghost use lib.Dec.{eqb};
 ghost use Rattle.cut_lines.specs.Cursors.{rest, Placed};
 ghost use Rattle.rules.specs.Reading.{under, waveformIn};
-ghost use Rattle.table_rows.specs.Waveforms.{bareWaveform, fixtureAt, fixtureLine, withCount, waveformLine};
+ghost use Rattle.table_rows.specs.Waveforms.{bareWaveform, fixtureAt, fixtureLine, withCount, withWaveformLine};
 use cut_lines::Cursor;
 use decimal::Cell;
 use decimal::CellRead;
@@ -103,7 +103,7 @@ fn with_row(x: Waveform) -> Waveform
 // A row has no name: its first word is a number, and a name begins with a letter.
 fn with_line(x: Waveform, w: &[u8]) -> Waveform
     requires { ⌜ x .rows .count < 2 ^ 63 ⌝ }
-    ensures { λ r. ⌜ r ≡ waveformLine x (now (w .entry)) ⌝ }
+    ensures { λ r. ⌜ r ≡ withWaveformLine x (now (w .entry)) ⌝ }
 {
     match line_cells::row_of(w) {
         RowRead::Line(_) => with_row(x),

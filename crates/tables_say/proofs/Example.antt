@@ -20,8 +20,9 @@ use Rattle.records.specs.Stored.{wordsLaid}
 use Rattle.records.specs.declared.Row.{Row}
 use Rattle.records.specs.declared.Model.{Model}
 use Rattle.examples.specs.Computing.{computing}
-use Rattle.examples.specs.Starred.{accepted, verdict, lent}
-use Rattle.tables_say.specs.Kept.{headerOf}
+use Rattle.examples.specs.Starred.{verdict, atBounds}
+use Rattle.records.specs.declared.Verdict.the-variants.{Accepted}
+use Rattle.tables_say.specs.Kept.{headerAnswered}
 use Rattle.tables_say.proofs.Kept.{kept}
 
 -- ---- the files
@@ -55,10 +56,10 @@ oddly =
     "[ibis_ver] 5.0 | here it begins\n[File Rev]  1\n[Notes] none\nof these count\n[File Name] lk.ibs\n[COMPONENT] LK1\n[Pin] signal_name model_name R_pin L_pin C_pin\n1 DOOR end\n[Package]\nC_pkg 1e0 na NA\nL_pkg 1.0 NA NA\nR_pkg 1 NA NA\n[Manufacturer] House\n"
     ++ˢ "[Comment Char] #_char\n[Model] end # the only one\nC_comp .005nF NA NA\nModel_type Terminator\n[Pullup]\n-1.0 4e-2 NA NA\n5 -70000uA NA NA\n[Voltage Range] 3300m NA NA\n[End]\n"
 
-abbrev Accepted : String → Type 0
-Accepted s = verdict (outcome lent (bytes s)) ≡ accepted
+abbrev Passes : String → Type 0
+Passes s = verdict (outcome atBounds (bytes s)) ≡ Accepted
 
-pub all-accepted : Accepted downFirst × Accepted upFirst × Accepted otherDigit × Accepted plainly × Accepted oddly
+pub all-accepted : Passes downFirst × Passes upFirst × Passes otherDigit × Passes plainly × Passes oddly
 unfolding computing
 all-accepted = (refl, refl, refl, refl, refl)
 
@@ -129,9 +130,9 @@ digit-counts h =
 
 -- ---- all else that is not kept does not count
 
-equal-headers : headerOf (read plainly) ≡ headerOf (read oddly)
+equal-headers : headerAnswered (read plainly) ≡ headerAnswered (read oddly)
 unfolding computing
-equal-headers = refl {a = headerOf (read plainly)}
+equal-headers = refl {a = headerAnswered (read plainly)}
 
 equal-tables : laid (read plainly) ≡ laid (read oddly)
 unfolding computing

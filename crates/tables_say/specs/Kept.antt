@@ -10,12 +10,12 @@ use Rattle.records.specs.Stored.{stored, wordsLaid}
 use Rattle.records.specs.declared.Header.{Header}
 
 -- the header as it is answered
-abbrev pub headerOf : FileIs → Header
-headerOf f = record { name = wordsLaid (f .name); revision = wordsLaid (f .revision) }
+abbrev pub headerAnswered : FileIs → Header
+headerAnswered f = record { name = wordsLaid (f .name); revision = wordsLaid (f .revision) }
 
 -- the tables as they are laid
 abbrev pub Kept : Type 0
-Kept = (f g : FileIs) → headerOf f ≡ headerOf g → laid f ≡ laid g → SaysTheSame f g
+Kept = (f g : FileIs) → headerAnswered f ≡ headerAnswered g → laid f ≡ laid g → SaysTheSame f g
 
 -- ---- the tables as they are lent
 
@@ -36,5 +36,5 @@ pub record Holds (u : Tables ℕ) (a : Laid) : Type 0 where
 -- two files that leave the same tables, counts and header say the same
 abbrev pub KeptInTables : Type 0
 KeptInTables =
-    (u : Tables ℕ) (f g : FileIs) → headerOf f ≡ headerOf g → countsOf (laid f) ≡ countsOf (laid g)
+    (u : Tables ℕ) (f g : FileIs) → headerAnswered f ≡ headerAnswered g → countsOf (laid f) ≡ countsOf (laid g)
     → Holds u (laid f) → Holds u (laid g) → SaysTheSame f g

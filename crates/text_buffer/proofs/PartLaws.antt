@@ -10,16 +10,16 @@ use Rattle.laws.specs.Lists.{front, after, other, part}
 use Rattle.laws.proofs.Tests.{by-test}
 use Rattle.laws.proofs.Lists.{from-cons, part-none}
 use Rattle.laws.proofs.Fronts.{after-at, front-at, front-le}
-use Rattle.words.specs.Words.{onto}
+use Rattle.words.specs.Words.{ontoWord}
 use Rattle.words.specs.declared.Word.{Word}
 use Rattle.text_buffer.specs.Parts.{parts, startFrom, lyingAt, PartAt}
 
 -- up to the separator, and behind it
 parts-first : (c b : ℕ) (bs : List ℕ) → parts c (b ∷ bs) ≡ front (other c) (b ∷ bs) ∷ parts c (drop 1 (after (other c) (b ∷ bs)))
-unfolding parts front after onto
+unfolding parts front after ontoWord
 parts-first c b [] = by-test (other c b) (λ h. simp h) (λ h. simp h)
 parts-first c b (x ∷ xs) =
-    by-test (other c b) (λ h. rw h (ap (onto b) (parts-first c x xs))) (λ h. simp h)
+    by-test (other c b) (λ h. rw h (ap (ontoWord b) (parts-first c x xs))) (λ h. simp h)
 
 -- ---- where a text begins and lies
 

@@ -7,6 +7,7 @@ use mathlib.Core.Bool.{Bool, true, false, cond}
 use lib.Dec.{ltb, eqb}
 use lib.ListN.{length, take, drop, replicate}
 use Rattle.laws.specs.Bytes.{bytes}
+use Rattle.decimal.specs.Decimal.{offset}
 use Rattle.decimal.specs.declared.Decimal.{Decimal}
 use Rattle.decimal.specs.declared.Cell.{Cell}
 use Rattle.decimal.specs.declared.Cell.the-variants.{Number, Missing}
@@ -33,14 +34,14 @@ pub record DigitsAre (n : ℕ) (r : Digits) : Type 0 where
   pub first : r .first < 20
   pub room : length (r .bytes) ≡ 20
 
--- ---- decimals; a power is kept with 40 added
+-- ---- decimals; a power is kept with its offset added
 
 abbrev pub signText : Bool → List ℕ
 signText true = bytes "-"
 signText false = []
 
 unfoldable pub powerText : ℕ → List ℕ
-powerText p = cond (ltb p 40) (bytes "-" ++ numeralOf (40 - p)) (numeralOf (p - 40))
+powerText p = cond (ltb p offset) (bytes "-" ++ numeralOf (offset - p)) (numeralOf (p - offset))
 
 -- "as number `e` power": 8e-1
 unfoldable pub decimalText : Decimal → List ℕ
@@ -62,4 +63,4 @@ pointed k ds =
 unfoldable pub plainText : Decimal → List ℕ
 plainText d =
     signText (d .negative)
-    ++ cond (ltb (d .power) 40) (pointed (40 - d .power) (numeralOf (d .digits))) (numeralOf (d .digits) ++ replicate (d .power - 40) (code "0"))
+    ++ cond (ltb (d .power) offset) (pointed (offset - d .power) (numeralOf (d .digits))) (numeralOf (d .digits) ++ replicate (d .power - offset) (code "0"))

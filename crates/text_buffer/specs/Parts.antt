@@ -5,12 +5,12 @@ use mathlib.Core.List.{List, [], _∷_}
 use mathlib.Core.Bool.{cond}
 use lib.ListN.{length, drop, getD}
 use Rattle.laws.specs.Lists.{front, other, part}
-use Rattle.words.specs.Words.{onto}
+use Rattle.words.specs.Words.{ontoWord}
 use Rattle.words.specs.declared.Word.{Word}
 
 unfoldable pub parts : ℕ → List ℕ → List (List ℕ)
 parts separator [] = []
-parts separator (b ∷ bs) = cond (other separator b) (onto b (parts separator bs)) ([] ∷ parts separator bs)
+parts separator (b ∷ bs) = cond (other separator b) (ontoWord b (parts separator bs)) ([] ∷ parts separator bs)
 
 -- where the text begins that has n before it, from a start on; past the table where there are not so many
 unfoldable pub startFrom : ℕ → List ℕ → ℕ → ℕ → ℕ

@@ -10,7 +10,7 @@ use Rattle.laws.specs.Lists.{front, after, part}
 use Rattle.laws.proofs.Tests.{by-test}
 use Rattle.laws.proofs.Lists.{from-cons}
 use Rattle.laws.proofs.Fronts.{after-at, front-at, after-stops, front-more}
-use Rattle.words.specs.Words.{onto, grown, words}
+use Rattle.words.specs.Words.{ontoWord, grown, words}
 use Rattle.words.specs.Places.{isInk, runFrom}
 
 -- a test's answer on the byte, as the code has it
@@ -28,15 +28,15 @@ unfolding words after
 words-blank [] = refl
 words-blank (b ∷ bs) = by-test (isBlank b) (λ h. rw h (words-blank bs)) (λ h. simp h)
 
-words-onto : (b x : ℕ) (xs : List ℕ) → isBlank b ≡ false → isBlank x ≡ false → words (b ∷ x ∷ xs) ≡ onto b (words (x ∷ xs))
+words-onto : (b x : ℕ) (xs : List ℕ) → isBlank b ≡ false → isBlank x ≡ false → words (b ∷ x ∷ xs) ≡ ontoWord b (words (x ∷ xs))
 unfolding words grown
 words-onto b x xs h k = simp (h, k)
 
 words-ink : (b : ℕ) (bs : List ℕ) → isBlank b ≡ false → words (b ∷ bs) ≡ front isInk (b ∷ bs) ∷ words (after isInk (b ∷ bs))
-unfolding words grown front after isInk onto
+unfolding words grown front after isInk ontoWord
 words-ink b [] h = simp h
 words-ink b (x ∷ xs) h =
-    by-test (isBlank x) (λ k. simp (h, k)) (λ k. words-onto b x xs h k ∙ ap (onto b) (words-ink x xs k) ∙ simp h)
+    by-test (isBlank x) (λ k. simp (h, k)) (λ k. words-onto b x xs h k ∙ ap (ontoWord b) (words-ink x xs k) ∙ simp h)
 
 -- ---- places
 

@@ -6,14 +6,14 @@ use lib.ListN.{getD}
 use Rattle.laws.specs.Bytes.{isBlank}
 
 -- the byte goes in front of the first word
-unfoldable pub onto : ℕ → List (List ℕ) → List (List ℕ)
-onto b [] = (b ∷ []) ∷ []
-onto b (w ∷ ws) = (b ∷ w) ∷ ws
+unfoldable pub ontoWord : ℕ → List (List ℕ) → List (List ℕ)
+ontoWord b [] = (b ∷ []) ∷ []
+ontoWord b (w ∷ ws) = (b ∷ w) ∷ ws
 
 -- a byte of a word, what follows it, and the words there: the byte is a word by itself if a blank or nothing follows
 unfoldable pub grown : ℕ → List ℕ → List (List ℕ) → List (List ℕ)
 grown b [] ws = (b ∷ []) ∷ ws
-grown b (x ∷ xs) ws = cond (isBlank x) ((b ∷ []) ∷ ws) (onto b ws)
+grown b (x ∷ xs) ws = cond (isBlank x) ((b ∷ []) ∷ ws) (ontoWord b ws)
 
 unfoldable pub words : List ℕ → List (List ℕ)
 words [] = []

@@ -1,13 +1,12 @@
 -- All three parts were given, or not.
 use mathlib.Core.Path.{sym, _∙_}
-use borrow.Author.Needs.{needs}
 use Rattle.laws.proofs.Tests.{cond-yes, cond-no}
 use Rattle.rules.specs.Component.{componentDone}
 use Rattle.component_steps.proofs.component_done.Statement.{statement}
 use Rattle.component_steps.proofs.component_done.Tie as tie
 
 all-three-requires : tie.Need-all-three-requires
-all-three-requires c κs = search needs
+all-three-requires c κs = tt
 
 returns : tie.Need-returns
 unfolding componentDone

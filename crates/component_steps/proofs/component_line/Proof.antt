@@ -10,25 +10,25 @@ enum-told : tie.Need-enum-told
 enum-told c = search needs
 
 location-line-requires : tie.Need-location-line-requires
-location-line-requires c κs = search needs
+location-line-requires c κs = tt
 
 enum-told-2 : tie.Need-enum-told-2
 enum-told-2 c = search needs
 
 stopped-requires : tie.Need-stopped-requires
-stopped-requires c κs = search needs
+stopped-requires c κs = tt
 
 enum-known-list : tie.Need-enum-known-list
 enum-known-list c = search needs
 
 package-line-requires : tie.Need-package-line-requires
-package-line-requires c κs = search needs
+package-line-requires c κs = tt
 
 enum-known-list-2 : tie.Need-enum-known-list-2
 enum-known-list-2 c = search needs
 
 rows-line-requires : tie.Need-rows-line-requires
-rows-line-requires c κs = search needs
+rows-line-requires c κs = tt
 
 returns : tie.Need-returns
 returns c = c .location-line .ensures ∙ sym (ap (componentLine (c .before .before .before .before .args .c) (c .before .before .before .before .args .k) (now (c .before .before .before .before .args .w))) (c .before .enum-told .given .1))

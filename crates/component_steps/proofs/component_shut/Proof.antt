@@ -11,28 +11,28 @@ enum-told : tie.Need-enum-told
 enum-told c = search needs
 
 shut-requires : tie.Need-shut-requires
-shut-requires c κs = search needs
+shut-requires c κs = tt
 
 enum-told-2 : tie.Need-enum-told-2
 enum-told-2 c = search needs
 
 shut-requires-2 : tie.Need-shut-requires-2
-shut-requires-2 c κs = search needs
+shut-requires-2 c κs = tt
 
 enum-known-list : tie.Need-enum-known-list
 enum-known-list c = search needs
 
 all-three-requires : tie.Need-all-three-requires
-all-three-requires c κs = search needs
+all-three-requires c κs = tt
 
 shut-requires-3 : tie.Need-shut-requires-3
-shut-requires-3 c κs = search needs
+shut-requires-3 c κs = tt
 
 enum-known-list-2 : tie.Need-enum-known-list-2
 enum-known-list-2 c = search needs
 
 shut-requires-4 : tie.Need-shut-requires-4
-shut-requires-4 c κs = search needs
+shut-requires-4 c κs = tt
 
 returns : tie.Need-returns
 returns c = c .shut .ensures ∙ sym (passed 9 0 _ refl) ∙ sym (ap (componentShut (c .before .before .before .args .c)) (c .before .enum-told .given .1))

@@ -10,7 +10,7 @@ use Rattle.component_steps.proofs.is_long.Statement.{statement}
 use Rattle.component_steps.proofs.is_long.Tie as tie
 
 heading-of-requires : tie.Need-heading-of-requires
-heading-of-requires c κs = search needs
+heading-of-requires c κs = tt
 
 enum-told : tie.Need-enum-told
 enum-told c = search needs

@@ -6,7 +6,7 @@ use Rattle.component_steps.proofs.location_line.Statement.{statement}
 use Rattle.component_steps.proofs.location_line.Tie as tie
 
 component-line-requires : tie.Need-component-line-requires
-component-line-requires c κs = search needs
+component-line-requires c κs = tt
 
 enum-known-found : tie.Need-enum-known-found
 enum-known-found c = search needs
@@ -15,16 +15,16 @@ enum-told : tie.Need-enum-told
 enum-told c = search needs
 
 stopped-requires : tie.Need-stopped-requires
-stopped-requires c κs = search needs
+stopped-requires c κs = tt
 
 returns : tie.Need-returns
 returns c = rw (sym (c .before .before .before .component-line .ensures) ∙ c .before .enum-told .given .1) (c .stopped .ensures)
 
 is-given-requires : tie.Need-is-given-requires
-is-given-requires c κs = search needs
+is-given-requires c κs = tt
 
 stopped-requires-2 : tie.Need-stopped-requires-2
-stopped-requires-2 c κs = search needs
+stopped-requires-2 c κs = tt
 
 returns-2 : tie.Need-returns-2
 returns-2 c =
@@ -32,10 +32,10 @@ returns-2 c =
     (c .stopped2 .ensures ∙ refused 8 _ _ (sym (c .before .before .is-given .ensures) ∙ c .before .if1 .taken))
 
 location-fault-requires : tie.Need-location-fault-requires
-location-fault-requires c κs = search needs
+location-fault-requires c κs = tt
 
 stopped-requires-3 : tie.Need-stopped-requires-3
-stopped-requires-3 c κs = search needs
+stopped-requires-3 c κs = tt
 
 returns-3 : tie.Need-returns-3
 returns-3 c =
@@ -44,7 +44,7 @@ returns-3 c =
     ∙ passed 8 _ _ (sym (c .before .before .before .before .is-given .ensures) ∙ c .before .before .before .if1 .left))
 
 also-requires : tie.Need-also-requires
-also-requires c κs = search needs
+also-requires c κs = tt
 
 returns-4 : tie.Need-returns-4
 returns-4 c =

@@ -16,7 +16,7 @@ part-pin-name-end : tie.Need-part-pin-name-end
 part-pin-name-end c = search needs
 
 pin-name-requires : tie.Need-pin-name-requires
-pin-name-requires c κs = search needs
+pin-name-requires c κs = tt
 
 returns : tie.Need-returns
 returns c = sym (and-left _ _ (sym (c .before .pin-name .ensures) ∙ not-true (c .before .pin-name .result) (c .if1 .taken)))
@@ -31,7 +31,7 @@ part-sized-end : tie.Need-part-sized-end
 part-sized-end c = search needs
 
 sized-requires : tie.Need-sized-requires
-sized-requires c κs = search needs
+sized-requires c κs = tt
 
 returns-2 : tie.Need-returns-2
 returns-2 c = rw (sym (c .before .before .before .before .pin-name .ensures) ∙ not-false (c .before .before .before .before .pin-name .result) (c .before .before .before .if1 .left), sym (c .before .sized .ensures) ∙ not-true (c .before .sized .result) (c .if2 .taken))
@@ -46,7 +46,7 @@ part-pin-model-end : tie.Need-part-pin-model-end
 part-pin-model-end c = search needs
 
 pin-model-requires : tie.Need-pin-model-requires
-pin-model-requires c κs = search needs
+pin-model-requires c κs = tt
 
 returns-3 : tie.Need-returns-3
 returns-3 c = rw (sym (c .before .before .before .before .before .before .pin-name .ensures) ∙ not-false (c .before .before .before .before .before .before .pin-name .result) (c .before .before .before .before .before .if1 .left), sym (c .before .before .before .sized .ensures) ∙ not-false (c .before .before .before .sized .result) (c .before .before .if2 .left)) (c .pin-model .ensures)

@@ -38,7 +38,7 @@ pin-cells-requires : tie.Need-pin-cells-requires
 pin-cells-requires c κs = search needs
 
 triple-fault-requires : tie.Need-triple-fault-requires
-triple-fault-requires c κs = search needs
+triple-fault-requires c κs = tt
 
 returns-3 : tie.Need-returns-3
 returns-3 c =

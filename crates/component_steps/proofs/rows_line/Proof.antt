@@ -1,21 +1,20 @@
 -- A fault of the row, or on: `faulted`, `clean`.
 use mathlib.Core.Path.{_∙_}
-use borrow.Author.Needs.{needs}
 use Rattle.rules.proofs.Going.{faulted, clean}
 use Rattle.component_steps.proofs.rows_line.Statement.{statement}
 use Rattle.component_steps.proofs.rows_line.Tie as tie
 
 pin-fault-requires : tie.Need-pin-fault-requires
-pin-fault-requires c κs = search needs
+pin-fault-requires c κs = tt
 
 stopped-requires : tie.Need-stopped-requires
-stopped-requires c κs = search needs
+stopped-requires c κs = tt
 
 returns : tie.Need-returns
 returns c = c .stopped .ensures ∙ faulted _ _ (c .before .before .pin-fault .ensures) (c .before .if1 .taken)
 
 with-list-requires : tie.Need-with-list-requires
-with-list-requires c κs = search needs
+with-list-requires c κs = tt
 
 returns-2 : tie.Need-returns-2
 returns-2 c = rw (c .with-list .ensures) (clean _ _ (c .before .before .pin-fault .ensures) (c .before .if1 .left))

@@ -9,7 +9,7 @@ use Rattle.component_steps.proofs.selector_line.Statement.{statement}
 use Rattle.component_steps.proofs.selector_line.Tie as tie
 
 first-word-requires : tie.Need-first-word-requires
-first-word-requires c κs = search needs
+first-word-requires c κs = tt
 
 sub-model-name : tie.Need-sub-model-name
 sub-model-name c = search needs
@@ -21,10 +21,10 @@ part-model-name-end : tie.Need-part-model-name-end
 part-model-name-end c = search needs
 
 model-name-requires : tie.Need-model-name-requires
-model-name-requires c κs = search needs
+model-name-requires c κs = tt
 
 stopped-requires : tie.Need-stopped-requires
-stopped-requires c κs = search needs
+stopped-requires c κs = tt
 
 returns : tie.Need-returns
 unfolding selectorLine

@@ -1,13 +1,12 @@
 -- There was a row, or not.
 use mathlib.Core.Path.{_∙_}
-use borrow.Author.Needs.{needs}
 use Rattle.rules.specs.Selector.{selectorShut}
 use Rattle.rules.proofs.Going.{refused, passed}
 use Rattle.component_steps.proofs.selector_shut.Statement.{statement}
 use Rattle.component_steps.proofs.selector_shut.Tie as tie
 
 stopped-requires : tie.Need-stopped-requires
-stopped-requires c κs = search needs
+stopped-requires c κs = tt
 
 returns : tie.Need-returns
 unfolding selectorShut

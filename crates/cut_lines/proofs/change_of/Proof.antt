@@ -21,7 +21,7 @@ find-requires : tie.Need-find-requires
 find-requires c κs = search needs
 
 closed-at-requires : tie.Need-closed-at-requires
-closed-at-requires c κs = search needs
+closed-at-requires c κs = tt
 
 returns-2 : tie.Need-returns-2
 returns-2 c = ap changeRead (sym (change-unclosed (now (c .before .before .before .before .before .args .w)) _ (c .before .before .find .ensures .0) (sym (c .before .closed-at .ensures) ∙ not-true (c .before .closed-at .result) (c .if2 .taken))))
@@ -44,7 +44,7 @@ part-change-to-end : tie.Need-part-change-to-end
 part-change-to-end c = search needs
 
 change-to-requires : tie.Need-change-to-requires
-change-to-requires c κs = search needs
+change-to-requires c κs = tt
 
 returns-3 : tie.Need-returns-3
 returns-3 c =

@@ -15,7 +15,7 @@ shared-slice-read-x : tie.Need-shared-slice-read-x
 shared-slice-read-x c = search needs
 
 is-mark-requires : tie.Need-is-mark-requires
-is-mark-requires c κs = search needs
+is-mark-requires c κs = tt
 
 returns-2 : tie.Need-returns-2
 returns-2 c = ap changeRead (sym (to-unmarked (now (c .before .before .before .before .before .args .w)) (c .before .before .before .if1 .left) (sym (c .before .is-mark .ensures) ∙ not-true (c .before .is-mark .result) (c .if2 .taken))))
@@ -33,13 +33,13 @@ slice-aggregate-same : tie.Need-slice-aggregate-same
 slice-aggregate-same c = search needs
 
 same-requires : tie.Need-same-requires
-same-requires c κs = search needs
+same-requires c κs = tt
 
 returns-3 : tie.Need-returns-3
 returns-3 c = ap changeRead (sym (to-misspelled (now (c .before .before .before .before .before .before .before .before .before .args .w)) (c .before .before .before .before .before .before .before .if1 .left) (sym (c .before .same .ensures) ∙ not-true (c .before .same .result) (c .if3 .taken))))
 
 is-remark-requires : tie.Need-is-remark-requires
-is-remark-requires c κs = search needs
+is-remark-requires c κs = tt
 
 returns-4 : tie.Need-returns-4
 returns-4 c = ap changeRead (sym (to-followed (now (c .before .before .before .before .before .before .before .before .before .before .before .args .w)) (c .before .before .before .before .before .before .before .before .before .if1 .left) (sym (c .before .is-remark .ensures) ∙ not-true (c .before .is-remark .result) (c .if4 .taken))))

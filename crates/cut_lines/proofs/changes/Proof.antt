@@ -35,7 +35,7 @@ slice-aggregate-same-spelled : tie.Need-slice-aggregate-same-spelled
 slice-aggregate-same-spelled c = search needs
 
 same-spelled-requires : tie.Need-same-spelled-requires
-same-spelled-requires c κs = search needs
+same-spelled-requires c κs = tt
 
 returns-4 : tie.Need-returns-4
 returns-4 c = c .same-spelled .ensures ∙ sym (change-named (now (c .before .before .before .before .before .before .before .before .before .args .w)) _ (c .before .before .before .before .find .ensures .0) (omega arith) (c .before .before .before .before .before .if2 .left) (c .before .before .before .if3 .left))

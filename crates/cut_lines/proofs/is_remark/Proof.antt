@@ -14,7 +14,7 @@ shared-slice-read-blank : tie.Need-shared-slice-read-blank
 shared-slice-read-blank c = search needs
 
 blank-requires : tie.Need-blank-requires
-blank-requires c κs = search needs
+blank-requires c κs = tt
 
 returns-2 : tie.Need-returns-2
 returns-2 c = sym (remark-other (c .before .before .before .before .before .args .x) (now (c .before .before .before .before .before .args .w)) _ (c .before .before .before .if1 .left) (sym (c .before .blank .ensures) ∙ not-true (c .before .blank .result) (c .if2 .taken)))

@@ -8,7 +8,7 @@ use borrow.Author.Needs.{needs}
 use denote.Ref.{now}
 use Rattle.laws.proofs.Lists.{part-length}
 use Rattle.lines.specs.Lines.{cut}
-use Rattle.lines.specs.Places.{lineAt, RawAt}
+use Rattle.lines.specs.Places.{lineFrom, RawAt}
 use Rattle.lines.specs.declared.Line.{Line}
 use Rattle.lines.proofs.Handed.{raw-at}
 use Rattle.cut_lines.specs.Change.{isChange, changeOf}
@@ -21,7 +21,7 @@ use Rattle.cut_lines.proofs.one_line.Statement.{statement}
 use Rattle.cut_lines.proofs.one_line.Tie as tie
 
 -- the line handed out is the first of the lines from its place on
-handed : (s : List ℕ) (at : ℕ) (l : Line) → at < length s → l ≡ lineAt s at → RawAt s at l
+handed : (s : List ℕ) (at : ℕ) (l : Line) → at < length s → l ≡ lineFrom s at → RawAt s at l
 handed s at l h e = subst (RawAt s at) (sym e) (raw-at s at h)
 
 line-at-requires : tie.Need-line-at-requires
@@ -37,10 +37,10 @@ part-line-end : tie.Need-part-line-end
 part-line-end c = handed _ _ _ (c .before .before .pre .1) (c .line-at .ensures) .ends
 
 changes-requires : tie.Need-changes-requires
-changes-requires c κs = search needs
+changes-requires c κs = tt
 
 change-of-requires : tie.Need-change-of-requires
-change-of-requires c κs = search needs
+change-of-requires c κs = tt
 
 changed-requires : tie.Need-changed-requires
 changed-requires c κs = search needs
@@ -63,7 +63,7 @@ returns c =
     })
 
 cut-length-requires : tie.Need-cut-length-requires
-cut-length-requires c κs = search needs
+cut-length-requires c κs = tt
 
 add-t9 : tie.Need-add-t9
 add-t9 c = search needs

@@ -1,6 +1,5 @@
 -- `decimal::cell_of`: missing, or a cell that is given.
 use mathlib.Core.Path.{sym, ap, _∙_}
-use borrow.Author.Needs.{needs}
 use Rattle.laws.proofs.Tests.{cond-yes, cond-no}
 use Rattle.decimal.specs.Decimal.{cellOf}
 use Rattle.decimal.specs.Answers.{cellRead}
@@ -8,14 +7,14 @@ use Rattle.decimal.proofs.cell_of.Statement.{statement}
 use Rattle.decimal.proofs.cell_of.Tie as tie
 
 missing-requires : tie.Need-missing-requires
-missing-requires c κs = search needs
+missing-requires c κs = tt
 
 returns : tie.Need-returns
 unfolding cellOf
 returns c = ap cellRead (sym (cond-yes _ _ (sym (c .before .missing .ensures) ∙ c .if1 .taken)))
 
 given-cell-requires : tie.Need-given-cell-requires
-given-cell-requires c κs = search needs
+given-cell-requires c κs = tt
 
 returns-2 : tie.Need-returns-2
 unfolding cellOf

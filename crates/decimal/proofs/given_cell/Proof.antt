@@ -6,7 +6,7 @@ use Rattle.decimal.proofs.given_cell.Statement.{statement}
 use Rattle.decimal.proofs.given_cell.Tie as tie
 
 number-of-requires : tie.Need-number-of-requires
-number-of-requires c κs = search needs
+number-of-requires c κs = tt
 
 enum-known-d : tie.Need-enum-known-d
 enum-known-d c = search needs

@@ -1,12 +1,11 @@
 -- `decimal::less`: one law for each pair of signs.
 use mathlib.Core.Path.{sym, _∙_}
-use borrow.Author.Needs.{needs}
 use Rattle.decimal.proofs.Order.{less-both, less-zero, less-below, less-right, less-neither}
 use Rattle.decimal.proofs.less.Statement.{statement}
 use Rattle.decimal.proofs.less.Tie as tie
 
 smaller-requires : tie.Need-smaller-requires
-smaller-requires c κs = search needs
+smaller-requires c κs = tt
 
 returns : tie.Need-returns
 returns c = c .smaller .ensures ∙ sym (less-both _ _ (c .before .before .if1 .taken) (c .before .if2 .taken))
@@ -21,7 +20,7 @@ returns-4 : tie.Need-returns-4
 returns-4 c = sym (less-right _ _ (c .before .if1 .left) (c .if4 .taken))
 
 smaller-requires-2 : tie.Need-smaller-requires-2
-smaller-requires-2 c κs = search needs
+smaller-requires-2 c κs = tt
 
 returns-5 : tie.Need-returns-5
 returns-5 c = c .smaller2 .ensures ∙ sym (less-neither _ _ (c .before .before .if1 .left) (c .before .if4 .left))

@@ -36,13 +36,13 @@ returns-2 c =
     (sym (l .ensures) ∙ not-true (l .result) (c .if2 .taken))))
 
 scale-up-requires : tie.Need-scale-up-requires
-scale-up-requires c κs = search needs
+scale-up-requires c κs = tt
 
 add-up : tie.Need-add-up
 add-up c = omega (arith, scale-up-small _ _ (c .before .scale-up .ensures))
 
 scale-down-requires : tie.Need-scale-down-requires
-scale-down-requires c κs = search needs
+scale-down-requires c κs = tt
 
 add-down : tie.Need-add-down
 add-down c = omega (arith, scale-down-small _ _ (c .before .scale-down .ensures))

@@ -6,7 +6,7 @@ use Rattle.decimal.proofs.smaller.Statement.{statement}
 use Rattle.decimal.proofs.smaller.Tie as tie
 
 shrink-requires : tie.Need-shrink-requires
-shrink-requires c κs = search needs
+shrink-requires c κs = tt
 
 returns : tie.Need-returns
 returns c =
@@ -23,7 +23,7 @@ sub-shrink-2 : tie.Need-sub-shrink-2
 sub-shrink-2 c = search needs
 
 shrink-requires-2 : tie.Need-shrink-requires-2
-shrink-requires-2 c κs = search needs
+shrink-requires-2 c κs = tt
 
 returns-3 : tie.Need-returns-3
 returns-3 c =

@@ -23,7 +23,7 @@ add-result : tie.Need-add-result
 add-result c = search needs
 
 bit-requires : tie.Need-bit-requires
-bit-requires c κs = search needs
+bit-requires c κs = tt
 
 add-result-2 : tie.Need-add-result-2
 add-result-2 c = omega (arith, c .bit .ensures, bit-le (c .before .before .before .before .c .given .0 .0 .negative))

@@ -1,6 +1,6 @@
 -- One text behind another.
 use borrow.Author.Needs.{needs}
-use Rattle.dump_model_text.specs.Models.{modelLines}
+use Rattle.dump_model_text.specs.Models.{modelDump}
 use Rattle.text_buffer.proofs.Laws.{put-then, put-kept}
 use Rattle.dump_model_text.proofs.model_lines.Statement.{statement}
 use Rattle.dump_model_text.proofs.model_lines.Tie as tie
@@ -15,7 +15,7 @@ range-lines-requires : tie.Need-range-lines-requires
 range-lines-requires c κs = search needs
 
 returns : tie.Need-returns
-unfolding modelLines
+unfolding modelDump
 returns c =
     let a = c .before .before in
     let b = a .before .before .before .before in

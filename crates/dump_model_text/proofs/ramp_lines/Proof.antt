@@ -1,6 +1,6 @@
 -- By the case, one text behind another.
 use borrow.Author.Needs.{needs}
-use Rattle.dump_model_text.specs.Models.{rampLines}
+use Rattle.dump_model_text.specs.Models.{rampDump}
 use Rattle.text_buffer.proofs.Laws.{put-then, put-kept}
 use Rattle.dump_model_text.proofs.ramp_lines.Statement.{statement}
 use Rattle.dump_model_text.proofs.ramp_lines.Tie as tie
@@ -36,7 +36,7 @@ put-bytes-requires-2 : tie.Need-put-bytes-requires-2
 put-bytes-requires-2 c κs = search needs
 
 returns : tie.Need-returns
-unfolding rampLines
+unfolding rampDump
 returns c =
     let a = c .before .before in
     let b = a .before .before .before .before .before in
@@ -45,7 +45,7 @@ returns c =
     rw (c .before .before .before .before .before .before .before .before .before .before .before .before .before .before .before .before .before .before .before .before .if1 .taken) (put-then (put-then (put-then (e .put-bytes .ensures) (d .slopes-line .ensures)) (b .slopes-line2 .ensures)) (a .cell-line .ensures))
 
 returns-2 : tie.Need-returns-2
-unfolding rampLines
+unfolding rampDump
 returns-2 c = rw (c .before .before .before .before .before .if1 .left) (c .before .before .put-bytes2 .ensures)
 
 same-length : tie.Need-same-length

@@ -1,6 +1,6 @@
 -- One text behind another.
 use borrow.Author.Needs.{needs}
-use Rattle.dump_model_text.specs.Models.{slopesLine}
+use Rattle.dump_model_text.specs.Models.{slopesDump}
 use Rattle.text_buffer.proofs.Laws.{put-then, put-kept}
 use Rattle.dump_model_text.proofs.slopes_line.Statement.{statement}
 use Rattle.dump_model_text.proofs.slopes_line.Tie as tie
@@ -21,7 +21,7 @@ put-byte-requires : tie.Need-put-byte-requires
 put-byte-requires c κs = search needs
 
 returns : tie.Need-returns
-unfolding slopesLine
+unfolding slopesDump
 returns c =
     let a = c .before .before in
     let b = a .before .before .before .before in

@@ -1,6 +1,5 @@
 -- Both parts were given, or not.
 use mathlib.Core.Path.{sym, _∙_}
-use borrow.Author.Needs.{needs}
 use borrow.Author.Tests.{not-true, not-false}
 use Rattle.laws.proofs.Tests.{cond-yes, cond-no, and-both, and-left, and-right}
 use Rattle.given.specs.Given.{has}
@@ -9,14 +8,14 @@ use Rattle.header_steps.proofs.header_done.Statement.{statement}
 use Rattle.header_steps.proofs.header_done.Tie as tie
 
 is-given-requires : tie.Need-is-given-requires
-is-given-requires c κs = search needs
+is-given-requires c κs = tt
 
 returns : tie.Need-returns
 unfolding headerDone
 returns c = sym (cond-no 0 9 (and-left (has (c .before .before .before .args .h .parts) 0) _ (sym (c .before .is-given .ensures) ∙ not-true (c .before .is-given .result) (c .if1 .taken))))
 
 is-given-requires-2 : tie.Need-is-given-requires-2
-is-given-requires-2 c κs = search needs
+is-given-requires-2 c κs = tt
 
 returns-2 : tie.Need-returns-2
 unfolding headerDone

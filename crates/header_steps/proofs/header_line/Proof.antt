@@ -1,6 +1,5 @@
 -- A text is open, or not.
 use mathlib.Core.Path.{sym, _∙_}
-use borrow.Author.Needs.{needs}
 use Rattle.laws.proofs.Tests.{cond-yes, cond-no}
 use Rattle.rules.specs.Header.{headerLine}
 use Rattle.header_steps.proofs.header_line.Statement.{statement}
@@ -11,7 +10,7 @@ unfolding headerLine
 returns c = sym (cond-yes _ _ (c .if1 .taken))
 
 stopped-requires : tie.Need-stopped-requires
-stopped-requires c κs = search needs
+stopped-requires c κs = tt
 
 returns-2 : tie.Need-returns-2
 unfolding headerLine

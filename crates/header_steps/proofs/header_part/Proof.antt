@@ -1,6 +1,5 @@
 -- Given before, a fault of the argument, or on: `refused`, `faulted`, `clean`.
 use mathlib.Core.Path.{sym, ap, _∙_}
-use borrow.Author.Needs.{needs}
 use Rattle.given.specs.Given.{has}
 use Rattle.rules.specs.Header.{headerPart}
 use Rattle.rules.proofs.Going.{refused, passed, faulted, clean}
@@ -8,23 +7,23 @@ use Rattle.header_steps.proofs.header_part.Statement.{statement}
 use Rattle.header_steps.proofs.header_part.Tie as tie
 
 part-place-requires : tie.Need-part-place-requires
-part-place-requires c κs = search needs
+part-place-requires c κs = tt
 
 is-given-requires : tie.Need-is-given-requires
-is-given-requires c κs = search needs
+is-given-requires c κs = tt
 
 stopped-requires : tie.Need-stopped-requires
-stopped-requires c κs = search needs
+stopped-requires c κs = tt
 
 returns : tie.Need-returns
 unfolding headerPart
 returns c = c .stopped .ensures ∙ refused 8 _ _ (sym (ap (has (c .before .before .before .before .before .before .args .h .parts)) (c .before .before .before .before .part-place .ensures)) ∙ sym (c .before .before .is-given .ensures) ∙ c .before .if1 .taken)
 
 part-fault-requires : tie.Need-part-fault-requires
-part-fault-requires c κs = search needs
+part-fault-requires c κs = tt
 
 stopped-requires-2 : tie.Need-stopped-requires-2
-stopped-requires-2 c κs = search needs
+stopped-requires-2 c κs = tt
 
 returns-2 : tie.Need-returns-2
 unfolding headerPart
@@ -33,7 +32,7 @@ returns-2 c =
     ∙ passed 8 _ _ (sym (ap (has (c .before .before .before .before .before .before .before .before .args .h .parts)) (c .before .before .before .before .before .before .part-place .ensures)) ∙ sym (c .before .before .before .before .is-given .ensures) ∙ c .before .before .before .if1 .left)
 
 also-requires : tie.Need-also-requires
-also-requires c κs = search needs
+also-requires c κs = tt
 
 returns-3 : tie.Need-returns-3
 unfolding headerPart

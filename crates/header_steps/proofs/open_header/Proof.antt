@@ -11,17 +11,17 @@ slice-aggregate-same : tie.Need-slice-aggregate-same
 slice-aggregate-same c = search needs
 
 same-requires : tie.Need-same-requires
-same-requires c κs = search needs
+same-requires c κs = tt
 
 stopped-requires : tie.Need-stopped-requires
-stopped-requires c κs = search needs
+stopped-requires c κs = tt
 
 returns : tie.Need-returns
 unfolding version
 returns c = c .stopped .ensures ∙ refused 10 _ _ (sym (ap not (c .before .before .same .ensures)) ∙ c .before .if1 .taken)
 
 none-given-requires : tie.Need-none-given-requires
-none-given-requires c κs = search needs
+none-given-requires c κs = tt
 
 returns-2 : tie.Need-returns-2
 unfolding version

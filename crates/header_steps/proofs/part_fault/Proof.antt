@@ -10,7 +10,7 @@ enum-told : tie.Need-enum-told
 enum-told c = search needs
 
 one-file-name-requires : tie.Need-one-file-name-requires
-one-file-name-requires c κs = search needs
+one-file-name-requires c κs = tt
 
 enum-told-2 : tie.Need-enum-told-2
 enum-told-2 c = search needs

@@ -25,7 +25,7 @@ shared-slice-read-blank : tie.Need-shared-slice-read-blank
 shared-slice-read-blank c = search needs
 
 blank-requires : tie.Need-blank-requires
-blank-requires c κs = search needs
+blank-requires c κs = tt
 
 returns-3 : tie.Need-returns-3
 unfolding isClosed

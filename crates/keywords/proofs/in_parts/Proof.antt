@@ -26,7 +26,7 @@ shared-slice-read-b : tie.Need-shared-slice-read-b Inv-loop μ-loop
 shared-slice-read-b c = search needs
 
 joint-requires : tie.Need-joint-requires Inv-loop μ-loop
-joint-requires c κs = search needs
+joint-requires c κs = tt
 
 returns : tie.Need-returns Inv-loop μ-loop
 returns c =
@@ -34,7 +34,7 @@ returns c =
     sym (parts-twice (now (c .before .before .before .before .before .before .before .args .w)) (l .i) (c .before .before .before .before .loop-test .taken) (l .part) (sym (c .before .before .joint .ensures) ∙ c .before .if1 .taken) (not-true (l .part) (c .if2 .taken))) ∙ l .inv .1
 
 blank-requires : tie.Need-blank-requires Inv-loop μ-loop
-blank-requires c κs = search needs
+blank-requires c κs = tt
 
 returns-2 : tie.Need-returns-2 Inv-loop μ-loop
 returns-2 c =

@@ -6,20 +6,21 @@ use borrow.Author.Tests.{not-true, not-false}
 use denote.Ref.{now}
 use Rattle.keywords.specs.Answers.{known}
 use Rattle.keywords.proofs.Laws.{key-open, key-apart, key-known, key-unknown, key-none, closed-within}
+use Rattle.keywords.proofs.Spelling.{said-too}
 use Rattle.keywords.proofs.key_of.Statement.{statement}
 use Rattle.keywords.proofs.key_of.Tie as tie
 
 returns : tie.Need-returns
-returns c = sym (key-none (now (c .before .before .args .w)) (c .if1 .taken))
+returns c = said-too _ _ (key-none (now (c .before .before .args .w)) (c .if1 .taken))
 
 find-requires : tie.Need-find-requires
 find-requires c κs = search needs
 
 closed-at-requires : tie.Need-closed-at-requires
-closed-at-requires c κs = search needs
+closed-at-requires c κs = tt
 
 returns-2 : tie.Need-returns-2
-returns-2 c = sym (key-open (now (c .before .before .before .before .before .args .w)) _ (c .before .before .find .ensures .0) (sym (c .before .closed-at .ensures) ∙ not-true (c .before .closed-at .result) (c .if2 .taken)))
+returns-2 c = said-too _ _ (key-open (now (c .before .before .before .before .before .args .w)) _ (c .before .before .find .ensures .0) (sym (c .before .closed-at .ensures) ∙ not-true (c .before .closed-at .result) (c .if2 .taken)))
 
 sub-name : tie.Need-sub-name
 sub-name c = search needs
@@ -31,13 +32,13 @@ part-name-end : tie.Need-part-name-end
 part-name-end c = search needs
 
 in-parts-requires : tie.Need-in-parts-requires
-in-parts-requires c κs = search needs
+in-parts-requires c κs = tt
 
 returns-3 : tie.Need-returns-3
-returns-3 c = sym (key-apart (now (c .before .before .before .before .before .before .before .before .args .w)) _ (c .before .before .before .before .before .find .ensures .0) (sym (c .before .in-parts .ensures) ∙ not-true (c .before .in-parts .result) (c .if3 .taken)))
+returns-3 c = said-too _ _ (key-apart (now (c .before .before .before .before .before .before .before .before .args .w)) _ (c .before .before .before .before .before .find .ensures .0) (sym (c .before .in-parts .ensures) ∙ not-true (c .before .in-parts .result) (c .if3 .taken)))
 
 keyword-named-requires : tie.Need-keyword-named-requires
-keyword-named-requires c κs = search needs
+keyword-named-requires c κs = tt
 
 enum-known-keyword : tie.Need-enum-known-keyword
 enum-known-keyword c = search needs
@@ -58,12 +59,12 @@ enum-told c = search needs
 returns-4 : tie.Need-returns-4
 returns-4 c =
     let closed = sym (c .before .before .before .before .before .before .before .before .before .closed-at .ensures) ∙ not-false (c .before .before .before .before .before .before .before .before .before .closed-at .result) (c .before .before .before .before .before .before .before .before .if2 .left) in
-    sym (key-known (now (c .before .before .before .before .before .before .before .before .before .before .before .before .before .args .w)) _ (c .before .before .before .before .before .before .before .before .before .before .find .ensures .0) _ closed (sym (c .before .before .before .before .before .before .in-parts .ensures) ∙ not-false (c .before .before .before .before .before .before .in-parts .result) (c .before .before .before .before .before .if3 .left)) (c .skip-blanks .ensures .0) (c .skip-blanks .ensures .1 .1)
+    said-too _ _ (key-known (now (c .before .before .before .before .before .before .before .before .before .before .before .before .before .args .w)) _ (c .before .before .before .before .before .before .before .before .before .before .find .ensures .0) _ closed (sym (c .before .before .before .before .before .before .in-parts .ensures) ∙ not-false (c .before .before .before .before .before .before .in-parts .result) (c .before .before .before .before .before .if3 .left)) (c .skip-blanks .ensures .0) (c .skip-blanks .ensures .1 .1)
     ∙ ap (known _) (sym (c .before .before .before .before .keyword-named .ensures) ∙ c .before .before .keyword .given .1))
 
 returns-5 : tie.Need-returns-5
 returns-5 c =
-    sym
+    said-too _ _
     (key-unknown (now (c .before .before .before .before .before .before .before .before .before .before .before .args .w)) _ (c .before .before .before .before .before .before .before .before .find .ensures .0)
     (sym (c .before .before .before .before .before .before .before .closed-at .ensures) ∙ not-false (c .before .before .before .before .before .before .before .closed-at .result) (c .before .before .before .before .before .before .if2 .left))
     (sym (c .before .before .before .before .in-parts .ensures) ∙ not-false (c .before .before .before .before .in-parts .result) (c .before .before .before .if3 .left))

@@ -2,27 +2,27 @@
 use borrow.Author.Needs.{needs}
 use borrow.Author.Tests.{ne-eqb, le-leb, lt-leb}
 use Rattle.laws.specs.Bytes.{small, isCapital}
-use Rattle.keywords.specs.Form.{plain}
+use Rattle.keywords.specs.Form.{spelledByte}
 use Rattle.keywords.proofs.lowered.Statement.{statement}
 use Rattle.keywords.proofs.lowered.Tie as tie
 
 returns : tie.Need-returns
-unfolding plain
+unfolding spelledByte
 returns c = rw (c .if1 .taken)
 
 returns-2 : tie.Need-returns-2
-unfolding plain small isCapital
+unfolding spelledByte small isCapital
 returns-2 c = rw (ne-eqb _ 32 (c .before .if1 .left), lt-leb 65 _ (c .if2 .taken))
 
 returns-3 : tie.Need-returns-3
-unfolding plain small isCapital
+unfolding spelledByte small isCapital
 returns-3 c = rw (ne-eqb _ 32 (c .before .before .if1 .left), le-leb 65 _ (c .before .if2 .left), lt-leb _ 90 (c .if3 .taken))
 
 add-result : tie.Need-add-result
 add-result c = search needs
 
 returns-4 : tie.Need-returns-4
-unfolding plain small isCapital
+unfolding spelledByte small isCapital
 returns-4 c = rw (ne-eqb _ 32 (c .before .before .if1 .left), le-leb 65 _ (c .before .if2 .left), le-leb _ 90 (c .if3 .left))
 
 pub lowered-spec : {M : Type 1} → statement M

@@ -25,7 +25,7 @@ shared-slice-read-lowered : tie.Need-shared-slice-read-lowered Inv-loop μ-loop
 shared-slice-read-lowered c = search needs
 
 lowered-requires : tie.Need-lowered-requires Inv-loop μ-loop
-lowered-requires c κs = search needs
+lowered-requires c κs = tt
 
 array-write-copy : tie.Need-array-write-copy Inv-loop μ-loop
 array-write-copy c = omega (arith, c .before .before .before .loop .inv .1, c .before .before .before .before .before .pre)

@@ -10,7 +10,7 @@ enum-known-a-2 : tie.Need-enum-known-a-2
 enum-known-a-2 c = search needs
 
 with-min-requires : tie.Need-with-min-requires
-with-min-requires c κs = search needs
+with-min-requires c κs = tt
 
 returns : tie.Need-returns
 returns c = rw (c .before .a .given .1)

@@ -7,7 +7,7 @@ enum-known-c : tie.Need-enum-known-c
 enum-known-c c = search needs
 
 above-zero-requires : tie.Need-above-zero-requires
-above-zero-requires c κs = search needs
+above-zero-requires c κs = tt
 
 enum-told : tie.Need-enum-told
 enum-told c = search needs

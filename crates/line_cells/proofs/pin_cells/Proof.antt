@@ -10,7 +10,7 @@ skip-blanks-requires : tie.Need-skip-blanks-requires
 skip-blanks-requires c κs = search needs
 
 no-cells-requires : tie.Need-no-cells-requires
-no-cells-requires c κs = search needs
+no-cells-requires c κs = tt
 
 returns : tie.Need-returns
 returns c = rw (c .no-cells .ensures) (pin-cells-none (now (c .before .before .before .before .args .w)) _ _ (c .before .before .skip-blanks .ensures .0) (c .before .if1 .taken))

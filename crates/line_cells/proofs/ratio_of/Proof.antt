@@ -7,7 +7,7 @@ enum-known-a : tie.Need-enum-known-a
 enum-known-a c = search needs
 
 two-faults-requires : tie.Need-two-faults-requires
-two-faults-requires c κs = search needs
+two-faults-requires c κs = tt
 
 enum-known-a-2 : tie.Need-enum-known-a-2
 enum-known-a-2 c = search needs

@@ -45,10 +45,10 @@ cell-at-requires-3 : tie.Need-cell-at-requires-3
 cell-at-requires-3 c κs = search needs
 
 cells-from-requires : tie.Need-cells-from-requires
-cells-from-requires c κs = search needs
+cells-from-requires c κs = tt
 
 with-number-requires : tie.Need-with-number-requires
-with-number-requires c κs = search needs
+with-number-requires c κs = tt
 
 returns-3 : tie.Need-returns-3
 returns-3 c =

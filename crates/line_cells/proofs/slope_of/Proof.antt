@@ -26,7 +26,7 @@ slice-aggregate-number-of : tie.Need-slice-aggregate-number-of
 slice-aggregate-number-of c = sym (length-take-le _ _ (c .before .before .before .before .find .ensures .1 .1))
 
 number-of-requires : tie.Need-number-of-requires
-number-of-requires c κs = search needs
+number-of-requires c κs = tt
 
 sub-number-of : tie.Need-sub-number-of
 sub-number-of c = search needs
@@ -38,10 +38,10 @@ part-number-of-end : tie.Need-part-number-of-end
 part-number-of-end c = search needs
 
 number-of-requires-2 : tie.Need-number-of-requires-2
-number-of-requires-2 c κs = search needs
+number-of-requires-2 c κs = tt
 
 ratio-of-requires : tie.Need-ratio-of-requires
-ratio-of-requires c κs = search needs
+ratio-of-requires c κs = tt
 
 returns-3 : tie.Need-returns-3
 returns-3 c =

@@ -12,14 +12,14 @@ slice-aggregate-same-capitals : tie.Need-slice-aggregate-same-capitals
 slice-aggregate-same-capitals c = search needs
 
 same-capitals-requires : tie.Need-same-capitals-requires
-same-capitals-requires c κs = search needs
+same-capitals-requires c κs = tt
 
 returns : tie.Need-returns
 unfolding slopeOrMissing isMissing
 returns c = ap slopeRead (sym (cond-yes _ _ (sym (c .before .same-capitals .ensures) ∙ c .if1 .taken)))
 
 slope-of-requires : tie.Need-slope-of-requires
-slope-of-requires c κs = search needs
+slope-of-requires c κs = tt
 
 returns-2 : tie.Need-returns-2
 unfolding slopeOrMissing isMissing

@@ -10,7 +10,7 @@ enum-known-c-2 : tie.Need-enum-known-c-2
 enum-known-c-2 c = search needs
 
 upward-requires : tie.Need-upward-requires
-upward-requires c κs = search needs
+upward-requires c κs = tt
 
 returns : tie.Need-returns
 returns c = rw (c .before .c .given .1)

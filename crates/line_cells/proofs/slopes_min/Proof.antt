@@ -10,7 +10,7 @@ enum-known-b-2 : tie.Need-enum-known-b-2
 enum-known-b-2 c = search needs
 
 slopes-max-requires : tie.Need-slopes-max-requires
-slopes-max-requires c κs = search needs
+slopes-max-requires c κs = tt
 
 returns : tie.Need-returns
 returns c = rw (c .before .b .given .1)

@@ -10,7 +10,7 @@ enum-known-a-2 : tie.Need-enum-known-a-2
 enum-known-a-2 c = search needs
 
 slopes-min-requires : tie.Need-slopes-min-requires
-slopes-min-requires c κs = search needs
+slopes-min-requires c κs = tt
 
 returns : tie.Need-returns
 returns c = rw (c .before .a .given .1)

@@ -31,7 +31,7 @@ cell-at-requires-2 c κs =
     o .third
 
 cells-from-requires : tie.Need-cells-from-requires
-cells-from-requires c κs = search needs
+cells-from-requires c κs = tt
 
 enum-told : tie.Need-enum-told
 enum-told c = search needs

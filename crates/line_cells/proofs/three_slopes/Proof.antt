@@ -29,7 +29,7 @@ slope-or-missing-at-requires-2 c κs =
     o .third
 
 slopes-typ-requires : tie.Need-slopes-typ-requires
-slopes-typ-requires c κs = search needs
+slopes-typ-requires c κs = tt
 
 enum-told : tie.Need-enum-told
 enum-told c = search needs

@@ -10,7 +10,7 @@ enum-known-a-2 : tie.Need-enum-known-a-2
 enum-known-a-2 c = search needs
 
 on-row-requires : tie.Need-on-row-requires
-on-row-requires c κs = search needs
+on-row-requires c κs = tt
 
 returns : tie.Need-returns
 returns c = rw (c .before .a .given .1)

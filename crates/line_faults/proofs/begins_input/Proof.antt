@@ -17,7 +17,7 @@ slice-aggregate-same-2 : tie.Need-slice-aggregate-same-2
 slice-aggregate-same-2 c = search needs
 
 same-requires : tie.Need-same-requires
-same-requires c κs = search needs
+same-requires c κs = tt
 
 returns-2 : tie.Need-returns-2
 returns-2 c = sym (input-io (now (c .before .before .before .before .before .before .args .t)) (sym (c .before .same .ensures) ∙ c .if2 .taken))
@@ -32,7 +32,7 @@ slice-aggregate-same-4 : tie.Need-slice-aggregate-same-4
 slice-aggregate-same-4 c = search needs
 
 same-requires-2 : tie.Need-same-requires-2
-same-requires-2 c κs = search needs
+same-requires-2 c κs = tt
 
 returns-4 : tie.Need-returns-4
 returns-4 c = c .same2 .ensures ∙ sym (input-word (now (c .before .before .before .before .before .before .before .before .before .before .args .t)) (sym (c .before .before .before .before .before .same .ensures) ∙ c .before .before .before .before .if2 .left))

@@ -12,19 +12,19 @@ enum-told : tie.Need-enum-told
 enum-told c = search needs
 
 sized-requires : tie.Need-sized-requires
-sized-requires c κs = search needs
+sized-requires c κs = tt
 
 enum-told-2 : tie.Need-enum-told-2
 enum-told-2 c = search needs
 
 alone-fault-requires : tie.Need-alone-fault-requires
-alone-fault-requires c κs = search needs
+alone-fault-requires c κs = tt
 
 enum-told-3 : tie.Need-enum-told-3
 enum-told-3 c = search needs
 
 heading-of-requires : tie.Need-heading-of-requires
-heading-of-requires c κs = search needs
+heading-of-requires c κs = tt
 
 enum-told-4 : tie.Need-enum-told-4
 enum-told-4 c = search needs

@@ -8,7 +8,7 @@ use Rattle.line_faults.proofs.enable_fault.Statement.{statement}
 use Rattle.line_faults.proofs.enable_fault.Tie as tie
 
 enable-of-requires : tie.Need-enable-of-requires
-enable-of-requires c κs = search needs
+enable-of-requires c κs = tt
 
 enum-told : tie.Need-enum-told
 enum-told c = search needs

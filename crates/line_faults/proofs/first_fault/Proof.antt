@@ -1,6 +1,5 @@
 -- Each place by computing, the places past the fourth by `first-number`.
 use mathlib.Core.Path.{sym, ap, _∙_}
-use borrow.Author.Needs.{needs}
 use denote.Ref.{now}
 use Rattle.laws.proofs.Numbers.{apart-le}
 use Rattle.laws.specs.Said.{faultIn}
@@ -13,25 +12,25 @@ use Rattle.line_faults.proofs.first_fault.Statement.{statement}
 use Rattle.line_faults.proofs.first_fault.Tie as tie
 
 type-fault-requires : tie.Need-type-fault-requires
-type-fault-requires c κs = search needs
+type-fault-requires c κs = tt
 
 polarity-fault-requires : tie.Need-polarity-fault-requires
-polarity-fault-requires c κs = search needs
+polarity-fault-requires c κs = tt
 
 enable-fault-requires : tie.Need-enable-fault-requires
-enable-fault-requires c κs = search needs
+enable-fault-requires c κs = tt
 
 cells-line-requires : tie.Need-cells-line-requires
-cells-line-requires c κs = search needs
+cells-line-requires c κs = tt
 
 triple-fault-requires : tie.Need-triple-fault-requires
-triple-fault-requires c κs = search needs
+triple-fault-requires c κs = tt
 
 number-line-requires : tie.Need-number-line-requires
-number-line-requires c κs = search needs
+number-line-requires c κs = tt
 
 cell-fault-requires : tie.Need-cell-fault-requires
-cell-fault-requires c κs = search needs
+cell-fault-requires c κs = tt
 
 returns : tie.Need-returns
 unfolding firstAt

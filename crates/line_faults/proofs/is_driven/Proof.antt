@@ -12,7 +12,7 @@ use Rattle.line_faults.proofs.is_driven.Statement.{statement}
 use Rattle.line_faults.proofs.is_driven.Tie as tie
 
 named-word-requires : tie.Need-named-word-requires
-named-word-requires c κs = search needs
+named-word-requires c κs = tt
 
 enum-known-start : tie.Need-enum-known-start
 enum-known-start c = search needs
@@ -27,7 +27,7 @@ part-wants-ramp-end : tie.Need-part-wants-ramp-end
 part-wants-ramp-end c = subst (WordIs (namedWord (now (c .before .before .before .before .before .args .w))) (now (c .before .before .before .before .before .args .w))) (c .before .start .given .1) (c .before .before .before .named-word .ensures) .ends
 
 wants-ramp-requires : tie.Need-wants-ramp-requires
-wants-ramp-requires c κs = search needs
+wants-ramp-requires c κs = tt
 
 enum-told : tie.Need-enum-told
 enum-told c = search needs

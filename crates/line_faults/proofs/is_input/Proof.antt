@@ -12,7 +12,7 @@ use Rattle.line_faults.proofs.is_input.Statement.{statement}
 use Rattle.line_faults.proofs.is_input.Tie as tie
 
 named-word-requires : tie.Need-named-word-requires
-named-word-requires c κs = search needs
+named-word-requires c κs = tt
 
 enum-known-start : tie.Need-enum-known-start
 enum-known-start c = search needs
@@ -27,7 +27,7 @@ part-begins-input-end : tie.Need-part-begins-input-end
 part-begins-input-end c = subst (WordIs (namedWord (now (c .before .before .before .before .before .args .w))) (now (c .before .before .before .before .before .args .w))) (c .before .start .given .1) (c .before .before .before .named-word .ensures) .ends
 
 begins-input-requires : tie.Need-begins-input-requires
-begins-input-requires c κs = search needs
+begins-input-requires c κs = tt
 
 enum-told : tie.Need-enum-told
 enum-told c = search needs

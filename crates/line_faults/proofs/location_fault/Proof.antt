@@ -8,7 +8,7 @@ use Rattle.line_faults.proofs.location_fault.Statement.{statement}
 use Rattle.line_faults.proofs.location_fault.Tie as tie
 
 location-of-requires : tie.Need-location-of-requires
-location-of-requires c κs = search needs
+location-of-requires c κs = tt
 
 enum-told : tie.Need-enum-told
 enum-told c = search needs

@@ -17,7 +17,7 @@ three-cells-requires : tie.Need-three-cells-requires
 three-cells-requires c κs = search needs
 
 triple-fault-requires : tie.Need-triple-fault-requires
-triple-fault-requires c κs = search needs
+triple-fault-requires c κs = tt
 
 enum-told-2 : tie.Need-enum-told-2
 enum-told-2 c = search needs
@@ -26,25 +26,25 @@ three-cells-requires-2 : tie.Need-three-cells-requires-2
 three-cells-requires-2 c κs = search needs
 
 triple-fault-requires-2 : tie.Need-triple-fault-requires-2
-triple-fault-requires-2 c κs = search needs
+triple-fault-requires-2 c κs = tt
 
 enum-told-3 : tie.Need-enum-told-3
 enum-told-3 c = search needs
 
 alone-fault-requires : tie.Need-alone-fault-requires
-alone-fault-requires c κs = search needs
+alone-fault-requires c κs = tt
 
 enum-told-4 : tie.Need-enum-told-4
 enum-told-4 c = search needs
 
 alone-fault-requires-2 : tie.Need-alone-fault-requires-2
-alone-fault-requires-2 c κs = search needs
+alone-fault-requires-2 c κs = tt
 
 enum-told-5 : tie.Need-enum-told-5
 enum-told-5 c = search needs
 
 alone-fault-requires-3 : tie.Need-alone-fault-requires-3
-alone-fault-requires-3 c κs = search needs
+alone-fault-requires-3 c κs = tt
 
 returns : tie.Need-returns
 returns c = rw (c .before .before .enum-told .given .1) (c .triple-fault .ensures ∙ ap faultIn (triple-said _ (threeCells (words (now (c .before .before .before .before .before .args .argument)))) (c .before .three-cells .ensures)))

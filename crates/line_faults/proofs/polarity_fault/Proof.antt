@@ -8,7 +8,7 @@ use Rattle.line_faults.proofs.polarity_fault.Statement.{statement}
 use Rattle.line_faults.proofs.polarity_fault.Tie as tie
 
 polarity-of-requires : tie.Need-polarity-of-requires
-polarity-of-requires c κs = search needs
+polarity-of-requires c κs = tt
 
 enum-told : tie.Need-enum-told
 enum-told c = search needs

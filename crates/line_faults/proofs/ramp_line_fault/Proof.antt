@@ -1,6 +1,5 @@
 -- By the place: the third is R_load.
 use mathlib.Core.Path.{sym, ap, _∙_}
-use borrow.Author.Needs.{needs}
 use denote.Ref.{now}
 use borrow.Author.Tests.{eq-eqb, ne-eqb}
 use Rattle.laws.specs.Said.{faultIn}
@@ -13,10 +12,10 @@ use Rattle.line_faults.proofs.ramp_line_fault.Statement.{statement}
 use Rattle.line_faults.proofs.ramp_line_fault.Tie as tie
 
 number-line-requires : tie.Need-number-line-requires
-number-line-requires c κs = search needs
+number-line-requires c κs = tt
 
 cell-fault-requires : tie.Need-cell-fault-requires
-cell-fault-requires c κs = search needs
+cell-fault-requires c κs = tt
 
 returns : tie.Need-returns
 unfolding rampAt
@@ -24,10 +23,10 @@ returns c =
     c .cell-fault .ensures ∙ ap faultIn (cell-said _ (numberLine (now (c .before .before .before .before .args .w))) (c .before .number-line .ensures)) ∙ sym (cond-yes _ (faultIn (slopesLine (now (c .before .before .before .before .args .w)))) (eq-eqb _ 2 (c .before .before .if1 .taken)))
 
 slopes-line-requires : tie.Need-slopes-line-requires
-slopes-line-requires c κs = search needs
+slopes-line-requires c κs = tt
 
 ramp-fault-requires : tie.Need-ramp-fault-requires
-ramp-fault-requires c κs = search needs
+ramp-fault-requires c κs = tt
 
 returns-2 : tie.Need-returns-2
 unfolding rampAt

@@ -1,6 +1,5 @@
 -- The name stands alone, or not; the words behind it are the others.
 use mathlib.Core.Path.{sym, ap, _∙_}
-use borrow.Author.Needs.{needs}
 use borrow.Author.Tests.{not-true, not-false}
 use Rattle.laws.proofs.Tests.{cond-yes, cond-no}
 use Rattle.named_lines.specs.Places.{isNameAlone}
@@ -10,14 +9,14 @@ use Rattle.line_faults.proofs.slopes_line.Statement.{statement}
 use Rattle.line_faults.proofs.slopes_line.Tie as tie
 
 name-alone-requires : tie.Need-name-alone-requires
-name-alone-requires c κs = search needs
+name-alone-requires c κs = tt
 
 returns : tie.Need-returns
 unfolding slopesLine behindName isNameAlone
 returns c = ap rampRead (sym (cond-no _ _ (sym (c .before .name-alone .ensures) ∙ not-true (c .before .name-alone .result) (c .if1 .taken))))
 
 first-word-requires : tie.Need-first-word-requires
-first-word-requires c κs = search needs
+first-word-requires c κs = tt
 
 three-slopes-requires : tie.Need-three-slopes-requires
 three-slopes-requires c κs = c .first-word .ensures .ends

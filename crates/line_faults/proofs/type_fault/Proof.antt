@@ -8,7 +8,7 @@ use Rattle.line_faults.proofs.type_fault.Statement.{statement}
 use Rattle.line_faults.proofs.type_fault.Tie as tie
 
 type-of-requires : tie.Need-type-of-requires
-type-of-requires c κs = search needs
+type-of-requires c κs = tt
 
 enum-told : tie.Need-enum-told
 enum-told c = search needs

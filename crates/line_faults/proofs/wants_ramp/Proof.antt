@@ -11,7 +11,7 @@ slice-aggregate-same : tie.Need-slice-aggregate-same
 slice-aggregate-same c = search needs
 
 same-requires : tie.Need-same-requires
-same-requires c κs = search needs
+same-requires c κs = tt
 
 returns : tie.Need-returns
 returns c = sym (driven-input (now (c .before .before .before .before .args .t)) (sym (c .before .same .ensures) ∙ c .if1 .taken))
@@ -20,7 +20,7 @@ slice-aggregate-same-2 : tie.Need-slice-aggregate-same-2
 slice-aggregate-same-2 c = search needs
 
 same-requires-2 : tie.Need-same-requires-2
-same-requires-2 c κs = search needs
+same-requires-2 c κs = tt
 
 returns-2 : tie.Need-returns-2
 returns-2 c = sym (driven-ecl (now (c .before .before .before .before .before .before .before .args .t)) (sym (c .before .before .before .before .same .ensures) ∙ c .before .before .before .if1 .left) (sym (c .before .same2 .ensures) ∙ c .if2 .taken))
@@ -29,7 +29,7 @@ slice-aggregate-same-3 : tie.Need-slice-aggregate-same-3
 slice-aggregate-same-3 c = search needs
 
 same-requires-3 : tie.Need-same-requires-3
-same-requires-3 c κs = search needs
+same-requires-3 c κs = tt
 
 returns-3 : tie.Need-returns-3
 returns-3 c = ap not (c .same3 .ensures) ∙ sym (driven-last (now (c .before .before .before .before .before .before .before .before .before .args .t)) (sym (c .before .before .before .before .before .before .same .ensures) ∙ c .before .before .before .before .before .if1 .left) (sym (c .before .before .before .same2 .ensures) ∙ c .before .before .if2 .left))

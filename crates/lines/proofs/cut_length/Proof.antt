@@ -16,7 +16,7 @@ slice-aggregate-trimmed : tie.Need-slice-aggregate-trimmed
 slice-aggregate-trimmed c = sym (length-take-le _ _ (c .before .find .ensures .1 .1))
 
 trimmed-requires : tie.Need-trimmed-requires
-trimmed-requires c κs = search needs
+trimmed-requires c κs = tt
 
 returns : tie.Need-returns
 returns c = (c .trimmed .ensures .0 ∙ cut-length (c .before .before .before .before .args .comment) (now (c .before .before .before .before .args .line)) (c .before .before .find .result) (c .before .before .find .ensures .0), omega (arith, c .trimmed .ensures .1, length-take (c .before .before .find .result) (now (c .before .before .before .before .args .line))))

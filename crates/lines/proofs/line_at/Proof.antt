@@ -44,7 +44,7 @@ use denote.Triple.Table.{entered, cited}
 use denote.Triple.Walked.{says, Stays, stay-none, stay-none-slice, walkOf, goes-none, goes-none-slice, Walks, ends-at, walked, walk-meets}
 use denote.Exit.{yes}
 use denote.Triple.Clauses.{ensured, lasts}
-use Rattle.lines.specs.Places.{lineAt, passed}
+use Rattle.lines.specs.Places.{lineFrom, readerBehind}
 use Rattle.lines.specs.declared.Line.{Line}
 use Rattle.lines.specs.declared.LineReader.{LineReader}
 use Rattle.lines.proofs.Line as L
@@ -105,7 +105,7 @@ module _ {M : Type 1} (𝓤 : URA M) (H : Heap 𝓤) (A : Atoms 𝓤) (W : Given
   made = record { src = s; at = n }
 
   abbrev found : Line
-  found = lineAt (now s) n
+  found = lineFrom (now s) n
 
   abbrev at : List Val × (List Val × Unit {0})
   at = (v ∷ [], (vint w64 n ∷ [], tt))
@@ -187,8 +187,8 @@ module _ {M : Type 1} (𝓤 : URA M) (H : Heap 𝓤) (A : Atoms 𝓤) (W : Given
         move ! (2 ∷ 4 ∷ 0 ∷ []) $ use3 W (raw (Next 𝓤 H A at-mem run .pre (to-next γ l₃ ν))) (goes-next γ l₃ ν) $
         calls-at ! fm (Next 𝓤 H A at-mem run) known-next (to-next γ l₃ ν) (and-then ! (load ! (from ! (stop !)) (look ! 5 refl)) (no-more !)) (λ w.
         use1 W (later (some (λ (t : Line). ((‵ (flft (ν ∷ κ) (PosShare·left q)) ⊛ ‵ (flft κ (PosShare·right q)) ⊛ ‵ ftrue) ⊛ ‵ (L.the-row .own t (w ∷ []))) ⊛ raw (ensured 𝓤 H A next.ended (next.clauses 𝓤 H A at-mem run) (ν ∷ κ, (κ, tt)) (x γ l₃, tt) tt t)))) (id⊢ 𝓤 _) $ await ! tt $ pick ! (λ t.
-        split ! $ move ! (1 ∷ []) $ use1 W (some (λ (ws : LineReader × Unit {0}). ‵ (lasts next.ended (ν ∷ κ, (κ, tt)) (x γ l₃, tt) ws) ⊛ raw (fact 𝓤 ((t ≡ found) × (ws .0 ≡ passed made found))))) (id⊢ 𝓤 _) $ pick ! (λ ws.
-        split ! $ move ! (1 ∷ []) $ heard ! ((t ≡ found) × (ws .0 ≡ passed made found)) (λ said. fsplit ! $ move ! (2 ∷ []) $ split ! $ move ! (1 ∷ []) $
+        split ! $ move ! (1 ∷ []) $ use1 W (some (λ (ws : LineReader × Unit {0}). ‵ (lasts next.ended (ν ∷ κ, (κ, tt)) (x γ l₃, tt) ws) ⊛ raw (fact 𝓤 ((t ≡ found) × (ws .0 ≡ readerBehind made found))))) (id⊢ 𝓤 _) $ pick ! (λ ws.
+        split ! $ move ! (1 ∷ []) $ heard ! ((t ≡ found) × (ws .0 ≡ readerBehind made found)) (λ said. fsplit ! $ move ! (2 ∷ []) $ split ! $ move ! (1 ∷ []) $
         -- [the line; the tokens; the reader's last value; true; the claim; what is left of ν's token; true; what src owns; _5; …; _4; …; …; _2; …; _1; …; room for _0; …]
         peeks ! L.the-row (Is L.the-row) (shows 𝓤 H A L.the-row) t (w ∷ []) (λ got.
         land ! (from ! (stop !)) (init ! 17 refl (LL.lawful L.the-type L′.the-laws 𝓤 H A W .typed t _ got .0)) $

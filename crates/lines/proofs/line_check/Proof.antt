@@ -11,7 +11,7 @@ skip-allowed-requires : tie.Need-skip-allowed-requires
 skip-allowed-requires c κs = search needs
 
 line-break-requires : tie.Need-line-break-requires
-line-break-requires c κs = search needs
+line-break-requires c κs = tt
 
 returns : tie.Need-returns
 returns c = (λ k. forbidden (now (c .before .before .before .before .before .args .s)) _ _ (c .before .before .before .skip-allowed .ensures .0) k (c .if2 .taken) (sym (c .before .before .line-break .ensures) ∙ c .before .if1 .taken), tt)

@@ -24,7 +24,7 @@ shared-slice-read-allowed : tie.Need-shared-slice-read-allowed Inv-loop μ-loop
 shared-slice-read-allowed c = search needs
 
 allowed-requires : tie.Need-allowed-requires Inv-loop μ-loop
-allowed-requires c κs = search needs
+allowed-requires c κs = tt
 
 returns : tie.Need-returns Inv-loop μ-loop
 returns c = (sym (front-stop isAllowed _ _ 0 (c .before .before .before .loop-test .taken) (sym (c .before .allowed .ensures) ∙ not-true (c .before .allowed .result) (c .if1 .taken))) ∙ c .before .before .before .before .loop .inv .1, omega arith)

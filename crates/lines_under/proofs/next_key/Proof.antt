@@ -44,7 +44,7 @@ part-key-in-end c =
     omega (arith, t .starts, t .fits)
 
 key-in-requires : tie.Need-key-in-requires Inv-loop μ-loop
-key-in-requires c κs = search needs
+key-in-requires c κs = tt
 
 enum-known-keyword : tie.Need-enum-known-keyword Inv-loop μ-loop
 enum-known-keyword c = search needs

@@ -41,7 +41,7 @@ part-bracketed-end c =
     omega (arith, t .starts, t .fits)
 
 bracketed-requires : tie.Need-bracketed-requires Inv-loop μ-loop
-bracketed-requires c κs = search needs
+bracketed-requires c κs = tt
 
 returns : tie.Need-returns Inv-loop μ-loop
 returns c =

@@ -38,7 +38,7 @@ part-same-end : tie.Need-part-same-end Inv-loop μ-loop
 part-same-end c = c .before .word-at .ensures .ends
 
 same-requires : tie.Need-same-requires Inv-loop μ-loop
-same-requires c κs = search needs
+same-requires c κs = tt
 
 returns-2 : tie.Need-returns-2 Inv-loop μ-loop
 returns-2 c =

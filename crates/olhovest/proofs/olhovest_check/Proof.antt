@@ -1,6 +1,5 @@
 -- By the verdict of `check`, at the lengths that the numbers give.
 use mathlib.Core.Path.{ap, _∙_}
-use borrow.Author.Needs.{needs}
 use denote.Ref.{now}
 use Rattle.rules.specs.Whole.{outcome}
 use Rattle.records.specs.declared.Lengths.{Lengths}
@@ -16,16 +15,16 @@ use Rattle.table_words.proofs.fault_number.Reads as fault-number-reads
 use Rattle.olhovest.proofs.lengths_are.Reads as lengths-are-reads
 
 lengths-are-requires : tie.Need-lengths-are-requires
-lengths-are-requires c κs = search needs
+lengths-are-requires c κs = tt
 
 check-requires : tie.Need-check-requires
-check-requires c κs = search needs
+check-requires c κs = tt
 
 fault-line-requires : tie.Need-fault-line-requires
-fault-line-requires c κs = search needs
+fault-line-requires c κs = tt
 
 fault-number-requires : tie.Need-fault-number-requires
-fault-number-requires c κs = search needs
+fault-number-requires c κs = tt
 
 returns : tie.Need-returns
 returns c =

@@ -8,13 +8,13 @@ use Rattle.olhovest.proofs.olhovest_read.Statement.{statement}
 use Rattle.olhovest.proofs.olhovest_read.Tie as tie
 
 read-requires : tie.Need-read-requires
-read-requires c κs = search needs
+read-requires c κs = tt
 
 put-answer-requires : tie.Need-put-answer-requires
-put-answer-requires c κs = search needs
+put-answer-requires c κs = tt
 
 fault-number-requires : tie.Need-fault-number-requires
-fault-number-requires c κs = search needs
+fault-number-requires c κs = tt
 
 same-length : tie.Need-same-length
 same-length c = search needs

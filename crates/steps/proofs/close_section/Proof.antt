@@ -8,46 +8,46 @@ enum-told : tie.Need-enum-told
 enum-told c = search needs
 
 stopped-requires : tie.Need-stopped-requires
-stopped-requires c κs = search needs
+stopped-requires c κs = tt
 
 enum-known-s : tie.Need-enum-known-s
 enum-known-s c = search needs
 
 header-done-requires : tie.Need-header-done-requires
-header-done-requires c κs = search needs
+header-done-requires c κs = tt
 
 quiet-unless-requires : tie.Need-quiet-unless-requires
-quiet-unless-requires c κs = search needs
+quiet-unless-requires c κs = tt
 
 enum-known-s-2 : tie.Need-enum-known-s-2
 enum-known-s-2 c = search needs
 
 component-done-requires : tie.Need-component-done-requires
-component-done-requires c κs = search needs
+component-done-requires c κs = tt
 
 quiet-unless-requires-2 : tie.Need-quiet-unless-requires-2
-quiet-unless-requires-2 c κs = search needs
+quiet-unless-requires-2 c κs = tt
 
 enum-known-s-3 : tie.Need-enum-known-s-3
 enum-known-s-3 c = search needs
 
 quiet-requires : tie.Need-quiet-requires
-quiet-requires c κs = search needs
+quiet-requires c κs = tt
 
 enum-known-s-4 : tie.Need-enum-known-s-4
 enum-known-s-4 c = search needs
 
 model-done-requires : tie.Need-model-done-requires
-model-done-requires c κs = search needs
+model-done-requires c κs = tt
 
 quiet-unless-requires-3 : tie.Need-quiet-unless-requires-3
-quiet-unless-requires-3 c κs = search needs
+quiet-unless-requires-3 c κs = tt
 
 enum-told-2 : tie.Need-enum-told-2
 enum-told-2 c = search needs
 
 stopped-requires-2 : tie.Need-stopped-requires-2
-stopped-requires-2 c κs = search needs
+stopped-requires-2 c κs = tt
 
 returns : tie.Need-returns
 returns c = rw (c .before .enum-told .given .1) (c .stopped .ensures)

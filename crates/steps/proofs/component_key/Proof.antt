@@ -14,7 +14,7 @@ enum-known-s : tie.Need-enum-known-s
 enum-known-s c = search needs
 
 stopped-requires : tie.Need-stopped-requires
-stopped-requires c κs = search needs
+stopped-requires c κs = tt
 
 returns : tie.Need-returns
 returns c =
@@ -23,7 +23,7 @@ returns c =
     ∙ sym (ap (λ (o : Option ComponentState). within (a .k) o (λ x. componentPart x (a .k) (now (a .argument)) (a .p))) (not-component (a .s) (c .before .match .keys2)))
 
 component-part-requires : tie.Need-component-part-requires
-component-part-requires c κs = search needs
+component-part-requires c κs = tt
 
 returns-2 : tie.Need-returns-2
 returns-2 c = rw (c .before .before .s .given .1) (c .component-part .ensures)

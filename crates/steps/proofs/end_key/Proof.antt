@@ -5,7 +5,7 @@ use Rattle.steps.proofs.end_key.Statement.{statement}
 use Rattle.steps.proofs.end_key.Tie as tie
 
 close-section-requires : tie.Need-close-section-requires
-close-section-requires c κs = search needs
+close-section-requires c κs = tt
 
 enum-told : tie.Need-enum-told
 enum-told c = search needs

@@ -14,7 +14,7 @@ enum-known-s : tie.Need-enum-known-s
 enum-known-s c = search needs
 
 stopped-requires : tie.Need-stopped-requires
-stopped-requires c κs = search needs
+stopped-requires c κs = tt
 
 returns : tie.Need-returns
 returns c =
@@ -23,7 +23,7 @@ returns c =
     ∙ sym (ap (λ (o : Option HeaderState). within (a .k) o (λ x. headerPart x (a .k) (now (a .argument)) (a .p))) (not-header (a .s) (c .before .match .keys2)))
 
 header-part-requires : tie.Need-header-part-requires
-header-part-requires c κs = search needs
+header-part-requires c κs = tt
 
 returns-2 : tie.Need-returns-2
 returns-2 c = rw (c .before .before .s .given .1) (c .header-part .ensures)

@@ -1,56 +1,56 @@
--- What `key_of` answers, by `key-said`; the argument by `key-within` and `key-argument`.
+-- What `key_of` answers says what the line says; the argument by `key-within` and `key-argument`.
 use mathlib.Core.Path.{sym, ap, _∙_}
 use borrow.Author.Needs.{needs}
 use denote.Ref.{now}
 use Rattle.keywords.specs.Answers.{keywordSays}
 use Rattle.keywords.proofs.Arguments.{key-within, key-argument}
-use Rattle.keywords.proofs.Spelling.{key-said}
 use Rattle.steps.proofs.keyword_line.Statement.{statement}
 use Rattle.steps.proofs.keyword_line.Tie as tie
 
 key-of-requires : tie.Need-key-of-requires
-key-of-requires c κs = search needs
+key-of-requires c κs = tt
 
 enum-known-keyword : tie.Need-enum-known-keyword
 enum-known-keyword c = search needs
 
 sub-on-keyword : tie.Need-sub-on-keyword
-sub-on-keyword c = key-within (now (c .before .before .before .before .before .args .w)) (sym (c .before .before .before .key-of .ensures) ∙ c .before .keyword .given .1)
+sub-on-keyword c = key-within (now (c .before .before .before .before .before .args .w)) (sym (c .before .before .before .key-of .ensures .0) ∙ c .before .keyword .given .1)
 
 part-on-keyword-start : tie.Need-part-on-keyword-start
 part-on-keyword-start c =
-    let h = key-within (now (c .before .before .before .before .before .args .w)) (sym (c .before .before .before .key-of .ensures) ∙ c .before .keyword .given .1) in
+    let h = key-within (now (c .before .before .before .before .before .args .w)) (sym (c .before .before .before .key-of .ensures .0) ∙ c .before .keyword .given .1) in
     search needs
 
 part-on-keyword-end : tie.Need-part-on-keyword-end
 part-on-keyword-end c = search needs
 
 on-keyword-requires : tie.Need-on-keyword-requires
-on-keyword-requires c κs = search needs
+on-keyword-requires c κs = tt
 
 enum-told : tie.Need-enum-told
 enum-told c = search needs
 
 stopped-requires : tie.Need-stopped-requires
-stopped-requires c κs = search needs
+stopped-requires c κs = tt
 
 enum-told-2 : tie.Need-enum-told-2
 enum-told-2 c = search needs
 
 stopped-requires-2 : tie.Need-stopped-requires-2
-stopped-requires-2 c κs = search needs
+stopped-requires-2 c κs = tt
 
 returns : tie.Need-returns
 returns c =
     let w = now (c .before .before .before .before .before .before .before .args .w) in
-    let e = sym (c .before .before .before .before .before .key-of .ensures) ∙ c .before .before .before .keyword .given .1 in
-    rw (sym (key-said w) ∙ ap keywordSays e, sym (key-argument w e)) (c .on-keyword .ensures)
+    let read = c .before .before .before .before .before .key-of .ensures in
+    let known = c .before .before .before .keyword .given .1 in
+    rw (sym (read .1) ∙ ap keywordSays known, sym (key-argument w (sym (read .0) ∙ known))) (c .on-keyword .ensures)
 
 returns-2 : tie.Need-returns-2
-returns-2 c = rw (sym (key-said (now (c .before .before .before .before .before .args .w))) ∙ ap keywordSays (sym (c .before .before .before .key-of .ensures) ∙ c .before .enum-told .given .1)) (c .stopped .ensures)
+returns-2 c = rw (sym (c .before .before .before .key-of .ensures .1) ∙ ap keywordSays (c .before .enum-told .given .1)) (c .stopped .ensures)
 
 returns-3 : tie.Need-returns-3
-returns-3 c = rw (sym (key-said (now (c .before .before .before .before .before .args .w))) ∙ ap keywordSays (sym (c .before .before .before .key-of .ensures) ∙ c .before .enum-told2 .given .1)) (c .stopped2 .ensures)
+returns-3 c = rw (sym (c .before .before .before .key-of .ensures .1) ∙ ap keywordSays (c .before .enum-told2 .given .1)) (c .stopped2 .ensures)
 
 pub keyword-line-spec : {M : Type 1} → statement M
 keyword-line-spec =

@@ -14,7 +14,7 @@ enum-known-s : tie.Need-enum-known-s
 enum-known-s c = search needs
 
 stopped-requires : tie.Need-stopped-requires
-stopped-requires c κs = search needs
+stopped-requires c κs = tt
 
 returns : tie.Need-returns
 returns c =
@@ -23,7 +23,7 @@ returns c =
     ∙ sym (ap (λ (o : Option ModelState). within (a .k) o (λ x. modelPart x (a .k) (now (a .argument)) (a .p))) (not-model (a .s) (c .before .match .keys2)))
 
 model-part-requires : tie.Need-model-part-requires
-model-part-requires c κs = search needs
+model-part-requires c κs = tt
 
 returns-2 : tie.Need-returns-2
 returns-2 c = rw (c .before .before .s .given .1) (c .model-part .ensures)

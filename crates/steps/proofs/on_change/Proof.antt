@@ -1,6 +1,5 @@
 -- After [End], a fault 5, before [IBIS Ver], or on: `refused`, `passed`.
 use mathlib.Core.Path.{sym, _∙_}
-use borrow.Author.Needs.{needs}
 use borrow.Author.Tests.{eq-eqb, ne-eqb}
 use Rattle.rules.specs.Steps.{onChange}
 use Rattle.rules.proofs.Going.{refused, passed}
@@ -8,17 +7,17 @@ use Rattle.steps.proofs.on_change.Statement.{statement}
 use Rattle.steps.proofs.on_change.Tie as tie
 
 is-ended-requires : tie.Need-is-ended-requires
-is-ended-requires c κs = search needs
+is-ended-requires c κs = tt
 
 stopped-requires : tie.Need-stopped-requires
-stopped-requires c κs = search needs
+stopped-requires c κs = tt
 
 returns : tie.Need-returns
 unfolding onChange
 returns c = c .stopped .ensures ∙ refused 7 _ _ (sym (c .before .before .is-ended .ensures) ∙ c .before .if1 .taken)
 
 stopped-requires-2 : tie.Need-stopped-requires-2
-stopped-requires-2 c κs = search needs
+stopped-requires-2 c κs = tt
 
 returns-2 : tie.Need-returns-2
 unfolding onChange
@@ -28,10 +27,10 @@ returns-2 c =
     ∙ passed 7 _ _ (sym (c .before .before .before .is-ended .ensures) ∙ c .before .before .if1 .left)
 
 is-before-requires : tie.Need-is-before-requires
-is-before-requires c κs = search needs
+is-before-requires c κs = tt
 
 stopped-requires-3 : tie.Need-stopped-requires-3
-stopped-requires-3 c κs = search needs
+stopped-requires-3 c κs = tt
 
 returns-3 : tie.Need-returns-3
 unfolding onChange
@@ -42,7 +41,7 @@ returns-3 c =
     ∙ passed 7 _ _ (sym (c .before .before .before .before .before .is-ended .ensures) ∙ c .before .before .before .before .if1 .left)
 
 quiet-unless-requires : tie.Need-quiet-unless-requires
-quiet-unless-requires c κs = search needs
+quiet-unless-requires c κs = tt
 
 returns-4 : tie.Need-returns-4
 unfolding onChange

@@ -7,37 +7,37 @@ enum-told : tie.Need-enum-told
 enum-told c = search needs
 
 stopped-requires : tie.Need-stopped-requires
-stopped-requires c κs = search needs
+stopped-requires c κs = tt
 
 enum-known-s : tie.Need-enum-known-s
 enum-known-s c = search needs
 
 header-line-requires : tie.Need-header-line-requires
-header-line-requires c κs = search needs
+header-line-requires c κs = tt
 
 enum-known-s-2 : tie.Need-enum-known-s-2
 enum-known-s-2 c = search needs
 
 component-line-requires : tie.Need-component-line-requires
-component-line-requires c κs = search needs
+component-line-requires c κs = tt
 
 enum-known-s-3 : tie.Need-enum-known-s-3
 enum-known-s-3 c = search needs
 
 selector-line-requires : tie.Need-selector-line-requires
-selector-line-requires c κs = search needs
+selector-line-requires c κs = tt
 
 enum-known-s-4 : tie.Need-enum-known-s-4
 enum-known-s-4 c = search needs
 
 model-line-requires : tie.Need-model-line-requires
-model-line-requires c κs = search needs
+model-line-requires c κs = tt
 
 enum-told-2 : tie.Need-enum-told-2
 enum-told-2 c = search needs
 
 stopped-requires-2 : tie.Need-stopped-requires-2
-stopped-requires-2 c κs = search needs
+stopped-requires-2 c κs = tt
 
 returns : tie.Need-returns
 returns c = rw (c .before .enum-told .given .1) (c .stopped .ensures)

@@ -8,23 +8,23 @@ use Rattle.steps.proofs.on_plain.Statement.{statement}
 use Rattle.steps.proofs.on_plain.Tie as tie
 
 bracketed-requires : tie.Need-bracketed-requires
-bracketed-requires c κs = search needs
+bracketed-requires c κs = tt
 
 on-line-requires : tie.Need-on-line-requires
-on-line-requires c κs = search needs
+on-line-requires c κs = tt
 
 returns : tie.Need-returns
 unfolding onPlain
 returns c = c .on-line .ensures ∙ sym (cond-no _ _ (sym (c .before .before .bracketed .ensures) ∙ not-true (c .before .before .bracketed .result) (c .before .if1 .taken)))
 
 shut-list-requires : tie.Need-shut-list-requires
-shut-list-requires c κs = search needs
+shut-list-requires c κs = tt
 
 enum-known-t : tie.Need-enum-known-t
 enum-known-t c = search needs
 
 keyword-line-requires : tie.Need-keyword-line-requires
-keyword-line-requires c κs = search needs
+keyword-line-requires c κs = tt
 
 enum-known-fault : tie.Need-enum-known-fault
 enum-known-fault c = search needs

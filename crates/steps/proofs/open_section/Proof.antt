@@ -10,37 +10,37 @@ enum-told : tie.Need-enum-told
 enum-told c = search needs
 
 sized-requires : tie.Need-sized-requires
-sized-requires c κs = search needs
+sized-requires c κs = tt
 
 new-component-requires : tie.Need-new-component-requires
-new-component-requires c κs = search needs
+new-component-requires c κs = tt
 
 stopped-requires : tie.Need-stopped-requires
-stopped-requires c κs = search needs
+stopped-requires c κs = tt
 
 enum-told-2 : tie.Need-enum-told-2
 enum-told-2 c = search needs
 
 one-model-name-requires : tie.Need-one-model-name-requires
-one-model-name-requires c κs = search needs
+one-model-name-requires c κs = tt
 
 new-selector-requires : tie.Need-new-selector-requires
-new-selector-requires c κs = search needs
+new-selector-requires c κs = tt
 
 stopped-requires-2 : tie.Need-stopped-requires-2
-stopped-requires-2 c κs = search needs
+stopped-requires-2 c κs = tt
 
 enum-told-3 : tie.Need-enum-told-3
 enum-told-3 c = search needs
 
 one-model-name-requires-2 : tie.Need-one-model-name-requires-2
-one-model-name-requires-2 c κs = search needs
+one-model-name-requires-2 c κs = tt
 
 new-model-requires : tie.Need-new-model-requires
-new-model-requires c κs = search needs
+new-model-requires c κs = tt
 
 stopped-requires-3 : tie.Need-stopped-requires-3
-stopped-requires-3 c κs = search needs
+stopped-requires-3 c κs = tt
 
 returns : tie.Need-returns
 returns c = rw (c .before .before .before .enum-told .given .1, c .new-component .ensures) (passed 10 _ _ (ap not (sym (c .before .before .sized .ensures) ∙ c .before .if1 .taken)))

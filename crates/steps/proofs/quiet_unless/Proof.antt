@@ -1,18 +1,17 @@
 -- The fault is none, or not: `clean`, `faulted`.
 use mathlib.Core.Path.{refl, _∙_}
-use borrow.Author.Needs.{needs}
 use Rattle.rules.proofs.Going.{faulted, clean}
 use Rattle.steps.proofs.quiet_unless.Statement.{statement}
 use Rattle.steps.proofs.quiet_unless.Tie as tie
 
 quiet-requires : tie.Need-quiet-requires
-quiet-requires c κs = search needs
+quiet-requires c κs = tt
 
 returns : tie.Need-returns
 returns c = c .quiet .ensures ∙ clean _ _ refl (c .before .if1 .taken)
 
 stopped-requires : tie.Need-stopped-requires
-stopped-requires c κs = search needs
+stopped-requires c κs = tt
 
 returns-2 : tie.Need-returns-2
 returns-2 c = c .stopped .ensures ∙ faulted _ _ refl (c .before .if1 .left)

@@ -7,37 +7,37 @@ enum-told : tie.Need-enum-told
 enum-told c = search needs
 
 quiet-requires : tie.Need-quiet-requires
-quiet-requires c κs = search needs
+quiet-requires c κs = tt
 
 enum-known-s : tie.Need-enum-known-s
 enum-known-s c = search needs
 
 header-shut-requires : tie.Need-header-shut-requires
-header-shut-requires c κs = search needs
+header-shut-requires c κs = tt
 
 enum-known-s-2 : tie.Need-enum-known-s-2
 enum-known-s-2 c = search needs
 
 component-shut-requires : tie.Need-component-shut-requires
-component-shut-requires c κs = search needs
+component-shut-requires c κs = tt
 
 enum-known-s-3 : tie.Need-enum-known-s-3
 enum-known-s-3 c = search needs
 
 selector-shut-requires : tie.Need-selector-shut-requires
-selector-shut-requires c κs = search needs
+selector-shut-requires c κs = tt
 
 enum-known-s-4 : tie.Need-enum-known-s-4
 enum-known-s-4 c = search needs
 
 model-shut-requires : tie.Need-model-shut-requires
-model-shut-requires c κs = search needs
+model-shut-requires c κs = tt
 
 enum-told-2 : tie.Need-enum-told-2
 enum-told-2 c = search needs
 
 stopped-requires : tie.Need-stopped-requires
-stopped-requires c κs = search needs
+stopped-requires c κs = tt
 
 returns : tie.Need-returns
 returns c = rw (c .before .enum-told .given .1) (c .quiet .ensures)

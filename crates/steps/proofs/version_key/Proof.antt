@@ -12,10 +12,10 @@ use Rattle.steps.proofs.version_key.Statement.{statement}
 use Rattle.steps.proofs.version_key.Tie as tie
 
 is-before-requires : tie.Need-is-before-requires
-is-before-requires c κs = search needs
+is-before-requires c κs = tt
 
 open-header-requires : tie.Need-open-header-requires
-open-header-requires c κs = search needs
+open-header-requires c κs = tt
 
 returns : tie.Need-returns
 unfolding onVersion
@@ -25,7 +25,7 @@ enum-told : tie.Need-enum-told
 enum-told c = search needs
 
 stopped-requires : tie.Need-stopped-requires
-stopped-requires c κs = search needs
+stopped-requires c κs = tt
 
 returns-2 : tie.Need-returns-2
 unfolding onVersion
@@ -36,7 +36,7 @@ returns-2 c =
     ∙ sym (cond-no _ _ (sym (c .before .before .before .is-before .ensures) ∙ c .before .before .if1 .left))
 
 stopped-requires-2 : tie.Need-stopped-requires-2
-stopped-requires-2 c κs = search needs
+stopped-requires-2 c κs = tt
 
 returns-3 : tie.Need-returns-3
 unfolding onVersion

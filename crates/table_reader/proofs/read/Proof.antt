@@ -11,7 +11,7 @@ use Rattle.table_reader.proofs.read.Statement.{statement}
 use Rattle.table_reader.proofs.read.Tie as tie
 
 room-in-requires : tie.Need-room-in-requires
-room-in-requires c κs = search needs
+room-in-requires c κs = tt
 
 slice-aggregate-outlined : tie.Need-slice-aggregate-outlined
 slice-aggregate-outlined c = search needs

@@ -17,16 +17,16 @@ use Rattle.table_words.proofs.fills.put.Reads as put-reads
 use Rattle.record_words.proofs.tables.text_words.Reads as text-words-reads
 
 fault-line-requires : tie.Need-fault-line-requires
-fault-line-requires c κs = search needs
+fault-line-requires c κs = tt
 
 count-words-requires : tie.Need-count-words-requires
-count-words-requires c κs = search needs
+count-words-requires c κs = tt
 
 text-words-requires : tie.Need-text-words-requires
-text-words-requires c κs = search needs
+text-words-requires c κs = tt
 
 text-words-requires-2 : tie.Need-text-words-requires-2
-text-words-requires-2 c κs = search needs
+text-words-requires-2 c κs = tt
 
 slice-aggregate-put : tie.Need-slice-aggregate-put
 slice-aggregate-put c = search needs

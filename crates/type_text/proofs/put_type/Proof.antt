@@ -5,7 +5,7 @@ use mathlib.Core.List.{[]}
 use lib.ListN.{getD}
 use borrow.Author.Needs.{needs}
 use Rattle.laws.specs.Lists.{other}
-use Rattle.words.specs.Words.{onto}
+use Rattle.words.specs.Words.{ontoWord}
 use Rattle.name_table.specs.Places.{namesOf}
 use Rattle.line_rules.specs.Tables.{modelTypes}
 use Rattle.text_buffer.specs.Parts.{parts}
@@ -24,7 +24,7 @@ same-length : tie.Need-same-length
 same-length c = search needs
 
 returns : tie.Need-returns
-unfolding parts onto other namesOf modelTypes typeText
+unfolding parts ontoWord other namesOf modelTypes typeText
 returns c = put-as (ap (λ (n : ℕ). getD (namesOf modelTypes) n []) (c .before .before .before .type-number .ensures)) (c .before .before .put-part .ensures)
 
 pub put-type-spec : {M : Type 1} → statement M

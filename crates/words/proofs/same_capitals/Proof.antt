@@ -30,7 +30,7 @@ shared-slice-read-raised : tie.Need-shared-slice-read-raised Inv-loop μ-loop
 shared-slice-read-raised c = search needs
 
 raised-requires : tie.Need-raised-requires Inv-loop μ-loop
-raised-requires c κs = search needs
+raised-requires c κs = tt
 
 shared-slice-read-if2 : tie.Need-shared-slice-read-if2 Inv-loop μ-loop
 shared-slice-read-if2 c = search needs

@@ -24,7 +24,7 @@ shared-slice-read-blank : tie.Need-shared-slice-read-blank Inv-loop μ-loop
 shared-slice-read-blank c = search needs
 
 blank-requires : tie.Need-blank-requires Inv-loop μ-loop
-blank-requires c κs = search needs
+blank-requires c κs = tt
 
 returns : tie.Need-returns Inv-loop μ-loop
 returns c = (sym (front-stop isInk _ _ 0 (c .before .before .before .loop-test .taken) (ink-no _ _ (c .before .blank .ensures) (c .if1 .taken))) ∙ c .before .before .before .before .loop .inv .1, omega arith)

@@ -28,7 +28,7 @@ shared-slice-read-blank : tie.Need-shared-slice-read-blank Inv-loop μ-loop
 shared-slice-read-blank c = search needs
 
 blank-requires : tie.Need-blank-requires Inv-loop μ-loop
-blank-requires c κs = search needs
+blank-requires c κs = tt
 
 returns : tie.Need-returns Inv-loop μ-loop
 returns c =

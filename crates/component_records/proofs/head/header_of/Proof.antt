@@ -20,7 +20,7 @@ abbrev μ-loop : tie.MeasureT-loop
 μ-loop src header₀ d₀ header d = length src - d .at
 
 no-header-requires : tie.Need-no-header-requires Inv-loop μ-loop
-no-header-requires c κs = search needs
+no-header-requires c κs = tt
 
 loop-holds : tie.Need-loop-holds Inv-loop μ-loop
 loop-holds c = rw (c .no-header .ensures) (c .before .before .pre, follows-start head-fold _ _ noHeader)
@@ -32,7 +32,7 @@ enum-known-keyword : tie.Need-enum-known-keyword Inv-loop μ-loop
 enum-known-keyword c = search needs
 
 ends-requires : tie.Need-ends-requires Inv-loop μ-loop
-ends-requires c κs = search needs
+ends-requires c κs = tt
 
 returns : tie.Need-returns Inv-loop μ-loop
 returns c =

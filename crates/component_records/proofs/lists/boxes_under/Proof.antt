@@ -32,7 +32,7 @@ part-box-line-end : tie.Need-part-box-line-end Inv-loop μ-loop
 part-box-line-end c = line-fits (c .before .before .before .before .loop .inv) (c .before .start .given .1) (c .before .before .before .next-line .ensures)
 
 box-line-requires : tie.Need-box-line-requires Inv-loop μ-loop
-box-line-requires c κs = search needs
+box-line-requires c κs = tt
 
 loop-less : tie.Need-loop-less Inv-loop μ-loop
 loop-less c = line-less (c .before .before .before .before .before .before .loop .inv) (c .before .before .before .start .given .1) (c .before .before .before .before .before .next-line .ensures)

@@ -9,19 +9,19 @@ use Rattle.component_records.proofs.lists.site_line.Statement.{statemen
 use Rattle.component_records.proofs.lists.site_line.Tie as tie
 
 component-line-requires : tie.Need-component-line-requires
-component-line-requires c κs = search needs
+component-line-requires c κs = tt
 
 enum-known-n : tie.Need-enum-known-n
 enum-known-n c = search needs
 
 location-of-requires : tie.Need-location-of-requires
-location-of-requires c κs = search needs
+location-of-requires c κs = tt
 
 enum-known-l : tie.Need-enum-known-l
 enum-known-l c = search needs
 
 site-at-requires : tie.Need-site-at-requires
-site-at-requires c κs = search needs
+site-at-requires c κs = tt
 
 enum-told : tie.Need-enum-told
 enum-told c = search needs

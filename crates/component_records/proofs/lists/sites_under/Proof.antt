@@ -32,7 +32,7 @@ part-site-line-end : tie.Need-part-site-line-end Inv-loop μ-loop
 part-site-line-end c = line-fits (c .before .before .before .before .loop .inv) (c .before .start .given .1) (c .before .before .before .next-line .ensures)
 
 site-line-requires : tie.Need-site-line-requires Inv-loop μ-loop
-site-line-requires c κs = search needs
+site-line-requires c κs = tt
 
 loop-less : tie.Need-loop-less Inv-loop μ-loop
 loop-less c = line-less (c .before .before .before .before .before .before .loop .inv) (c .before .before .before .start .given .1) (c .before .before .before .before .before .next-line .ensures)

@@ -35,7 +35,7 @@ part-words-of-end : tie.Need-part-words-of-end
 part-words-of-end c = search needs
 
 words-of-requires : tie.Need-words-of-requires
-words-of-requires c κs = search needs
+words-of-requires c κs = tt
 
 returns : tie.Need-returns
 unfolding choiceIn

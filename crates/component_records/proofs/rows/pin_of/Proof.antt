@@ -18,7 +18,7 @@ pin-cells-requires : tie.Need-pin-cells-requires
 pin-cells-requires c κs = search needs
 
 triple-is-requires : tie.Need-triple-is-requires
-triple-is-requires c κs = search needs
+triple-is-requires c κs = tt
 
 name-at-requires : tie.Need-name-at-requires
 name-at-requires c κs = search needs

@@ -16,7 +16,7 @@ parts-from-requires : tie.Need-parts-from-requires
 parts-from-requires c κs = search needs
 
 name-of-requires : tie.Need-name-of-requires
-name-of-requires c κs = search needs
+name-of-requires c κs = tt
 
 returns : tie.Need-returns
 returns c =

@@ -19,7 +19,7 @@ abbrev μ-loop : tie.MeasureT-loop
 μ-loop src parts₀ d₀ parts d = length src - d .at
 
 no-parts-requires : tie.Need-no-parts-requires Inv-loop μ-loop
-no-parts-requires c κs = search needs
+no-parts-requires c κs = tt
 
 loop-holds : tie.Need-loop-holds Inv-loop μ-loop
 loop-holds c = rw (c .no-parts .ensures) (c .before .before .pre, omega arith, follows-start part-fold _ _ noParts)
@@ -31,7 +31,7 @@ enum-known-keyword : tie.Need-enum-known-keyword Inv-loop μ-loop
 enum-known-keyword c = search needs
 
 ends-requires : tie.Need-ends-requires Inv-loop μ-loop
-ends-requires c κs = search needs
+ends-requires c κs = tt
 
 returns : tie.Need-returns Inv-loop μ-loop
 returns c =

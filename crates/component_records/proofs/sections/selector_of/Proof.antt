@@ -13,7 +13,7 @@ count-lines-requires : tie.Need-count-lines-requires
 count-lines-requires c κs = search needs
 
 name-of-requires : tie.Need-name-of-requires
-name-of-requires c κs = search needs
+name-of-requires c κs = tt
 
 returns : tie.Need-returns
 unfolding choicesIn

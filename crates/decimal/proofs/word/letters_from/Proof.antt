@@ -24,7 +24,7 @@ shared-slice-read-letter : tie.Need-shared-slice-read-letter Inv-loop μ-loop
 shared-slice-read-letter c = search needs
 
 letter-requires : tie.Need-letter-requires Inv-loop μ-loop
-letter-requires c κs = search needs
+letter-requires c κs = tt
 
 returns : tie.Need-returns Inv-loop μ-loop
 returns c =

@@ -1,6 +1,6 @@
 -- One text behind another.
 use borrow.Author.Needs.{needs}
-use Rattle.dump_text.specs.Components.{componentLines}
+use Rattle.dump_text.specs.Components.{componentDump}
 use Rattle.text_buffer.proofs.Laws.{put-then, put-kept}
 use Rattle.dump_text.proofs.components.component_lines.Statement.{statement}
 use Rattle.dump_text.proofs.components.component_lines.Tie as tie
@@ -30,7 +30,7 @@ count-line-requires : tie.Need-count-line-requires
 count-line-requires c κs = search needs
 
 returns : tie.Need-returns
-unfolding componentLines
+unfolding componentDump
 returns c =
     let a = c .before .before in
     let b = a .before .before .before .before .before in

@@ -1,6 +1,6 @@
 -- One text behind another.
 use borrow.Author.Needs.{needs}
-use Rattle.dump_text.specs.Components.{packageLines}
+use Rattle.dump_text.specs.Components.{packageDump}
 use Rattle.text_buffer.proofs.Laws.{put-then, put-kept}
 use Rattle.dump_text.proofs.components.package_lines.Statement.{statement}
 use Rattle.dump_text.proofs.components.package_lines.Tie as tie
@@ -24,7 +24,7 @@ triple-line-requires-3 : tie.Need-triple-line-requires-3
 triple-line-requires-3 c κs = search needs
 
 returns : tie.Need-returns
-unfolding packageLines
+unfolding packageDump
 returns c =
     let a = c .before .before in
     let b = a .before .before .before .before .before in

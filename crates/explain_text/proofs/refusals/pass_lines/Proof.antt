@@ -51,7 +51,7 @@ use denote.Triple.Table.{entered, cited}
 use denote.Triple.Walked.{says, Stays, stay-none, stay-none-slice, walkOf, goes-none, goes-none-slice, Walks, ends-at, walked, walk-meets}
 use denote.Exit.{yes}
 use denote.Triple.Clauses.{ensured, lasts}
-use Rattle.lines.specs.Places.{lineAt, passed}
+use Rattle.lines.specs.Places.{lineFrom, readerBehind}
 use Rattle.lines.specs.declared.Line.{Line}
 use Rattle.lines.specs.declared.LineReader.{LineReader}
 use Rattle.lines.proofs.Line as L
@@ -148,13 +148,13 @@ module _ {M : Type 1} (𝓤 : URA M) (H : Heap 𝓤) (A : Atoms 𝓤) (W : Given
   behind i = record { src = s; at = placeBehind (now s) i }
 
   abbrev handed : ℕ → Line
-  handed i = lineAt (now s) (placeBehind (now s) i)
+  handed i = lineFrom (now s) (placeBehind (now s) i)
 
   starts : record { src = s; at = 0 } ≡ behind 0
   unfolding placeBehind
   starts = refl
 
-  goes-on : (i : ℕ) → passed (behind i) (handed i) ≡ behind (suc i)
+  goes-on : (i : ℕ) → readerBehind (behind i) (handed i) ≡ behind (suc i)
   unfolding placeBehind
   goes-on i = refl
 
@@ -267,8 +267,8 @@ module _ {M : Type 1} (𝓤 : URA M) (H : Heap 𝓤) (A : Atoms 𝓤) (W : Given
           move ! (2 ∷ 4 ∷ 0 ∷ []) $ use3 W (raw (Next 𝓤 H A at-mem run .pre (to-next (j .0) γ l₃ ν))) (goes-next (j .0) γ l₃ ν) $
           calls-at ! fm (Next 𝓤 H A at-mem run) known-next (to-next (j .0) γ l₃ ν) (and-then ! (load ! (from ! (stop !)) (look ! 4 refl)) (no-more !)) (λ w.
           use1 W (later (some (λ (t : Line). ((‵ (flft (ν ∷ κ) (PosShare·left q)) ⊛ ‵ (flft κ (PosShare·right q)) ⊛ ‵ ftrue) ⊛ ‵ (L.the-row .own t (w ∷ []))) ⊛ raw (ensured 𝓤 H A next.ended (next.clauses 𝓤 H A at-mem run) (ν ∷ κ, (κ, tt)) (x (j .0) γ l₃, tt) tt t)))) (id⊢ 𝓤 _) $ await ! tt $ pick ! (λ t.
-          split ! $ move ! (1 ∷ []) $ use1 W (some (λ (ws : LineReader × Unit {0}). ‵ (lasts next.ended (ν ∷ κ, (κ, tt)) (x (j .0) γ l₃, tt) ws) ⊛ raw (fact 𝓤 ((t ≡ handed (j .0)) × (ws .0 ≡ passed (behind (j .0)) (handed (j .0))))))) (id⊢ 𝓤 _) $ pick ! (λ ws.
-          split ! $ move ! (1 ∷ []) $ heard ! ((t ≡ handed (j .0)) × (ws .0 ≡ passed (behind (j .0)) (handed (j .0)))) (λ said. fsplit ! $ move ! (2 ∷ []) $ split ! $ move ! (1 ∷ []) $
+          split ! $ move ! (1 ∷ []) $ use1 W (some (λ (ws : LineReader × Unit {0}). ‵ (lasts next.ended (ν ∷ κ, (κ, tt)) (x (j .0) γ l₃, tt) ws) ⊛ raw (fact 𝓤 ((t ≡ handed (j .0)) × (ws .0 ≡ readerBehind (behind (j .0)) (handed (j .0))))))) (id⊢ 𝓤 _) $ pick ! (λ ws.
+          split ! $ move ! (1 ∷ []) $ heard ! ((t ≡ handed (j .0)) × (ws .0 ≡ readerBehind (behind (j .0)) (handed (j .0)))) (λ said. fsplit ! $ move ! (2 ∷ []) $ split ! $ move ! (1 ∷ []) $
           -- [the line; the tokens; the reader's last value; true; the claim; what is left of ν's token; what src owns; _8; …]
           peeks ! L.the-row (Is L.the-row) (shows 𝓤 H A L.the-row) t (w ∷ []) (λ got.
           land ! (from ! (stop !)) (init ! 9 refl (LL.lawful L.the-type L′.the-laws 𝓤 H A W .typed t _ got .0)) $

@@ -1,7 +1,7 @@
 -- The table's lines are the list, by computing both: where `returns` is refused, they differ.
 use borrow.Author.Needs.{needs}
 use Rattle.laws.specs.Lists.{other}
-use Rattle.words.specs.Words.{onto}
+use Rattle.words.specs.Words.{ontoWord}
 use Rattle.text_buffer.specs.Parts.{parts}
 use Rattle.fault_texts.specs.Hints.{hints, hintOf}
 use Rattle.fault_texts.proofs.hints.put_hint.Statement.{statement}
@@ -14,7 +14,7 @@ same-length : tie.Need-same-length
 same-length c = search needs
 
 returns : tie.Need-returns
-unfolding parts onto other hints hintOf
+unfolding parts ontoWord other hints hintOf
 returns c = c .before .before .put-text .ensures
 
 pub put-hint-spec : {M : Type 1} → statement M

@@ -2,7 +2,7 @@
 use borrow.Author.Needs.{needs}
 use denote.Ref.{now}
 use Rattle.text_buffer.proofs.Laws.{put-as}
-use Rattle.fault_texts.specs.Texts.{listed}
+use Rattle.fault_texts.specs.Texts.{textsIn}
 use Rattle.fault_texts.proofs.Laws.{text-there, text-past}
 use Rattle.fault_texts.proofs.texts.put_text.Statement.{statement}
 use Rattle.fault_texts.proofs.texts.put_text.Tie as tie
@@ -19,7 +19,7 @@ same-length c = search needs
 returns : tie.Need-returns
 returns c =
     let a = c .before .before .before .before .before .before .before .before .before .args in
-    put-as (text-there (listed (now (a .texts))) (a .number) (c .before .before .before .before .before .before .part-at .ensures .there (c .before .before .before .before .if1 .taken))) (c .before .before .put-part .ensures)
+    put-as (text-there (textsIn (now (a .texts))) (a .number) (c .before .before .before .before .before .before .part-at .ensures .there (c .before .before .before .before .if1 .taken))) (c .before .before .put-part .ensures)
 
 put-part-requires-2 : tie.Need-put-part-requires-2
 put-part-requires-2 c κs = search needs
@@ -30,7 +30,7 @@ same-length-2 c = search needs
 returns-2 : tie.Need-returns-2
 returns-2 c =
     let a = c .before .before .before .before .before .before .before .before .before .args in
-    put-as (text-past (listed (now (a .texts))) (a .number) (c .before .before .before .before .before .before .part-at .ensures .past (c .before .before .before .before .if1 .left))) (c .before .before .put-part2 .ensures)
+    put-as (text-past (textsIn (now (a .texts))) (a .number) (c .before .before .before .before .before .before .part-at .ensures .past (c .before .before .before .before .if1 .left))) (c .before .before .put-part2 .ensures)
 
 pub put-text-spec : {M : Type 1} → statement M
 put-text-spec =

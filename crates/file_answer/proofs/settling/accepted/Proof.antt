@@ -1,13 +1,12 @@
 -- The header is read from the top.
 use mathlib.Core.Path.{refl}
-use borrow.Author.Needs.{needs}
 use denote.Ref.{now}
 use Rattle.file_answer.proofs.Accepts.{first-placed}
 use Rattle.file_answer.proofs.settling.accepted.Statement.{statement}
 use Rattle.file_answer.proofs.settling.accepted.Tie as tie
 
 first-requires : tie.Need-first-requires
-first-requires c κs = search needs
+first-requires c κs = tt
 
 header-of-requires : tie.Need-header-of-requires
 header-of-requires c κs = first-placed (now (c .before .before .args .src)) (c .first .result) (c .first .ensures)

@@ -8,7 +8,7 @@ use Rattle.file_answer.proofs.settling.outlined.Statement.{statement}
 use Rattle.file_answer.proofs.settling.outlined.Tie as tie
 
 check-bytes-requires : tie.Need-check-bytes-requires
-check-bytes-requires c κs = search needs
+check-bytes-requires c κs = tt
 
 enum-told : tie.Need-enum-told
 enum-told c = search needs
@@ -20,7 +20,7 @@ enum-known-f : tie.Need-enum-known-f
 enum-known-f c = search needs
 
 refused-requires : tie.Need-refused-requires
-refused-requires c κs = search needs
+refused-requires c κs = tt
 
 same-length : tie.Need-same-length
 same-length c = search needs

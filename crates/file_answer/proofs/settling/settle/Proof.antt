@@ -19,7 +19,7 @@ enum-known-k : tie.Need-enum-known-k
 enum-known-k c = search needs
 
 refused-requires : tie.Need-refused-requires
-refused-requires c κs = search needs
+refused-requires c κs = tt
 
 enum-told : tie.Need-enum-told
 enum-told c = search needs
@@ -36,7 +36,7 @@ enum-known-ending : tie.Need-enum-known-ending
 enum-known-ending c = search needs
 
 refused-requires-2 : tie.Need-refused-requires-2
-refused-requires-2 c κs = search needs
+refused-requires-2 c κs = tt
 
 same-length : tie.Need-same-length
 same-length c = search needs

@@ -1,17 +1,16 @@
 -- By the two words.
 use mathlib.Core.Path.{refl}
-use borrow.Author.Needs.{needs}
 use Rattle.from_notes.proofs.places.row_noted.Statement.{statement}
 use Rattle.from_notes.proofs.places.row_noted.Tie as tie
 
 name-word-requires : tie.Need-name-word-requires
-name-word-requires c κs = search needs
+name-word-requires c κs = tt
 
 name-word-requires-2 : tie.Need-name-word-requires-2
-name-word-requires-2 c κs = search needs
+name-word-requires-2 c κs = tt
 
 part-of-requires : tie.Need-part-of-requires
-part-of-requires c κs = search needs
+part-of-requires c κs = tt
 
 returns : tie.Need-returns
 returns c = rw (c .part-of .ensures, c .before .name-word2 .ensures, c .before .before .name-word .ensures) refl

@@ -1,17 +1,16 @@
 -- By the two words.
 use mathlib.Core.Path.{sym}
-use borrow.Author.Needs.{needs}
 use Rattle.from_notes.proofs.places.section_noted.Statement.{statement}
 use Rattle.from_notes.proofs.places.section_noted.Tie as tie
 
 name-word-requires : tie.Need-name-word-requires
-name-word-requires c κs = search needs
+name-word-requires c κs = tt
 
 name-word-requires-2 : tie.Need-name-word-requires-2
-name-word-requires-2 c κs = search needs
+name-word-requires-2 c κs = tt
 
 cursor-at-requires : tie.Need-cursor-at-requires
-cursor-at-requires c κs = search needs
+cursor-at-requires c κs = tt
 
 returns : tie.Need-returns
 returns c = rw (sym (c .before .name-word2 .ensures), sym (c .before .before .name-word .ensures)) (c .cursor-at .ensures)

@@ -18,7 +18,7 @@ add-word-behind : tie.Need-add-word-behind
 add-word-behind c = search needs
 
 word-behind-requires : tie.Need-word-behind-requires
-word-behind-requires c κs = search needs
+word-behind-requires c κs = tt
 
 returns-2 : tie.Need-returns-2
 returns-2 c = search needs

@@ -20,7 +20,7 @@ add-word : tie.Need-add-word
 add-word c = search needs
 
 word-requires : tie.Need-word-requires
-word-requires c κs = search needs
+word-requires c κs = tt
 
 returns-3 : tie.Need-returns-3
 returns-3 c = search needs

@@ -18,10 +18,10 @@ loop-holds : tie.Need-loop-holds Inv-loop μ-loop
 loop-holds c = (omega arith, written-start _ _ _)
 
 word-behind-requires : tie.Need-word-behind-requires Inv-loop μ-loop
-word-behind-requires c κs = search needs
+word-behind-requires c κs = tt
 
 section-noted-requires : tie.Need-section-noted-requires Inv-loop μ-loop
-section-noted-requires c κs = search needs
+section-noted-requires c κs = tt
 
 mul-fill-model : tie.Need-mul-fill-model Inv-loop μ-loop
 mul-fill-model c =

@@ -2,7 +2,6 @@
 use Prim.Native.Nat.{_+_, _*_}
 use mathlib.Core.Path.{sym}
 use native.Mathlib.Omega.{arith}
-use borrow.Author.Needs.{needs}
 use denote.Ref.{now}
 use Rattle.note_words.specs.Store.{wordsPerName}
 use Rattle.from_notes.specs.Made.{modelAt}
@@ -11,22 +10,22 @@ use Rattle.from_notes.proofs.tables.model_at.Statement.{statement}
 use Rattle.from_notes.proofs.tables.model_at.Tie as tie
 
 word-behind-requires : tie.Need-word-behind-requires
-word-behind-requires c κs = search needs
+word-behind-requires c κs = tt
 
 name-word-requires : tie.Need-name-word-requires
-name-word-requires c κs = search needs
+name-word-requires c κs = tt
 
 name-word-requires-2 : tie.Need-name-word-requires-2
-name-word-requires-2 c κs = search needs
+name-word-requires-2 c κs = tt
 
 name-word-requires-3 : tie.Need-name-word-requires-3
-name-word-requires-3 c κs = search needs
+name-word-requires-3 c κs = tt
 
 section-noted-requires : tie.Need-section-noted-requires
-section-noted-requires c κs = search needs
+section-noted-requires c κs = tt
 
 name-noted-requires : tie.Need-name-noted-requires
-name-noted-requires c κs = search needs
+name-noted-requires c κs = tt
 
 model-of-requires : tie.Need-model-of-requires
 model-of-requires c κs = (c .before .section-noted .ensures .placed, omega (arith, c .before .before .before .name-word2 .ensures, c .before .before .before .before .before .before .shared-slice-known2 .given (wordsPerName * c .before .before .before .before .before .word-behind .result + 5)))

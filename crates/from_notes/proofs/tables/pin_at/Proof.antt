@@ -1,19 +1,18 @@
 -- By the row's text.
 use mathlib.Core.Path.{refl}
-use borrow.Author.Needs.{needs}
 use Rattle.layout_by_notes.specs.Lies.{pinNoted}
 use Rattle.from_notes.specs.Made.{pinAt}
 use Rattle.from_notes.proofs.tables.pin_at.Statement.{statement}
 use Rattle.from_notes.proofs.tables.pin_at.Tie as tie
 
 word-behind-requires : tie.Need-word-behind-requires
-word-behind-requires c κs = search needs
+word-behind-requires c κs = tt
 
 row-noted-requires : tie.Need-row-noted-requires
-row-noted-requires c κs = search needs
+row-noted-requires c κs = tt
 
 pin-of-requires : tie.Need-pin-of-requires
-pin-of-requires c κs = search needs
+pin-of-requires c κs = tt
 
 returns : tie.Need-returns
 unfolding pinAt pinNoted

@@ -1,6 +1,5 @@
 -- By the name's bytes and `selector-noted`, behind the keyword's line.
 use mathlib.Core.Path.{sym}
-use borrow.Author.Needs.{needs}
 use denote.Ref.{now}
 use Rattle.from_notes.specs.Made.{selectorAt}
 use Rattle.from_notes.proofs.Sections.{selector-noted}
@@ -8,19 +7,19 @@ use Rattle.from_notes.proofs.tables.selector_at.Statement.{statement}
 use Rattle.from_notes.proofs.tables.selector_at.Tie as tie
 
 word-behind-requires : tie.Need-word-behind-requires
-word-behind-requires c κs = search needs
+word-behind-requires c κs = tt
 
 name-word-requires : tie.Need-name-word-requires
-name-word-requires c κs = search needs
+name-word-requires c κs = tt
 
 name-word-requires-2 : tie.Need-name-word-requires-2
-name-word-requires-2 c κs = search needs
+name-word-requires-2 c κs = tt
 
 section-noted-requires : tie.Need-section-noted-requires
-section-noted-requires c κs = search needs
+section-noted-requires c κs = tt
 
 name-noted-requires : tie.Need-name-noted-requires
-name-noted-requires c κs = search needs
+name-noted-requires c κs = tt
 
 selector-of-requires : tie.Need-selector-of-requires
 selector-of-requires c κs = c .before .section-noted .ensures .placed

@@ -3,7 +3,6 @@ use Prim.Native.Nat.{ℕ, _+_, _*_}
 use mathlib.Core.Path.{_≡_, sym, ap, _∙_}
 use lib.ListN.{getD}
 use native.Mathlib.Omega.{arith}
-use borrow.Author.Needs.{needs}
 use denote.Ref.{now}
 use Rattle.note_words.specs.Store.{wavesFrom, wordsPerWave, waveAt}
 use Rattle.layout_by_notes.specs.Lies.{waveformFrom, waveNoted}
@@ -13,16 +12,16 @@ use Rattle.from_notes.proofs.waves.waveform_at.Statement.{statement}
 use Rattle.from_notes.proofs.waves.waveform_at.Tie as tie
 
 wave-word-requires : tie.Need-wave-word-requires
-wave-word-requires c κs = search needs
+wave-word-requires c κs = tt
 
 wave-word-requires-2 : tie.Need-wave-word-requires-2
-wave-word-requires-2 c κs = search needs
+wave-word-requires-2 c κs = tt
 
 wave-word-requires-3 : tie.Need-wave-word-requires-3
-wave-word-requires-3 c κs = search needs
+wave-word-requires-3 c κs = tt
 
 cursor-at-requires : tie.Need-cursor-at-requires
-cursor-at-requires c κs = search needs
+cursor-at-requires c κs = tt
 
 waveform-from-requires : tie.Need-waveform-from-requires
 waveform-from-requires c κs = c .cursor-at .ensures .placed

@@ -30,7 +30,7 @@ part-line-edge-end c =
     omega (arith, t .starts, t .fits)
 
 line-edge-requires : tie.Need-line-edge-requires
-line-edge-requires c κs = search needs
+line-edge-requires c κs = tt
 
 waveform-of-requires : tie.Need-waveform-of-requires
 waveform-of-requires c κs =

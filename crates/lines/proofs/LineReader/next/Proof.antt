@@ -43,7 +43,7 @@ use denote.Triple.Spec.{Meets, tripleOf}
 use denote.Triple.Table.{entered, cited}
 use denote.Triple.Walked.{says, Stays, stay-ref, walkOf, goes-ref, Walks, ends-at, walked, walk-meets}
 use denote.Triple.Clauses.{ensured, lasts}
-use Rattle.lines.specs.Places.{lineAt, passed}
+use Rattle.lines.specs.Places.{lineFrom, readerBehind}
 use Rattle.lines.specs.declared.Line.{Line}
 use Rattle.lines.specs.declared.LineReader.{LineReader}
 use Rattle.lines.proofs.Line as L
@@ -89,7 +89,7 @@ module _ {M : Type 1} (𝓤 : URA M) (H : Heap 𝓤) (A : Atoms 𝓤) (W : Given
   v = sliceVal (h .src .ptr) (length (h .src .now))
 
   abbrev found : Line
-  found = lineAt (now (h .src)) (h .at)
+  found = lineFrom (now (h .src)) (h .at)
 
   abbrev Post : Val → SProp 𝓤
   Post = walkOf 𝓤 H A next.ended stayed (next.clauses 𝓤 H A at-mem run) .post (((κ, (κ′, tt)), (q, (q′, tt)), bounds, x, at), tt)
@@ -131,13 +131,13 @@ module _ {M : Type 1} (𝓤 : URA M) (H : Heap 𝓤) (A : Atoms 𝓤) (W : Given
   said r = exE 𝓤 _ (λ ws. snd∗ 𝓤 (sem 𝓤 H A (lasts line.ended (κ′, tt) (h .src, (h .at, tt)) ws)) (fact 𝓤 (r ≡ found)))
 
   -- what src owns is kept, and at's facts are made anew
-  again : (r : Line) → r .next < 2 ^ 64 → ent 𝓤 (sem 𝓤 H A Own) (sem 𝓤 H A (B κ′ .own (passed h r) (T′.lowered (passed h r) ∷ [])))
+  again : (r : Line) → r .next < 2 ^ 64 → ent 𝓤 (sem 𝓤 H A Own) (sem 𝓤 H A (B κ′ .own (readerBehind h r) (T′.lowered (readerBehind h r) ∷ [])))
   again r fits = qed W (‵ Own ∷ []) ∵ owned ! usize (Is usize) (uint-makes 𝓤 H A W w64) (r .next) _ (refl, fits) $ move ! (1 ∷ 0 ∷ []) $ by ! (own-put 𝓤 H A W D laws 1 fields (r .next) (T′.lowered h))
 
-  exits : (r : Line) → r ≡ found → ent 𝓤 (⋆ 𝓤 H A (‵ (fobs γ (B κ′ .coded .code (passed h r))) ∷ ‵ (fbor κ (Body (mem (B κ′)) b o γ)) ∷ ‵ (flft κ q) ∷ (‵ (flft κ′ q′) ⊛ ‵ ftrue) ∷ ‵ (L.the-row .own r (L′.lowered r ∷ [])) ∷ [])) (Post (L′.lowered r))
+  exits : (r : Line) → r ≡ found → ent 𝓤 (⋆ 𝓤 H A (‵ (fobs γ (B κ′ .coded .code (readerBehind h r))) ∷ ‵ (fbor κ (Body (mem (B κ′)) b o γ)) ∷ ‵ (flft κ q) ∷ (‵ (flft κ′ q′) ⊛ ‵ ftrue) ∷ ‵ (L.the-row .own r (L′.lowered r ∷ [])) ∷ [])) (Post (L′.lowered r))
   exits r e =
-      qed W (‵ (fobs γ (B κ′ .coded .code (passed h r))) ∷ ‵ (fbor κ (Body (mem (B κ′)) b o γ)) ∷ ‵ (flft κ q) ∷ (‵ (flft κ′ q′) ⊛ ‵ ftrue) ∷ ‵ (L.the-row .own r (L′.lowered r ∷ [])) ∷ []) ∵
-      suffices ! _ (ends-at 𝓤 H A next.ended stayed (next.clauses 𝓤 H A at-mem run) W (((κ, (κ′, tt)), (q, (q′, tt)), bounds, x, at), tt) (L′.lowered r) r (passed h r, tt) (tt, tt)) $ says ! (e, ap (passed h) e) $
+      qed W (‵ (fobs γ (B κ′ .coded .code (readerBehind h r))) ∷ ‵ (fbor κ (Body (mem (B κ′)) b o γ)) ∷ ‵ (flft κ q) ∷ (‵ (flft κ′ q′) ⊛ ‵ ftrue) ∷ ‵ (L.the-row .own r (L′.lowered r ∷ [])) ∷ []) ∵
+      suffices ! _ (ends-at 𝓤 H A next.ended stayed (next.clauses 𝓤 H A at-mem run) W (((κ, (κ′, tt)), (q, (q′, tt)), bounds, x, at), tt) (L′.lowered r) r (readerBehind h r, tt) (tt, tt)) $ says ! (e, ap (readerBehind h) e) $
       move ! (2 ∷ 3 ∷ []) $ join ! $ frame ! $ feqI ! (List Val) (vptr b o ∷ []) (vptr b o ∷ []) refl $ fjoin3 ! $ nothing ! $ move ! (1 ∷ 0 ∷ []) $ fjoin ! $ done !
 
   next-fits : (r : Line) (u : Val) → Is L.the-row r (u ∷ []) → r .next < 2 ^ 64
@@ -167,9 +167,9 @@ module _ {M : Type 1} (𝓤 : URA M) (H : Heap 𝓤) (A : Atoms 𝓤) (W : Given
         assigns ! (of-opd ! (load ! (from ! (fld ! refl (stop !))) (look-in ! 12 (sub ! 1 refl (whole !))))) (from ! (hop ! (look ! 14 refl) (fld ! refl (stop !)))) (store-in ! 3 (sub ! 1 refl (whole !)) (tt, record { fits = next-fits r u is })) $
         assigns ! (of-opd ! (load ! (from ! (stop !)) (look ! 12 refl))) (from ! (stop !)) (init ! 16 refl (LL.lawful L.the-type L′.the-laws 𝓤 H A W .typed r _ (subst (λ (w : Val). Is L.the-row r (w ∷ [])) (ap only (LL.tells L.the-type L′.the-laws r (u ∷ []) is)) is) .0)) $
         -- the place is set, and the borrow is closed
-        move ! (3 ∷ []) $ use1 W (‵ (cellAt fullShare (B κ′ .mir) (T′.lowered (passed h r) ∷ []) b o)) (W .laws .at-raw fullShare (T′.mir erased) b o (T′.lowered (passed h r))) $
-        move ! (3 ∷ []) $ use1 W (‵ (B κ′ .own (passed h r) (T′.lowered (passed h r) ∷ []))) (again r (next-fits r u is)) $
-        move ! (1 ∷ 0 ∷ 4 ∷ 5 ∷ 6 ∷ []) $ closes ! tt (B κ′) (passed h r) (T′.lowered (passed h r) ∷ []) b o $
+        move ! (3 ∷ []) $ use1 W (‵ (cellAt fullShare (B κ′ .mir) (T′.lowered (readerBehind h r) ∷ []) b o)) (W .laws .at-raw fullShare (T′.mir erased) b o (T′.lowered (readerBehind h r))) $
+        move ! (3 ∷ []) $ use1 W (‵ (B κ′ .own (readerBehind h r) (T′.lowered (readerBehind h r) ∷ []))) (again r (next-fits r u is)) $
+        move ! (1 ∷ 0 ∷ 4 ∷ 5 ∷ 6 ∷ []) $ closes ! tt (B κ′) (readerBehind h r) (T′.lowered (readerBehind h r) ∷ []) b o $
         -- [obs; the borrow; 's's token; the line; 'a's token; true; _4; …; _3; …; _2; …; _1; …; _0; …]
         returns ! (look ! 14 refl) $ forget ! 6 refl $ forget ! 8 refl $ forget ! 10 refl $ forget ! 12 refl $ forget ! 14 refl $
         move ! (14 ∷ 15 ∷ []) $ free1 ! $ move ! (12 ∷ 13 ∷ []) $ free1 ! $ move ! (10 ∷ 11 ∷ []) $ free1 ! $ move ! (8 ∷ 9 ∷ []) $ free1 ! $ move ! (6 ∷ 7 ∷ []) $ free1 ! $ free0 ! $

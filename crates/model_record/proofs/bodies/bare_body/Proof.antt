@@ -1,31 +1,30 @@
 -- By what is not there.
-use borrow.Author.Needs.{needs}
 use Rattle.model_record.proofs.bodies.bare_body.Statement.{statement}
 use Rattle.model_record.proofs.bodies.bare_body.Tie as tie
 
 no-cells-requires : tie.Need-no-cells-requires
-no-cells-requires c κs = search needs
+no-cells-requires c κs = tt
 
 no-cells-requires-2 : tie.Need-no-cells-requires-2
-no-cells-requires-2 c κs = search needs
+no-cells-requires-2 c κs = tt
 
 no-table-requires : tie.Need-no-table-requires
-no-table-requires c κs = search needs
+no-table-requires c κs = tt
 
 no-table-requires-2 : tie.Need-no-table-requires-2
-no-table-requires-2 c κs = search needs
+no-table-requires-2 c κs = tt
 
 no-table-requires-3 : tie.Need-no-table-requires-3
-no-table-requires-3 c κs = search needs
+no-table-requires-3 c κs = tt
 
 no-table-requires-4 : tie.Need-no-table-requires-4
-no-table-requires-4 c κs = search needs
+no-table-requires-4 c κs = tt
 
 no-slopes-requires : tie.Need-no-slopes-requires
-no-slopes-requires c κs = search needs
+no-slopes-requires c κs = tt
 
 no-slopes-requires-2 : tie.Need-no-slopes-requires-2
-no-slopes-requires-2 c κs = search needs
+no-slopes-requires-2 c κs = tt
 
 returns : tie.Need-returns
 returns c = rw (c .before .before .before .before .before .before .before .no-cells .ensures, c .before .before .before .before .before .before .no-cells2 .ensures, c .before .before .before .before .before .no-table .ensures, c .before .before .before .before .no-table2 .ensures, c .before .before .before .no-table3 .ensures, c .before .before .no-table4 .ensures, c .before .no-slopes .ensures, c .no-slopes2 .ensures)

@@ -23,7 +23,7 @@ abbrev μ-loop : tie.MeasureT-loop
 μ-loop src row b₀ d₀ b d = length src - d .at
 
 bare-body-requires : tie.Need-bare-body-requires Inv-loop μ-loop
-bare-body-requires c κs = search needs
+bare-body-requires c κs = tt
 
 loop-holds : tie.Need-loop-holds Inv-loop μ-loop
 loop-holds c = record { placed = c .before .before .pre .0; fits = rw (c .bare-body .ensures) (record { row = omega (arith, c .before .before .pre .1); waveforms = omega arith }); follows = follows-start body-fold _ _ _ }
@@ -35,7 +35,7 @@ enum-known-keyword : tie.Need-enum-known-keyword Inv-loop μ-loop
 enum-known-keyword c = search needs
 
 ends-requires : tie.Need-ends-requires Inv-loop μ-loop
-ends-requires c κs = search needs
+ends-requires c κs = tt
 
 returns : tie.Need-returns Inv-loop μ-loop
 returns c =

@@ -14,7 +14,7 @@ three-cells-requires : tie.Need-three-cells-requires
 three-cells-requires c κs = search needs
 
 triple-is-requires : tie.Need-triple-is-requires
-triple-is-requires c κs = search needs
+triple-is-requires c κs = tt
 
 returns : tie.Need-returns
 returns c = c .triple-is .ensures ∙ ap (orElse noCells) (triple-said _ (threeCells (words (now (c .before .before .before .args .argument)))) (c .before .three-cells .ensures))

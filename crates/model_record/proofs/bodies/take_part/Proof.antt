@@ -22,19 +22,19 @@ enum-told : tie.Need-enum-told
 enum-told c = search needs
 
 cells-of-requires : tie.Need-cells-of-requires
-cells-of-requires c κs = search needs
+cells-of-requires c κs = tt
 
 with-voltage-requires : tie.Need-with-voltage-requires
-with-voltage-requires c κs = search needs
+with-voltage-requires c κs = tt
 
 enum-told-2 : tie.Need-enum-told-2
 enum-told-2 c = search needs
 
 cells-of-requires-2 : tie.Need-cells-of-requires-2
-cells-of-requires-2 c κs = search needs
+cells-of-requires-2 c κs = tt
 
 with-temperature-requires : tie.Need-with-temperature-requires
-with-temperature-requires c κs = search needs
+with-temperature-requires c κs = tt
 
 enum-known-part : tie.Need-enum-known-part
 enum-known-part c = search needs
@@ -52,7 +52,7 @@ ramp-lines-requires : tie.Need-ramp-lines-requires
 ramp-lines-requires c κs = c .before .before .before .before .pre .0
 
 with-ramp-requires : tie.Need-with-ramp-requires
-with-ramp-requires c κs = search needs
+with-ramp-requires c κs = tt
 
 enum-told-4 : tie.Need-enum-told-4
 enum-told-4 c = search needs

@@ -10,25 +10,25 @@ enum-told : tie.Need-enum-told
 enum-told c = search needs
 
 with-table-requires : tie.Need-with-table-requires
-with-table-requires c κs = search needs
+with-table-requires c κs = tt
 
 enum-told-2 : tie.Need-enum-told-2
 enum-told-2 c = search needs
 
 with-table-requires-2 : tie.Need-with-table-requires-2
-with-table-requires-2 c κs = search needs
+with-table-requires-2 c κs = tt
 
 enum-told-3 : tie.Need-enum-told-3
 enum-told-3 c = search needs
 
 with-table-requires-3 : tie.Need-with-table-requires-3
-with-table-requires-3 c κs = search needs
+with-table-requires-3 c κs = tt
 
 enum-told-4 : tie.Need-enum-told-4
 enum-told-4 c = search needs
 
 with-table-requires-4 : tie.Need-with-table-requires-4
-with-table-requires-4 c κs = search needs
+with-table-requires-4 c κs = tt
 
 returns : tie.Need-returns
 returns c = λ cells ramp. rw (c .before .before .enum-told .given .1, c .with-table .ensures)

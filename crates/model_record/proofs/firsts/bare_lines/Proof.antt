@@ -1,10 +1,9 @@
 -- By the cells that are missing.
-use borrow.Author.Needs.{needs}
 use Rattle.model_record.proofs.firsts.bare_lines.Statement.{statement}
 use Rattle.model_record.proofs.firsts.bare_lines.Tie as tie
 
 no-cells-requires : tie.Need-no-cells-requires
-no-cells-requires c κs = search needs
+no-cells-requires c κs = tt
 
 returns : tie.Need-returns
 returns c = rw (c .no-cells .ensures)

@@ -15,7 +15,7 @@ returns : tie.Need-returns
 returns c = sym (cond-no _ _ (ne-eqb _ _ (c .if1 .taken)))
 
 cells-line-requires : tie.Need-cells-line-requires
-cells-line-requires c κs = search needs
+cells-line-requires c κs = tt
 
 enum-known-cells : tie.Need-enum-known-cells
 enum-known-cells c = search needs

@@ -17,7 +17,7 @@ returns : tie.Need-returns
 returns c = sym (cond-no _ _ (ne-eqb _ _ (c .if1 .taken)))
 
 enable-of-requires : tie.Need-enable-of-requires
-enable-of-requires c κs = search needs
+enable-of-requires c κs = tt
 
 enum-told : tie.Need-enum-told
 enum-told c = search needs

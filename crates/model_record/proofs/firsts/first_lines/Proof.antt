@@ -14,7 +14,7 @@ abbrev μ-loop : tie.MeasureT-loop
 μ-loop src f₀ d₀ f d = length src - d .at
 
 bare-lines-requires : tie.Need-bare-lines-requires Inv-loop μ-loop
-bare-lines-requires c κs = search needs
+bare-lines-requires c κs = tt
 
 loop-holds : tie.Need-loop-holds Inv-loop μ-loop
 loop-holds c = gathers-start first-fold _ _ _ (c .before .before .pre)
@@ -35,7 +35,7 @@ part-with-first-line-end : tie.Need-part-with-first-line-end Inv-loop μ-loop
 part-with-first-line-end c = line-fits (c .before .before .before .before .loop .inv) (c .before .start .given .1) (c .before .before .before .next-line .ensures)
 
 with-first-line-requires : tie.Need-with-first-line-requires Inv-loop μ-loop
-with-first-line-requires c κs = search needs
+with-first-line-requires c κs = tt
 
 loop-less : tie.Need-loop-less Inv-loop μ-loop
 loop-less c = line-less (c .before .before .before .before .before .before .loop .inv) (c .before .before .before .start .given .1) (c .before .before .before .before .before .next-line .ensures)

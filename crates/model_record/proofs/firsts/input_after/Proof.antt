@@ -1,13 +1,12 @@
 -- By whether the line is the type's own.
 use mathlib.Core.Path.{sym, _∙_}
 use borrow.Author.Tests.{eq-eqb, ne-eqb}
-use borrow.Author.Needs.{needs}
 use Rattle.laws.proofs.Tests.{cond-yes, cond-no}
 use Rattle.model_record.proofs.firsts.input_after.Statement.{statement}
 use Rattle.model_record.proofs.firsts.input_after.Tie as tie
 
 is-input-requires : tie.Need-is-input-requires
-is-input-requires c κs = search needs
+is-input-requires c κs = tt
 
 returns : tie.Need-returns
 returns c = c .is-input .ensures ∙ sym (cond-yes _ _ (eq-eqb _ _ (c .before .if1 .taken)))

@@ -12,7 +12,7 @@ returns : tie.Need-returns
 returns c = sym (cond-no _ _ (ne-eqb _ _ (c .if1 .taken)))
 
 type-of-requires : tie.Need-type-of-requires
-type-of-requires c κs = search needs
+type-of-requires c κs = tt
 
 enum-known-kind : tie.Need-enum-known-kind
 enum-known-kind c = search needs

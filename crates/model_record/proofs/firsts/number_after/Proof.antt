@@ -15,7 +15,7 @@ returns : tie.Need-returns
 returns c = sym (cond-no _ _ (ne-eqb _ _ (c .if1 .taken)))
 
 number-line-requires : tie.Need-number-line-requires
-number-line-requires c κs = search needs
+number-line-requires c κs = tt
 
 enum-known-number : tie.Need-enum-known-number
 enum-known-number c = search needs

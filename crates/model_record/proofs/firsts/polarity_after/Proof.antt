@@ -17,7 +17,7 @@ returns : tie.Need-returns
 returns c = sym (cond-no _ _ (ne-eqb _ _ (c .if1 .taken)))
 
 polarity-of-requires : tie.Need-polarity-of-requires
-polarity-of-requires c κs = search needs
+polarity-of-requires c κs = tt
 
 enum-told : tie.Need-enum-told
 enum-told c = search needs

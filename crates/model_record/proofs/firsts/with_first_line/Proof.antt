@@ -4,7 +4,7 @@ use denote.Ref.{now}
 use borrow.Author.Needs.{needs}
 use Rattle.laws.specs.Bytes.{isBlank}
 use Rattle.laws.specs.Lists.{eqs}
-use Rattle.words.specs.Words.{words, grown, onto}
+use Rattle.words.specs.Words.{words, grown, ontoWord}
 use Rattle.name_table.specs.Names.{placeFrom}
 use Rattle.line_rules.specs.Fields.{wordLine, cellsLine, numberLine}
 use Rattle.line_rules.specs.Tables.{modelLines, modelTypes, polarities, enables}
@@ -15,7 +15,7 @@ use Rattle.model_record.proofs.firsts.with_first_line.Statement.{statem
 use Rattle.model_record.proofs.firsts.with_first_line.Tie as tie
 
 model-line-requires : tie.Need-model-line-requires
-model-line-requires c κs = search needs
+model-line-requires c κs = tt
 
 enum-known-found : tie.Need-enum-known-found
 enum-known-found c = search needs
@@ -27,40 +27,40 @@ returns : tie.Need-returns
 returns c = first-nothing (c .before .before .before .before .args .f) (now (c .before .before .before .before .args .w)) (sym (c .before .before .model-line .ensures) ∙ c .enum-told .given .1)
 
 kind-after-requires : tie.Need-kind-after-requires
-kind-after-requires c κs = search needs
+kind-after-requires c κs = tt
 
 input-after-requires : tie.Need-input-after-requires
-input-after-requires c κs = search needs
+input-after-requires c κs = tt
 
 polarity-after-requires : tie.Need-polarity-after-requires
-polarity-after-requires c κs = search needs
+polarity-after-requires c κs = tt
 
 enable-after-requires : tie.Need-enable-after-requires
-enable-after-requires c κs = search needs
+enable-after-requires c κs = tt
 
 comp-after-requires : tie.Need-comp-after-requires
-comp-after-requires c κs = search needs
+comp-after-requires c κs = tt
 
 number-after-requires : tie.Need-number-after-requires
-number-after-requires c κs = search needs
+number-after-requires c κs = tt
 
 number-after-requires-2 : tie.Need-number-after-requires-2
-number-after-requires-2 c κs = search needs
+number-after-requires-2 c κs = tt
 
 number-after-requires-3 : tie.Need-number-after-requires-3
-number-after-requires-3 c κs = search needs
+number-after-requires-3 c κs = tt
 
 number-after-requires-4 : tie.Need-number-after-requires-4
-number-after-requires-4 c κs = search needs
+number-after-requires-4 c κs = tt
 
 number-after-requires-5 : tie.Need-number-after-requires-5
-number-after-requires-5 c κs = search needs
+number-after-requires-5 c κs = tt
 
 number-after-requires-6 : tie.Need-number-after-requires-6
-number-after-requires-6 c κs = search needs
+number-after-requires-6 c κs = tt
 
 returns-2 : tie.Need-returns-2
-unfolding placeFrom words grown onto isBlank eqs
+unfolding placeFrom words grown ontoWord isBlank eqs
 returns-2 c =
     let f = c .before .before .before .before .before .before .before .before .before .before .before .before .before .before .before .before .before .args .f in
     let w = now (c .before .before .before .before .before .before .before .before .before .before .before .before .before .before .before .before .before .args .w) in

@@ -15,7 +15,7 @@ abbrev μ-loop : tie.MeasureT-loop
 μ-loop src ramp₀ d₀ ramp d = length src - d .at
 
 bare-ramp-requires : tie.Need-bare-ramp-requires Inv-loop μ-loop
-bare-ramp-requires c κs = search needs
+bare-ramp-requires c κs = tt
 
 loop-holds : tie.Need-loop-holds Inv-loop μ-loop
 loop-holds c = gathers-start ramp-fold _ _ _ (c .before .before .pre)
@@ -36,7 +36,7 @@ part-with-ramp-line-end : tie.Need-part-with-ramp-line-end Inv-loop μ-loop
 part-with-ramp-line-end c = line-fits (c .before .before .before .before .loop .inv) (c .before .start .given .1) (c .before .before .before .next-line .ensures)
 
 with-ramp-line-requires : tie.Need-with-ramp-line-requires Inv-loop μ-loop
-with-ramp-line-requires c κs = search needs
+with-ramp-line-requires c κs = tt
 
 loop-less : tie.Need-loop-less Inv-loop μ-loop
 loop-less c = line-less (c .before .before .before .before .before .before .loop .inv) (c .before .before .before .start .given .1) (c .before .before .before .before .before .next-line .ensures)

@@ -15,7 +15,7 @@ returns : tie.Need-returns
 returns c = sym (cond-no _ _ (ne-eqb _ _ (c .if1 .taken)))
 
 slopes-line-requires : tie.Need-slopes-line-requires
-slopes-line-requires c κs = search needs
+slopes-line-requires c κs = tt
 
 enum-known-slopes : tie.Need-enum-known-slopes
 enum-known-slopes c = search needs

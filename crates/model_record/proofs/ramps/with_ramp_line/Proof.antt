@@ -4,7 +4,7 @@ use denote.Ref.{now}
 use borrow.Author.Needs.{needs}
 use Rattle.laws.specs.Bytes.{isBlank}
 use Rattle.laws.specs.Lists.{eqs}
-use Rattle.words.specs.Words.{words, grown, onto}
+use Rattle.words.specs.Words.{words, grown, ontoWord}
 use Rattle.name_table.specs.Names.{placeFrom}
 use Rattle.line_rules.specs.Fields.{slopesLine, numberLine}
 use Rattle.line_rules.specs.Tables.{rampLines}
@@ -14,7 +14,7 @@ use Rattle.model_record.proofs.ramps.with_ramp_line.Statement.{statemen
 use Rattle.model_record.proofs.ramps.with_ramp_line.Tie as tie
 
 ramp-line-requires : tie.Need-ramp-line-requires
-ramp-line-requires c κs = search needs
+ramp-line-requires c κs = tt
 
 enum-known-found : tie.Need-enum-known-found
 enum-known-found c = search needs
@@ -26,16 +26,16 @@ returns : tie.Need-returns
 returns c = ramp-nothing (c .before .before .before .before .args .r) (now (c .before .before .before .before .args .w)) (sym (c .before .before .ramp-line .ensures) ∙ c .enum-told .given .1)
 
 slopes-after-requires : tie.Need-slopes-after-requires
-slopes-after-requires c κs = search needs
+slopes-after-requires c κs = tt
 
 slopes-after-requires-2 : tie.Need-slopes-after-requires-2
-slopes-after-requires-2 c κs = search needs
+slopes-after-requires-2 c κs = tt
 
 number-after-requires : tie.Need-number-after-requires
-number-after-requires c κs = search needs
+number-after-requires c κs = tt
 
 returns-2 : tie.Need-returns-2
-unfolding placeFrom words grown onto isBlank eqs
+unfolding placeFrom words grown ontoWord isBlank eqs
 returns-2 c =
     let r = c .before .before .before .before .before .before .before .before .before .before .args .r in
     let w = now (c .before .before .before .before .before .before .before .before .before .before .args .w) in

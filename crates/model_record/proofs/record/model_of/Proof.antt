@@ -13,16 +13,16 @@ first-lines-requires : tie.Need-first-lines-requires
 first-lines-requires c κs = search needs
 
 with-defaults-requires : tie.Need-with-defaults-requires
-with-defaults-requires c κs = search needs
+with-defaults-requires c κs = tt
 
 body-of-requires : tie.Need-body-of-requires
 body-of-requires c κs = search needs
 
 name-of-requires : tie.Need-name-of-requires
-name-of-requires c κs = search needs
+name-of-requires c κs = tt
 
 model-over-requires : tie.Need-model-over-requires
-model-over-requires c κs = search needs
+model-over-requires c κs = tt
 
 returns : tie.Need-returns
 returns c =

@@ -14,19 +14,19 @@ use Rattle.model_steps.proofs.body.current_line.Statement.{statement}
 use Rattle.model_steps.proofs.body.current_line.Tie as tie
 
 row-step-requires : tie.Need-row-step-requires
-row-step-requires c κs = search needs
+row-step-requires c κs = tt
 
 enum-known-rows : tie.Need-enum-known-rows
 enum-known-rows c = search needs
 
 with-list-requires : tie.Need-with-list-requires
-with-list-requires c κs = search needs
+with-list-requires c κs = tt
 
 enum-known-fault : tie.Need-enum-known-fault
 enum-known-fault c = search needs
 
 stopped-requires : tie.Need-stopped-requires
-stopped-requires c κs = search needs
+stopped-requires c κs = tt
 
 returns : tie.Need-returns
 returns c =

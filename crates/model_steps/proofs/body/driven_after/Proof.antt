@@ -1,13 +1,12 @@
 -- By whether the line is the type's own.
 use mathlib.Core.Path.{sym, _∙_}
-use borrow.Author.Needs.{needs}
 use borrow.Author.Tests.{eq-eqb, ne-eqb}
 use Rattle.laws.proofs.Tests.{cond-yes, cond-no}
 use Rattle.model_steps.proofs.body.driven_after.Statement.{statement}
 use Rattle.model_steps.proofs.body.driven_after.Tie as tie
 
 is-driven-requires : tie.Need-is-driven-requires
-is-driven-requires c κs = search needs
+is-driven-requires c κs = tt
 
 returns : tie.Need-returns
 returns c = c .is-driven .ensures ∙ sym (cond-yes _ _ (eq-eqb _ _ (c .before .if1 .taken)))

@@ -10,7 +10,7 @@ use Rattle.model_steps.proofs.body.first_line.Statement.{statement}
 use Rattle.model_steps.proofs.body.first_line.Tie as tie
 
 model-line-requires : tie.Need-model-line-requires
-model-line-requires c κs = search needs
+model-line-requires c κs = tt
 
 enum-known-n : tie.Need-enum-known-n
 enum-known-n c = search needs
@@ -19,16 +19,16 @@ enum-told : tie.Need-enum-told
 enum-told c = search needs
 
 stopped-requires : tie.Need-stopped-requires
-stopped-requires c κs = search needs
+stopped-requires c κs = tt
 
 returns : tie.Need-returns
 returns c = rw (sym (c .before .before .before .model-line .ensures) ∙ c .before .enum-told .given .1) (c .stopped .ensures)
 
 is-given-requires : tie.Need-is-given-requires
-is-given-requires c κs = search needs
+is-given-requires c κs = tt
 
 stopped-requires-2 : tie.Need-stopped-requires-2
-stopped-requires-2 c κs = search needs
+stopped-requires-2 c κs = tt
 
 returns-2 : tie.Need-returns-2
 returns-2 c =
@@ -36,10 +36,10 @@ returns-2 c =
     (c .stopped2 .ensures ∙ refused 8 _ _ (sym (c .before .before .is-given .ensures) ∙ c .before .if1 .taken))
 
 first-fault-requires : tie.Need-first-fault-requires
-first-fault-requires c κs = search needs
+first-fault-requires c κs = tt
 
 stopped-requires-3 : tie.Need-stopped-requires-3
-stopped-requires-3 c κs = search needs
+stopped-requires-3 c κs = tt
 
 returns-3 : tie.Need-returns-3
 returns-3 c =
@@ -53,7 +53,7 @@ with-first-requires : tie.Need-with-first-requires
 with-first-requires c κs = sym (c .before .before .before .before .before .before .before .before .model-line .ensures) ∙ c .before .before .before .before .before .before .n .given .1
 
 quiet-requires : tie.Need-quiet-requires
-quiet-requires c κs = search needs
+quiet-requires c κs = tt
 
 returns-4 : tie.Need-returns-4
 returns-4 c =

@@ -10,31 +10,31 @@ enum-told : tie.Need-enum-told
 enum-told c = search needs
 
 first-line-requires : tie.Need-first-line-requires
-first-line-requires c κs = search needs
+first-line-requires c κs = tt
 
 enum-told-2 : tie.Need-enum-told-2
 enum-told-2 c = search needs
 
 stopped-requires : tie.Need-stopped-requires
-stopped-requires c κs = search needs
+stopped-requires c κs = tt
 
 enum-known-list : tie.Need-enum-known-list
 enum-known-list c = search needs
 
 current-line-requires : tie.Need-current-line-requires
-current-line-requires c κs = search needs
+current-line-requires c κs = tt
 
 enum-known-list-2 : tie.Need-enum-known-list-2
 enum-known-list-2 c = search needs
 
 ramp-line-requires : tie.Need-ramp-line-requires
-ramp-line-requires c κs = search needs
+ramp-line-requires c κs = tt
 
 enum-known-list-3 : tie.Need-enum-known-list-3
 enum-known-list-3 c = search needs
 
 waveform-line-requires : tie.Need-waveform-line-requires
-waveform-line-requires c κs = search needs
+waveform-line-requires c κs = tt
 
 returns : tie.Need-returns
 returns c = c .first-line .ensures ∙ sym (ap (modelLine (c .before .before .before .before .args .m) (c .before .before .before .before .args .k) (now (c .before .before .before .before .args .w))) (c .before .enum-told .given .1))

@@ -12,7 +12,7 @@ use Rattle.model_steps.proofs.body.ramp_line.Statement.{statement}
 use Rattle.model_steps.proofs.body.ramp_line.Tie as tie
 
 ramp-line-requires : tie.Need-ramp-line-requires
-ramp-line-requires c κs = search needs
+ramp-line-requires c κs = tt
 
 enum-known-n : tie.Need-enum-known-n
 enum-known-n c = search needs
@@ -21,16 +21,16 @@ enum-told : tie.Need-enum-told
 enum-told c = search needs
 
 stopped-requires : tie.Need-stopped-requires
-stopped-requires c κs = search needs
+stopped-requires c κs = tt
 
 returns : tie.Need-returns
 returns c = rw (sym (c .before .before .before .ramp-line .ensures) ∙ c .before .enum-told .given .1) (c .stopped .ensures)
 
 is-given-requires : tie.Need-is-given-requires
-is-given-requires c κs = search needs
+is-given-requires c κs = tt
 
 stopped-requires-2 : tie.Need-stopped-requires-2
-stopped-requires-2 c κs = search needs
+stopped-requires-2 c κs = tt
 
 returns-2 : tie.Need-returns-2
 returns-2 c =
@@ -38,10 +38,10 @@ returns-2 c =
     (c .stopped2 .ensures ∙ refused 8 _ _ (sym (c .before .before .is-given .ensures) ∙ c .before .if1 .taken))
 
 ramp-line-fault-requires : tie.Need-ramp-line-fault-requires
-ramp-line-fault-requires c κs = search needs
+ramp-line-fault-requires c κs = tt
 
 stopped-requires-3 : tie.Need-stopped-requires-3
-stopped-requires-3 c κs = search needs
+stopped-requires-3 c κs = tt
 
 returns-3 : tie.Need-returns-3
 returns-3 c =
@@ -52,13 +52,13 @@ returns-3 c =
     ∙ passed 8 _ _ (sym (c .before .before .before .before .is-given .ensures) ∙ c .before .before .before .if1 .left))
 
 also-requires : tie.Need-also-requires
-also-requires c κs = search needs
+also-requires c κs = tt
 
 with-list-requires : tie.Need-with-list-requires
-with-list-requires c κs = search needs
+with-list-requires c κs = tt
 
 quiet-requires : tie.Need-quiet-requires
-quiet-requires c κs = search needs
+quiet-requires c κs = tt
 
 returns-4 : tie.Need-returns-4
 returns-4 c =

@@ -1,7 +1,6 @@
 -- A row, or a line of the fixture before the rows.
 use mathlib.Core.Path.{sym, ap, _∙_}
 use mathlib.Core.Bool.{not}
-use borrow.Author.Needs.{needs}
 use borrow.Author.Tests.{eq-eqb, ne-eqb, not-true, not-false}
 use Rattle.laws.proofs.Tests.{cond-yes, cond-no}
 use Rattle.rules.specs.Model.{waveformLine}
@@ -10,17 +9,17 @@ use Rattle.model_steps.proofs.body.waveform_line.Statement.{statement}
 use Rattle.model_steps.proofs.body.waveform_line.Tie as tie
 
 begins-letter-requires : tie.Need-begins-letter-requires
-begins-letter-requires c κs = search needs
+begins-letter-requires c κs = tt
 
 point-line-requires : tie.Need-point-line-requires
-point-line-requires c κs = search needs
+point-line-requires c κs = tt
 
 returns : tie.Need-returns
 unfolding waveformLine
 returns c = c .point-line .ensures ∙ sym (cond-no _ _ (sym (c .before .before .begins-letter .ensures) ∙ not-true (c .before .before .begins-letter .result) (c .before .if1 .taken)))
 
 stopped-requires : tie.Need-stopped-requires
-stopped-requires c κs = search needs
+stopped-requires c κs = tt
 
 returns-2 : tie.Need-returns-2
 unfolding waveformLine
@@ -30,7 +29,7 @@ returns-2 c =
     ∙ sym (cond-yes _ _ (sym (c .before .before .before .before .begins-letter .ensures) ∙ not-false (c .before .before .before .before .begins-letter .result) (c .before .before .before .if1 .left)))
 
 fixture-line-requires : tie.Need-fixture-line-requires
-fixture-line-requires c κs = search needs
+fixture-line-requires c κs = tt
 
 returns-3 : tie.Need-returns-3
 unfolding waveformLine

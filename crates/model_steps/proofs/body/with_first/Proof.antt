@@ -1,5 +1,4 @@
 -- Field by field, each by the line's name.
-use borrow.Author.Needs.{needs}
 use denote.Ref.{now}
 use Rattle.line_rules.specs.Fields.{numberLine}
 use Rattle.rules.specs.Model.{isInput, isDriven, typeIs, withFirst}
@@ -8,19 +7,19 @@ use Rattle.model_steps.proofs.body.with_first.Statement.{statement}
 use Rattle.model_steps.proofs.body.with_first.Tie as tie
 
 also-requires : tie.Need-also-requires
-also-requires c κs = search needs
+also-requires c κs = tt
 
 input-after-requires : tie.Need-input-after-requires
-input-after-requires c κs = search needs
+input-after-requires c κs = tt
 
 driven-after-requires : tie.Need-driven-after-requires
-driven-after-requires c κs = search needs
+driven-after-requires c κs = tt
 
 threshold-requires : tie.Need-threshold-requires
-threshold-requires c κs = search needs
+threshold-requires c κs = tt
 
 threshold-requires-2 : tie.Need-threshold-requires-2
-threshold-requires-2 c κs = search needs
+threshold-requires-2 c κs = tt
 
 returns : tie.Need-returns
 unfolding withFirst

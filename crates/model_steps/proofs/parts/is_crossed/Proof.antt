@@ -1,7 +1,6 @@
 -- Only an input has thresholds to compare; each that is absent has its default.
 use mathlib.Core.Path.{ap, _∙_}
 use mathlib.Core.Bool.{not}
-use borrow.Author.Needs.{needs}
 use borrow.Author.Tests.{not-true, not-false}
 use Rattle.decimal.specs.Decimal.{lessThan}
 use Rattle.decimal.specs.declared.Decimal.{Decimal}
@@ -13,19 +12,19 @@ returns : tie.Need-returns
 returns c = rw (not-true (c .before .before .args .m .input) (c .if1 .taken))
 
 default-low-requires : tie.Need-default-low-requires
-default-low-requires c κs = search needs
+default-low-requires c κs = tt
 
 number-or-requires : tie.Need-number-or-requires
-number-or-requires c κs = search needs
+number-or-requires c κs = tt
 
 default-high-requires : tie.Need-default-high-requires
-default-high-requires c κs = search needs
+default-high-requires c κs = tt
 
 number-or-requires-2 : tie.Need-number-or-requires-2
-number-or-requires-2 c κs = search needs
+number-or-requires-2 c κs = tt
 
 less-requires : tie.Need-less-requires
-less-requires c κs = search needs
+less-requires c κs = tt
 
 returns-2 : tie.Need-returns-2
 returns-2 c =

@@ -1,18 +1,17 @@
 -- One after the other.
 use mathlib.Core.Path.{sym, _∙_}
-use borrow.Author.Needs.{needs}
 use borrow.Author.Tests.{not-true, not-false}
 use Rattle.model_steps.proofs.parts.is_whole.Statement.{statement}
 use Rattle.model_steps.proofs.parts.is_whole.Tie as tie
 
 is-given-requires : tie.Need-is-given-requires
-is-given-requires c κs = search needs
+is-given-requires c κs = tt
 
 returns : tie.Need-returns
 returns c = rw (sym (c .before .is-given .ensures) ∙ not-true (c .before .is-given .result) (c .if1 .taken))
 
 is-given-requires-2 : tie.Need-is-given-requires-2
-is-given-requires-2 c κs = search needs
+is-given-requires-2 c κs = tt
 
 returns-2 : tie.Need-returns-2
 returns-2 c =
@@ -22,7 +21,7 @@ returns-2 c =
     )
 
 is-given-requires-3 : tie.Need-is-given-requires-3
-is-given-requires-3 c κs = search needs
+is-given-requires-3 c κs = tt
 
 returns-3 : tie.Need-returns-3
 returns-3 c =
@@ -42,7 +41,7 @@ returns-4 c =
     )
 
 is-given-requires-4 : tie.Need-is-given-requires-4
-is-given-requires-4 c κs = search needs
+is-given-requires-4 c κs = tt
 
 returns-5 : tie.Need-returns-5
 returns-5 c =

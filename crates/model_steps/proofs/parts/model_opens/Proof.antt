@@ -13,22 +13,22 @@ enum-told-3 : tie.Need-enum-told-3
 enum-told-3 c = search needs
 
 no-rows-requires : tie.Need-no-rows-requires
-no-rows-requires c κs = search needs
+no-rows-requires c κs = tt
 
 enum-told-4 : tie.Need-enum-told-4
 enum-told-4 c = search needs
 
 none-given-requires : tie.Need-none-given-requires
-none-given-requires c κs = search needs
+none-given-requires c κs = tt
 
 enum-told-5 : tie.Need-enum-told-5
 enum-told-5 c = search needs
 
 none-given-requires-2 : tie.Need-none-given-requires-2
-none-given-requires-2 c κs = search needs
+none-given-requires-2 c κs = tt
 
 no-rows-requires-2 : tie.Need-no-rows-requires-2
-no-rows-requires-2 c κs = search needs
+no-rows-requires-2 c κs = tt
 
 returns : tie.Need-returns
 returns c = search needs

@@ -12,28 +12,28 @@ enum-told : tie.Need-enum-told
 enum-told c = search needs
 
 closed-requires : tie.Need-closed-requires
-closed-requires c κs = search needs
+closed-requires c κs = tt
 
 enum-told-2 : tie.Need-enum-told-2
 enum-told-2 c = search needs
 
 closed-requires-2 : tie.Need-closed-requires-2
-closed-requires-2 c κs = search needs
+closed-requires-2 c κs = tt
 
 enum-known-list : tie.Need-enum-known-list
 enum-known-list c = search needs
 
 close-table-requires : tie.Need-close-table-requires
-close-table-requires c κs = search needs
+close-table-requires c κs = tt
 
 enum-known-list-2 : tie.Need-enum-known-list-2
 enum-known-list-2 c = search needs
 
 both-given-requires : tie.Need-both-given-requires
-both-given-requires c κs = search needs
+both-given-requires c κs = tt
 
 stopped-requires : tie.Need-stopped-requires
-stopped-requires c κs = search needs
+stopped-requires c κs = tt
 
 returns : tie.Need-returns
 returns c =
@@ -42,16 +42,16 @@ returns c =
     ∙ sym (ap (modelShut (c .before .before .before .before .before .before .args .m)) (c .before .before .before .before .list2 .given .1))
 
 closed-requires-3 : tie.Need-closed-requires-3
-closed-requires-3 c κs = search needs
+closed-requires-3 c κs = tt
 
 enum-known-list-3 : tie.Need-enum-known-list-3
 enum-known-list-3 c = search needs
 
 both-given-requires-2 : tie.Need-both-given-requires-2
-both-given-requires-2 c κs = search needs
+both-given-requires-2 c κs = tt
 
 stopped-requires-2 : tie.Need-stopped-requires-2
-stopped-requires-2 c κs = search needs
+stopped-requires-2 c κs = tt
 
 returns-2 : tie.Need-returns-2
 returns-2 c =
@@ -60,7 +60,7 @@ returns-2 c =
     ∙ sym (ap (modelShut (c .before .before .before .before .before .before .args .m)) (c .before .before .before .before .list3 .given .1))
 
 close-table-requires-2 : tie.Need-close-table-requires-2
-close-table-requires-2 c κs = search needs
+close-table-requires-2 c κs = tt
 
 returns-3 : tie.Need-returns-3
 returns-3 c = c .closed .ensures ∙ sym (ap (modelShut (c .before .before .before .args .m)) (c .before .enum-told .given .1))

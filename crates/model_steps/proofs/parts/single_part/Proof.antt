@@ -1,6 +1,5 @@
 -- A part that was given, an argument with a fault; else on.
 use mathlib.Core.Path.{sym, ap, _∙_}
-use borrow.Author.Needs.{needs}
 use Rattle.given.specs.Given.{has}
 use Rattle.rules.specs.Model.{singlePart}
 use Rattle.rules.proofs.Going.{refused, passed, faulted, clean}
@@ -8,13 +7,13 @@ use Rattle.model_steps.proofs.parts.single_part.Statement.{statement}
 use Rattle.model_steps.proofs.parts.single_part.Tie as tie
 
 model-place-requires : tie.Need-model-place-requires
-model-place-requires c κs = search needs
+model-place-requires c κs = tt
 
 is-given-requires : tie.Need-is-given-requires
-is-given-requires c κs = search needs
+is-given-requires c κs = tt
 
 stopped-requires : tie.Need-stopped-requires
-stopped-requires c κs = search needs
+stopped-requires c κs = tt
 
 returns : tie.Need-returns
 unfolding singlePart
@@ -23,10 +22,10 @@ returns c =
     ∙ refused 8 _ _ (sym (c .before .before .is-given .ensures ∙ ap (has (c .before .before .before .before .before .before .args .m .parts)) (c .before .before .before .before .model-place .ensures)) ∙ c .before .if1 .taken)
 
 model-fault-requires : tie.Need-model-fault-requires
-model-fault-requires c κs = search needs
+model-fault-requires c κs = tt
 
 stopped-requires-2 : tie.Need-stopped-requires-2
-stopped-requires-2 c κs = search needs
+stopped-requires-2 c κs = tt
 
 returns-2 : tie.Need-returns-2
 unfolding singlePart
@@ -36,16 +35,16 @@ returns-2 c =
     ∙ passed 8 _ _ (sym (c .before .before .before .before .is-given .ensures ∙ ap (has (c .before .before .before .before .before .before .before .before .args .m .parts)) (c .before .before .before .before .before .before .model-place .ensures)) ∙ c .before .before .before .if1 .left)
 
 model-opens-requires : tie.Need-model-opens-requires
-model-opens-requires c κs = search needs
+model-opens-requires c κs = tt
 
 with-list-requires : tie.Need-with-list-requires
-with-list-requires c κs = search needs
+with-list-requires c κs = tt
 
 also-requires : tie.Need-also-requires
-also-requires c κs = search needs
+also-requires c κs = tt
 
 quiet-requires : tie.Need-quiet-requires
-quiet-requires c κs = search needs
+quiet-requires c κs = tt
 
 returns-3 : tie.Need-returns-3
 unfolding singlePart

@@ -8,17 +8,17 @@ use Rattle.model_steps.proofs.parts.waveform_part.Statement.{statement}
 use Rattle.model_steps.proofs.parts.waveform_part.Tie as tie
 
 model-fault-requires : tie.Need-model-fault-requires
-model-fault-requires c κs = search needs
+model-fault-requires c κs = tt
 
 stopped-requires : tie.Need-stopped-requires
-stopped-requires c κs = search needs
+stopped-requires c κs = tt
 
 returns : tie.Need-returns
 unfolding waveformPart
 returns c = c .stopped .ensures ∙ faulted _ _ (c .before .before .model-fault .ensures) (c .before .if1 .taken)
 
 stopped-requires-2 : tie.Need-stopped-requires-2
-stopped-requires-2 c κs = search needs
+stopped-requires-2 c κs = tt
 
 returns-2 : tie.Need-returns-2
 unfolding waveformPart
@@ -28,10 +28,10 @@ returns-2 c =
     ∙ clean _ _ (c .before .before .before .before .model-fault .ensures) (c .before .before .before .if1 .left)
 
 model-opens-requires : tie.Need-model-opens-requires
-model-opens-requires c κs = search needs
+model-opens-requires c κs = tt
 
 with-list-requires : tie.Need-with-list-requires
-with-list-requires c κs = search needs
+with-list-requires c κs = tt
 
 add-next : tie.Need-add-next
 add-next c = search needs

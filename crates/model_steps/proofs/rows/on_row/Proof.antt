@@ -8,14 +8,14 @@ use Rattle.model_steps.proofs.rows.on_row.Statement.{statement}
 use Rattle.model_steps.proofs.rows.on_row.Tie as tie
 
 rising-requires : tie.Need-rising-requires
-rising-requires c κs = search needs
+rising-requires c κs = tt
 
 returns : tie.Need-returns
 unfolding onRow
 returns c = sym (cond-no _ _ (sym (c .before .rising .ensures) ∙ not-true (c .before .rising .result) (c .if1 .taken)))
 
 is-number-requires : tie.Need-is-number-requires
-is-number-requires c κs = search needs
+is-number-requires c κs = tt
 
 with-row-requires : tie.Need-with-row-requires
 with-row-requires c κs = search needs

@@ -1,6 +1,5 @@
 -- The first row, or a later one.
 use mathlib.Core.Path.{sym, _∙_}
-use borrow.Author.Needs.{needs}
 use borrow.Author.Tests.{eq-eqb, ne-eqb}
 use Rattle.laws.proofs.Tests.{cond-yes, cond-no}
 use Rattle.rules.specs.Model.{rises}
@@ -12,7 +11,7 @@ unfolding rises
 returns c = sym (cond-yes _ _ (eq-eqb (c .before .before .args .r .count) 0 (c .if1 .taken)))
 
 less-requires : tie.Need-less-requires
-less-requires c κs = search needs
+less-requires c κs = tt
 
 returns-2 : tie.Need-returns-2
 unfolding rises

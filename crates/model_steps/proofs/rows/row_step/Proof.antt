@@ -11,13 +11,13 @@ use Rattle.model_steps.proofs.rows.row_step.Statement.{statement}
 use Rattle.model_steps.proofs.rows.row_step.Tie as tie
 
 row-of-requires : tie.Need-row-of-requires
-row-of-requires c κs = search needs
+row-of-requires c κs = tt
 
 enum-known-row : tie.Need-enum-known-row
 enum-known-row c = search needs
 
 on-row-requires : tie.Need-on-row-requires
-on-row-requires c κs = search needs
+on-row-requires c κs = tt
 
 enum-known-fault : tie.Need-enum-known-fault
 enum-known-fault c = search needs

@@ -1,10 +1,9 @@
 -- By computing.
-use borrow.Author.Needs.{needs}
 use Rattle.model_steps.proofs.state.new_model.Statement.{statement}
 use Rattle.model_steps.proofs.state.new_model.Tie as tie
 
 none-given-requires : tie.Need-none-given-requires
-none-given-requires c κs = search needs
+none-given-requires c κs = tt
 
 returns : tie.Need-returns
 returns c = rw (c .none-given .ensures)

@@ -1,6 +1,5 @@
 -- By whether the first is a model's or a selector's.
 use mathlib.Core.Path.{sym, _∙_}
-use borrow.Author.Needs.{needs}
 use Rattle.laws.proofs.Tests.{cond-yes, cond-no}
 use Rattle.name_checks.specs.Lookup.{modelOrSelector, rivals}
 use lib.Dec.{eqb}
@@ -8,10 +7,10 @@ use Rattle.name_checks.proofs.clashes.are_rivals.Statement.{statement}
 use Rattle.name_checks.proofs.clashes.are_rivals.Tie as tie
 
 model-or-selector-requires : tie.Need-model-or-selector-requires
-model-or-selector-requires c κs = search needs
+model-or-selector-requires c κs = tt
 
 model-or-selector-requires-2 : tie.Need-model-or-selector-requires-2
-model-or-selector-requires-2 c κs = search needs
+model-or-selector-requires-2 c κs = tt
 
 returns : tie.Need-returns
 unfolding rivals

@@ -15,7 +15,7 @@ kind-at-requires-2 : tie.Need-kind-at-requires-2
 kind-at-requires-2 c κs = search needs
 
 are-rivals-requires : tie.Need-are-rivals-requires
-are-rivals-requires c κs = search needs
+are-rivals-requires c κs = tt
 
 same-names-requires : tie.Need-same-names-requires
 same-names-requires c κs = search needs
@@ -33,7 +33,7 @@ returns-2 c =
     ∙ meets-rival (now (a .src)) (now (a .notes)) (a .i) (a .j) (c .before .before .before .before .before .kind-at .result) (c .before .before .before .before .kind-at2 .result) (c .before .before .before .before .before .kind-at .ensures) (c .before .before .before .before .kind-at2 .ensures) (c .before .same-names .result) (sym (c .before .before .before .are-rivals .ensures) ∙ c .before .before .if1 .taken) (c .before .same-names .ensures)
 
 is-enclosed-requires : tie.Need-is-enclosed-requires
-is-enclosed-requires c κs = search needs
+is-enclosed-requires c κs = tt
 
 returns-3 : tie.Need-returns-3
 returns-3 c =

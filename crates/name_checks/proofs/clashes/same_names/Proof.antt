@@ -35,7 +35,7 @@ part-at-requires-2 : tie.Need-part-at-requires-2
 part-at-requires-2 c κs = search needs
 
 same-parts-requires : tie.Need-same-parts-requires
-same-parts-requires c κs = search needs
+same-parts-requires c κs = tt
 
 returns-2 : tie.Need-returns-2
 returns-2 c =

@@ -24,7 +24,7 @@ part-at-requires : tie.Need-part-at-requires
 part-at-requires c κs = search needs
 
 within-requires : tie.Need-within-requires
-within-requires c κs = search needs
+within-requires c κs = tt
 
 sub-needs-no-model : tie.Need-sub-needs-no-model
 sub-needs-no-model c = search needs
@@ -36,7 +36,7 @@ part-needs-no-model-end : tie.Need-part-needs-no-model-end
 part-needs-no-model-end c = search needs
 
 needs-no-model-requires : tie.Need-needs-no-model-requires
-needs-no-model-requires c κs = search needs
+needs-no-model-requires c κs = tt
 
 returns : tie.Need-returns
 returns c =

@@ -14,7 +14,7 @@ kind-at-requires : tie.Need-kind-at-requires
 kind-at-requires c κs = search needs
 
 is-enclosed-requires : tie.Need-is-enclosed-requires
-is-enclosed-requires c κs = search needs
+is-enclosed-requires c κs = tt
 
 same-length : tie.Need-same-length
 same-length c = search needs
@@ -49,7 +49,7 @@ line-at-requires : tie.Need-line-at-requires
 line-at-requires c κs = search needs
 
 told-requires : tie.Need-told-requires
-told-requires c κs = search needs
+told-requires c κs = tt
 
 same-length-3 : tie.Need-same-length-3
 same-length-3 c = search needs

@@ -1,13 +1,12 @@
 -- By the number of the second kind.
 use mathlib.Core.Path.{refl}
-use borrow.Author.Needs.{needs}
 use borrow.Author.Tests.{eq-eqb, ne-eqb}
 use Rattle.name_checks.specs.Lookup.{reaches}
 use Rattle.name_checks.proofs.marking.may_name.Statement.{statement}
 use Rattle.name_checks.proofs.marking.may_name.Tie as tie
 
 is-enclosed-requires : tie.Need-is-enclosed-requires
-is-enclosed-requires c κs = search needs
+is-enclosed-requires c κs = tt
 
 returns : tie.Need-returns
 unfolding reaches

@@ -17,7 +17,7 @@ kind-at-requires-2 : tie.Need-kind-at-requires-2
 kind-at-requires-2 c κs = search needs
 
 may-name-requires : tie.Need-may-name-requires
-may-name-requires c κs = search needs
+may-name-requires c κs = tt
 
 mul-part-at : tie.Need-mul-part-at
 mul-part-at c = search needs
@@ -38,7 +38,7 @@ part-at-requires-2 : tie.Need-part-at-requires-2
 part-at-requires-2 c κs = search needs
 
 same-parts-requires : tie.Need-same-parts-requires
-same-parts-requires c κs = search needs
+same-parts-requires c κs = tt
 
 returns : tie.Need-returns
 returns c =

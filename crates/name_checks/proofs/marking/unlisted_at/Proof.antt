@@ -11,13 +11,13 @@ kind-at-requires : tie.Need-kind-at-requires
 kind-at-requires c κs = search needs
 
 model-or-selector-requires : tie.Need-model-or-selector-requires
-model-or-selector-requires c κs = search needs
+model-or-selector-requires c κs = tt
 
 add-word : tie.Need-add-word
 add-word c = search needs
 
 word-requires : tie.Need-word-requires
-word-requires c κs = search needs
+word-requires c κs = tt
 
 returns : tie.Need-returns
 returns c =
@@ -28,7 +28,7 @@ line-at-requires : tie.Need-line-at-requires
 line-at-requires c κs = search needs
 
 told-requires : tie.Need-told-requires
-told-requires c κs = search needs
+told-requires c κs = tt
 
 returns-2 : tie.Need-returns-2
 returns-2 c =

@@ -20,7 +20,7 @@ part-at-requires : tie.Need-part-at-requires
 part-at-requires c κs = search needs
 
 within-requires : tie.Need-within-requires
-within-requires c κs = search needs
+within-requires c κs = tt
 
 sub-name-key : tie.Need-sub-name-key
 sub-name-key c = search needs
@@ -32,7 +32,7 @@ part-name-key-end : tie.Need-part-name-key-end
 part-name-key-end c = search needs
 
 name-key-requires : tie.Need-name-key-requires
-name-key-requires c κs = search needs
+name-key-requires c κs = tt
 
 returns : tie.Need-returns
 returns c =

@@ -13,7 +13,7 @@ mul-word : tie.Need-mul-word
 mul-word c = search needs
 
 word-requires : tie.Need-word-requires
-word-requires c κs = search needs
+word-requires c κs = tt
 
 returns : tie.Need-returns
 unfolding placeAt

@@ -26,7 +26,7 @@ shared-slice-read-widen : tie.Need-shared-slice-read-widen Inv-loop μ-loop
 shared-slice-read-widen c = search needs
 
 widen-requires : tie.Need-widen-requires Inv-loop μ-loop
-widen-requires c κs = search needs
+widen-requires c κs = tt
 
 add-key : tie.Need-add-key Inv-loop μ-loop
 add-key c = search needs

@@ -4,13 +4,13 @@ use Rattle.name_checks.proofs.places.part_at.Statement.{statement}
 use Rattle.name_checks.proofs.places.part_at.Tie as tie
 
 word-requires : tie.Need-word-requires
-word-requires c κs = search needs
+word-requires c κs = tt
 
 add-word : tie.Need-add-word
 add-word c = search needs
 
 word-requires-2 : tie.Need-word-requires-2
-word-requires-2 c κs = search needs
+word-requires-2 c κs = tt
 
 returns : tie.Need-returns
 returns c = λ i. record { start = c .before .word .ensures i; end = c .word2 .ensures i }

@@ -7,10 +7,10 @@ use Rattle.name_checks.proofs.places.same_parts.Statement.{statement}
 use Rattle.name_checks.proofs.places.same_parts.Tie as tie
 
 within-requires : tie.Need-within-requires
-within-requires c κs = search needs
+within-requires c κs = tt
 
 within-requires-2 : tie.Need-within-requires-2
-within-requires-2 c κs = search needs
+within-requires-2 c κs = tt
 
 sub-if1 : tie.Need-sub-if1
 sub-if1 c = search needs
@@ -40,7 +40,7 @@ part-same-end-2 : tie.Need-part-same-end-2
 part-same-end-2 c = search needs
 
 same-requires : tie.Need-same-requires
-same-requires c κs = search needs
+same-requires c κs = tt
 
 returns-2 : tie.Need-returns-2
 returns-2 c = c .same .ensures ∙ within-same (now (c .before .before .before .before .before .before .before .args .src)) (c .before .before .before .before .before .before .before .args .w) (c .before .before .before .before .before .before .before .args .v) (c .before .before .before .before .before .within .result) (c .before .before .before .before .within2 .result) (c .before .before .before .before .before .within .ensures) (c .before .before .before .before .within2 .ensures)

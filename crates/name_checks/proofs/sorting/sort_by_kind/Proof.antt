@@ -29,7 +29,7 @@ array-read-m : tie.Need-array-read-m Inv-loop μ-loop
 array-read-m c = omega (arith, kind-at-most (c .before .before .before .loop .notes) (c .before .before .before .loop .i))
 
 kind-from-requires : tie.Need-kind-from-requires Inv-loop μ-loop
-kind-from-requires c κs = search needs
+kind-from-requires c κs = tt
 
 add-at : tie.Need-add-at Inv-loop μ-loop
 add-at c = omega (arith, turning (now (c .before .before .before .before .before .before .args .notes)) (c .before .before .before .before .loop .notes) (c .before .before .before .before .loop .used) (c .before .before .before .before .loop .i) (c .before .before .before .before .before .before .args .n) (c .before .kind-at .result) (c .kind-from .result) (c .before .before .before .before .loop .inv .1) (c .before .before .before .loop-test .taken) (c .before .before .before .before .before .before .pre .0 .0) (c .before .before .before .before .before .before .pre .0 .1) (c .before .before .before .before .before .before .pre .1) (c .before .before .before .before .loop .inv .2) (c .before .before .before .before .loop .inv .3) (c .before .kind-at .ensures) (c .kind-from .ensures) .low)

@@ -27,7 +27,7 @@ part-sized-end : tie.Need-part-sized-end
 part-sized-end c = search needs
 
 sized-requires : tie.Need-sized-requires
-sized-requires c κs = search needs
+sized-requires c κs = tt
 
 returns : tie.Need-returns
 returns c = sym (file-sized (now (c .before .before .before .before .before .args .w)) _ (c .before .before .before .skip-file-bytes .ensures .0) (sym (c .before .sized .ensures) ∙ not-true (c .before .sized .result) (c .if1 .taken)))
@@ -45,7 +45,7 @@ slice-aggregate-same : tie.Need-slice-aggregate-same
 slice-aggregate-same c = search needs
 
 same-requires : tie.Need-same-requires
-same-requires c κs = search needs
+same-requires c κs = tt
 
 returns-2 : tie.Need-returns-2
 returns-2 c =

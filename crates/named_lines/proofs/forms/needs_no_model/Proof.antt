@@ -10,7 +10,7 @@ slice-aggregate-same-capitals : tie.Need-slice-aggregate-same-capitals
 slice-aggregate-same-capitals c = search needs
 
 same-capitals-requires : tie.Need-same-capitals-requires
-same-capitals-requires c κs = search needs
+same-capitals-requires c κs = tt
 
 returns : tie.Need-returns
 unfolding needsNoModel oneOf
@@ -20,7 +20,7 @@ slice-aggregate-same-capitals-2 : tie.Need-slice-aggregate-same-capitals-2
 slice-aggregate-same-capitals-2 c = search needs
 
 same-capitals-requires-2 : tie.Need-same-capitals-requires-2
-same-capitals-requires-2 c κs = search needs
+same-capitals-requires-2 c κs = tt
 
 returns-2 : tie.Need-returns-2
 unfolding needsNoModel oneOf
@@ -30,7 +30,7 @@ slice-aggregate-same-capitals-3 : tie.Need-slice-aggregate-same-capitals-3
 slice-aggregate-same-capitals-3 c = search needs
 
 same-capitals-requires-3 : tie.Need-same-capitals-requires-3
-same-capitals-requires-3 c κs = search needs
+same-capitals-requires-3 c κs = tt
 
 returns-3 : tie.Need-returns-3
 unfolding needsNoModel oneOf

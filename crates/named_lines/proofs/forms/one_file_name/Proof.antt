@@ -24,7 +24,7 @@ part-file-name-end : tie.Need-part-file-name-end
 part-file-name-end c = word-one (c .before .start .given .1) (c .before .before .before .only-word .ensures) .ends
 
 file-name-requires : tie.Need-file-name-requires
-file-name-requires c κs = search needs
+file-name-requires c κs = tt
 
 enum-told : tie.Need-enum-told
 enum-told c = search needs

@@ -24,7 +24,7 @@ part-model-name-end : tie.Need-part-model-name-end
 part-model-name-end c = word-one (c .before .start .given .1) (c .before .before .before .only-word .ensures) .ends
 
 model-name-requires : tie.Need-model-name-requires
-model-name-requires c κs = search needs
+model-name-requires c κs = tt
 
 enum-told : tie.Need-enum-told
 enum-told c = search needs

@@ -24,7 +24,7 @@ shared-slice-read-file-byte : tie.Need-shared-slice-read-file-byte Inv-loop μ-l
 shared-slice-read-file-byte c = search needs
 
 file-byte-requires : tie.Need-file-byte-requires Inv-loop μ-loop
-file-byte-requires c κs = search needs
+file-byte-requires c κs = tt
 
 returns : tie.Need-returns Inv-loop μ-loop
 returns c = (sym (front-stop isFileByte _ _ 0 (c .before .before .before .loop-test .taken) (sym (c .before .file-byte .ensures) ∙ not-true (c .before .file-byte .result) (c .if1 .taken))) ∙ c .before .before .before .before .loop .inv .1, omega arith)

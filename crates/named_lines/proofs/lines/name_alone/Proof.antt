@@ -6,7 +6,7 @@ use Rattle.named_lines.proofs.lines.name_alone.Statement.{statement}
 use Rattle.named_lines.proofs.lines.name_alone.Tie as tie
 
 first-word-requires : tie.Need-first-word-requires
-first-word-requires c κs = search needs
+first-word-requires c κs = tt
 
 sub-find : tie.Need-sub-find
 sub-find c = search needs

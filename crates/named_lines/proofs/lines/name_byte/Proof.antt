@@ -1,5 +1,4 @@
 -- By the two tests.
-use borrow.Author.Needs.{needs}
 use Rattle.words.proofs.Laws.{ink-no, ink-yes}
 use Rattle.laws.specs.Lists.{other}
 use Rattle.named_lines.specs.Places.{isNameByte}
@@ -7,7 +6,7 @@ use Rattle.named_lines.proofs.lines.name_byte.Statement.{statement}
 use Rattle.named_lines.proofs.lines.name_byte.Tie as tie
 
 blank-requires : tie.Need-blank-requires
-blank-requires c κs = search needs
+blank-requires c κs = tt
 
 returns : tie.Need-returns
 unfolding isNameByte

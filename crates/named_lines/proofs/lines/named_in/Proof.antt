@@ -10,7 +10,7 @@ use Rattle.named_lines.proofs.lines.named_in.Statement.{statement}
 use Rattle.named_lines.proofs.lines.named_in.Tie as tie
 
 name-of-requires : tie.Need-name-of-requires
-name-of-requires c κs = search needs
+name-of-requires c κs = tt
 
 sub-place : tie.Need-sub-place
 sub-place c = search needs
@@ -22,7 +22,7 @@ part-place-end : tie.Need-part-place-end
 part-place-end c = c .name-of .ensures .ends
 
 place-requires : tie.Need-place-requires
-place-requires c κs = search needs
+place-requires c κs = tt
 
 returns : tie.Need-returns
 returns c = c .place .ensures ∙ ap (λ (x : List ℕ). placeFrom 0 x (words (now (c .before .before .before .before .before .args .table)))) (c .before .before .name-of .ensures .text)

@@ -3,7 +3,6 @@ use Prim.Native.Nat.{ℕ}
 use mathlib.Core.Path.{sym, _∙_, subst}
 use mathlib.Core.List.{List}
 use mathlib.Core.Option.{Option}
-use borrow.Author.Needs.{needs}
 use borrow.Author.Tests.{not-true, not-false}
 use denote.Ref.{now}
 use Rattle.named_lines.specs.Places.{WordIs}
@@ -12,13 +11,13 @@ use Rattle.named_lines.proofs.lines.named_word.Statement.{statement}
 use Rattle.named_lines.proofs.lines.named_word.Tie as tie
 
 name-alone-requires : tie.Need-name-alone-requires
-name-alone-requires c κs = search needs
+name-alone-requires c κs = tt
 
 returns : tie.Need-returns
 returns c = named-none (now (c .before .before .before .args .w)) (sym (c .before .name-alone .ensures) ∙ not-true (c .before .name-alone .result) (c .if1 .taken))
 
 first-word-requires : tie.Need-first-word-requires
-first-word-requires c κs = search needs
+first-word-requires c κs = tt
 
 only-word-requires : tie.Need-only-word-requires
 only-word-requires c κs = c .first-word .ensures .ends

@@ -8,7 +8,7 @@ use Rattle.named_lines.proofs.lines.number_line.Statement.{statement}
 use Rattle.named_lines.proofs.lines.number_line.Tie as tie
 
 name-of-requires : tie.Need-name-of-requires
-name-of-requires c κs = search needs
+name-of-requires c κs = tt
 
 skip-blanks-requires : tie.Need-skip-blanks-requires
 skip-blanks-requires c κs = c .name-of .ensures .ends

@@ -24,7 +24,7 @@ shared-slice-read-name-byte : tie.Need-shared-slice-read-name-byte Inv-loop μ-l
 shared-slice-read-name-byte c = search needs
 
 name-byte-requires : tie.Need-name-byte-requires Inv-loop μ-loop
-name-byte-requires c κs = search needs
+name-byte-requires c κs = tt
 
 returns : tie.Need-returns Inv-loop μ-loop
 returns c = (sym (front-stop isNameByte _ _ 0 (c .before .before .before .loop-test .taken) (sym (c .before .name-byte .ensures) ∙ not-true (c .before .name-byte .result) (c .if1 .taken))) ∙ c .before .before .before .before .loop .inv .1, omega arith)

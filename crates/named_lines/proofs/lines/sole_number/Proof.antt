@@ -26,7 +26,7 @@ part-given-cell-end : tie.Need-part-given-cell-end
 part-given-cell-end c = word-one (c .before .start .given .1) (c .before .before .before .only-word .ensures) .ends
 
 given-cell-requires : tie.Need-given-cell-requires
-given-cell-requires c κs = search needs
+given-cell-requires c κs = tt
 
 enum-told : tie.Need-enum-told
 enum-told c = search needs

@@ -3,7 +3,7 @@ use mathlib.Core.Path.{ap, _∙_}
 use borrow.Author.Needs.{needs}
 use denote.Ref.{now}
 use Rattle.laws.specs.Bytes.{isBlank}
-use Rattle.words.specs.Words.{words, grown, onto}
+use Rattle.words.specs.Words.{words, grown, ontoWord}
 use Rattle.name_table.specs.Places.{namesOf}
 use Rattle.laws.specs.Said.{orElse}
 use Rattle.line_rules.specs.Tables.{enables}
@@ -16,13 +16,13 @@ slice-aggregate-word-in : tie.Need-slice-aggregate-word-in
 slice-aggregate-word-in c = search needs
 
 word-in-requires : tie.Need-word-in-requires
-word-in-requires c κs = search needs
+word-in-requires c κs = tt
 
 enable-at-requires : tie.Need-enable-at-requires
-enable-at-requires c κs = search needs
+enable-at-requires c κs = tt
 
 returns : tie.Need-returns
-unfolding words grown onto isBlank namesOf enables
+unfolding words grown ontoWord isBlank namesOf enables
 returns c = c .enable-at .ensures ∙ ap (orElse NoEnable) (word-found enables (now (c .before .before .before .before .args .w)) _ (c .before .word-in .ensures))
 
 pub enable-of-spec : {M : Type 1} → statement M

@@ -3,7 +3,7 @@ use mathlib.Core.Path.{ap, _∙_}
 use borrow.Author.Needs.{needs}
 use denote.Ref.{now}
 use Rattle.laws.specs.Bytes.{isBlank}
-use Rattle.words.specs.Words.{words, grown, onto}
+use Rattle.words.specs.Words.{words, grown, ontoWord}
 use Rattle.name_table.specs.Places.{namesOf}
 use Rattle.line_rules.specs.Tables.{locations}
 use Rattle.named_lines.specs.Views.{locationRead}
@@ -15,13 +15,13 @@ slice-aggregate-word-in : tie.Need-slice-aggregate-word-in
 slice-aggregate-word-in c = search needs
 
 word-in-requires : tie.Need-word-in-requires
-word-in-requires c κs = search needs
+word-in-requires c κs = tt
 
 location-at-requires : tie.Need-location-at-requires
-location-at-requires c κs = search needs
+location-at-requires c κs = tt
 
 returns : tie.Need-returns
-unfolding words grown onto isBlank namesOf locations
+unfolding words grown ontoWord isBlank namesOf locations
 returns c = c .location-at .ensures ∙ ap locationRead (word-found locations (now (c .before .before .before .before .args .w)) _ (c .before .word-in .ensures))
 
 pub location-of-spec : {M : Type 1} → statement M

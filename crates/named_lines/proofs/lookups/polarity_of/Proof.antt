@@ -3,7 +3,7 @@ use mathlib.Core.Path.{ap, _∙_}
 use borrow.Author.Needs.{needs}
 use denote.Ref.{now}
 use Rattle.laws.specs.Bytes.{isBlank}
-use Rattle.words.specs.Words.{words, grown, onto}
+use Rattle.words.specs.Words.{words, grown, ontoWord}
 use Rattle.name_table.specs.Places.{namesOf}
 use Rattle.laws.specs.Said.{orElse}
 use Rattle.line_rules.specs.Tables.{polarities}
@@ -16,13 +16,13 @@ slice-aggregate-word-in : tie.Need-slice-aggregate-word-in
 slice-aggregate-word-in c = search needs
 
 word-in-requires : tie.Need-word-in-requires
-word-in-requires c κs = search needs
+word-in-requires c κs = tt
 
 polarity-at-requires : tie.Need-polarity-at-requires
-polarity-at-requires c κs = search needs
+polarity-at-requires c κs = tt
 
 returns : tie.Need-returns
-unfolding words grown onto isBlank namesOf polarities
+unfolding words grown ontoWord isBlank namesOf polarities
 returns c = c .polarity-at .ensures ∙ ap (orElse NoPolarity) (word-found polarities (now (c .before .before .before .before .args .w)) _ (c .before .word-in .ensures))
 
 pub polarity-of-spec : {M : Type 1} → statement M

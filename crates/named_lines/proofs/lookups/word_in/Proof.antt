@@ -12,7 +12,7 @@ use Rattle.named_lines.proofs.lookups.word_in.Statement.{statement}
 use Rattle.named_lines.proofs.lookups.word_in.Tie as tie
 
 named-word-requires : tie.Need-named-word-requires
-named-word-requires c κs = search needs
+named-word-requires c κs = tt
 
 enum-known-start : tie.Need-enum-known-start
 enum-known-start c = search needs
@@ -27,7 +27,7 @@ part-place-end : tie.Need-part-place-end
 part-place-end c = word-one (c .before .start .given .1) (c .before .before .before .named-word .ensures) .ends
 
 place-requires : tie.Need-place-requires
-place-requires c κs = search needs
+place-requires c κs = tt
 
 enum-told : tie.Need-enum-told
 enum-told c = search needs

@@ -1,14 +1,13 @@
 -- The place that was found.
 use Prim.Native.Nat.{_-_}
-use borrow.Author.Needs.{needs}
 use Rattle.olhovest.proofs.asked.olhovest_find_model.Statement.{statement}
 use Rattle.olhovest.proofs.asked.olhovest_find_model.Tie as tie
 
 model-named-requires : tie.Need-model-named-requires
-model-named-requires c κs = search needs
+model-named-requires c κs = tt
 
 place-number-requires : tie.Need-place-number-requires
-place-number-requires c κs = search needs
+place-number-requires c κs = tt
 
 returns : tie.Need-returns
 returns c = cc

@@ -1,14 +1,13 @@
 -- The place that was found.
 use Prim.Native.Nat.{_-_}
-use borrow.Author.Needs.{needs}
 use Rattle.olhovest.proofs.asked.olhovest_find_pin.Statement.{statement}
 use Rattle.olhovest.proofs.asked.olhovest_find_pin.Tie as tie
 
 pin-named-requires : tie.Need-pin-named-requires
-pin-named-requires c κs = search needs
+pin-named-requires c κs = tt
 
 place-number-requires : tie.Need-place-number-requires
-place-number-requires c κs = search needs
+place-number-requires c κs = tt
 
 returns : tie.Need-returns
 returns c = cc

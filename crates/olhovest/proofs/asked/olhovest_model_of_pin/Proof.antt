@@ -1,14 +1,13 @@
 -- The place that was found.
 use Prim.Native.Nat.{_-_}
-use borrow.Author.Needs.{needs}
 use Rattle.olhovest.proofs.asked.olhovest_model_of_pin.Statement.{statement}
 use Rattle.olhovest.proofs.asked.olhovest_model_of_pin.Tie as tie
 
 model-of-pin-requires : tie.Need-model-of-pin-requires
-model-of-pin-requires c κs = search needs
+model-of-pin-requires c κs = tt
 
 place-number-requires : tie.Need-place-number-requires
-place-number-requires c κs = search needs
+place-number-requires c κs = tt
 
 returns : tie.Need-returns
 returns c = cc

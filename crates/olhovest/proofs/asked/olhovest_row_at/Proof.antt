@@ -9,13 +9,13 @@ use Rattle.olhovest.proofs.asked.olhovest_row_at.Statement.{statement}
 use Rattle.olhovest.proofs.asked.olhovest_row_at.Tie as tie
 
 row-in-requires : tie.Need-row-in-requires
-row-in-requires c κs = search needs
+row-in-requires c κs = tt
 
 enum-known-r : tie.Need-enum-known-r
 enum-known-r c = search needs
 
 row-words-requires : tie.Need-row-words-requires
-row-words-requires c κs = search needs
+row-words-requires c κs = tt
 
 enum-told : tie.Need-enum-told
 enum-told c = search needs

@@ -1,16 +1,15 @@
 -- The values in words.
 use Prim.Native.Nat.{_-_}
 use mathlib.Core.Path.{ap, _∙_}
-use borrow.Author.Needs.{needs}
 use Rattle.olhovest.specs.Exported.{valueWords}
 use Rattle.olhovest.proofs.asked.olhovest_values_of_pin.Statement.{statement}
 use Rattle.olhovest.proofs.asked.olhovest_values_of_pin.Tie as tie
 
 values-of-pin-requires : tie.Need-values-of-pin-requires
-values-of-pin-requires c κs = search needs
+values-of-pin-requires c κs = tt
 
 value-words-requires : tie.Need-value-words-requires
-value-words-requires c κs = search needs
+value-words-requires c κs = tt
 
 returns : tie.Need-returns
 returns c = c .value-words .ensures ∙ ap valueWords (c .before .values-of-pin .ensures)

@@ -6,10 +6,10 @@ use Rattle.olhovest.proofs.asked.row_words.Statement.{statement}
 use Rattle.olhovest.proofs.asked.row_words.Tie as tie
 
 triple-words-requires : tie.Need-triple-words-requires
-triple-words-requires c κs = search needs
+triple-words-requires c κs = tt
 
 word-of-requires : tie.Need-word-of-requires
-word-of-requires c κs = search needs
+word-of-requires c κs = tt
 
 array-read-t9 : tie.Need-array-read-t9
 array-read-t9 c = search needs

@@ -6,13 +6,13 @@ use Rattle.olhovest.proofs.asked.value_words.Statement.{statement}
 use Rattle.olhovest.proofs.asked.value_words.Tie as tie
 
 triple-words-requires : tie.Need-triple-words-requires
-triple-words-requires c κs = search needs
+triple-words-requires c κs = tt
 
 triple-words-requires-2 : tie.Need-triple-words-requires-2
-triple-words-requires-2 c κs = search needs
+triple-words-requires-2 c κs = tt
 
 triple-words-requires-3 : tie.Need-triple-words-requires-3
-triple-words-requires-3 c κs = search needs
+triple-words-requires-3 c κs = tt
 
 array-read-t8 : tie.Need-array-read-t8
 array-read-t8 c = search needs

@@ -1,7 +1,6 @@
 -- By whether there is a row.
 use Prim.Native.Nat.{_-_}
 use mathlib.Core.Path.{ap}
-use borrow.Author.Needs.{needs}
 use borrow.Author.Tests.{eq-eqb, ne-eqb}
 use Rattle.records.specs.declared.Choice.{Choice}
 use Rattle.questions.specs.Chosen.{firstChoice}
@@ -9,14 +8,14 @@ use Rattle.questions.proofs.choices.first_choice.Statement.{statement}
 use Rattle.questions.proofs.choices.first_choice.Tie as tie
 
 no-name-requires : tie.Need-no-name-requires
-no-name-requires c κs = search needs
+no-name-requires c κs = tt
 
 returns : tie.Need-returns
 unfolding firstChoice
 returns c = rw (eq-eqb (c .before .before .before .before .args .rows .count) 0 (c .before .if1 .taken)) (c .no-name .ensures)
 
 choice-in-requires : tie.Need-choice-in-requires
-choice-in-requires c κs = search needs
+choice-in-requires c κs = tt
 
 returns-2 : tie.Need-returns-2
 unfolding firstChoice

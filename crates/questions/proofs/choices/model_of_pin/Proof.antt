@@ -2,7 +2,6 @@
 use Prim.Native.Nat.{_-_, _/_}
 use mathlib.Core.Path.{refl, ap, _∙_}
 use lib.ListN.{length}
-use borrow.Author.Needs.{needs}
 use borrow.Author.Tests.{lt-ltb, le-ltb}
 use denote.Ref.{now}
 use Rattle.records.specs.declared.Pin.{Pin}
@@ -12,10 +11,10 @@ use Rattle.questions.proofs.choices.model_of_pin.Statement.{statement}
 use Rattle.questions.proofs.choices.model_of_pin.Tie as tie
 
 pin-in-requires : tie.Need-pin-in-requires
-pin-in-requires c κs = search needs
+pin-in-requires c κs = tt
 
 model-for-requires : tie.Need-model-for-requires
-model-for-requires c κs = search needs
+model-for-requires c κs = tt
 
 returns : tie.Need-returns
 unfolding modelOfPin

@@ -16,10 +16,10 @@ enum-known-k : tie.Need-enum-known-k
 enum-known-k c = search needs
 
 selector-in-requires : tie.Need-selector-in-requires
-selector-in-requires c κs = search needs
+selector-in-requires c κs = tt
 
 first-choice-requires : tie.Need-first-choice-requires
-first-choice-requires c κs = search needs
+first-choice-requires c κs = tt
 
 enum-told : tie.Need-enum-told
 enum-told c = search needs

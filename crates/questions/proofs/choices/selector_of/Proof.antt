@@ -1,7 +1,6 @@
 -- The bytes up to the length are the name's, whatever the length is: `text-same`.
 use Prim.Native.Nat.{_-_}
 use mathlib.Core.Path.{sym, _∙_}
-use borrow.Author.Needs.{needs}
 use denote.Ref.{now}
 use lib.Seq.{length-take-le}
 use Rattle.questions.specs.Named.{nameBytes}
@@ -11,7 +10,7 @@ use Rattle.questions.proofs.choices.selector_of.Statement.{statement}
 use Rattle.questions.proofs.choices.selector_of.Tie as tie
 
 text-length-requires : tie.Need-text-length-requires
-text-length-requires c κs = search needs
+text-length-requires c κs = tt
 
 array-share-prefix-bytes : tie.Need-array-share-prefix-bytes
 array-share-prefix-bytes c = text-within _ (c .before .before .before .args .name .len) (c .before .before .before .args .name .bytes) (c .before .before .before .good .1 .0 .1 .1 .0 .1 .0 .1) (c .before .text-length .ensures)
@@ -20,7 +19,7 @@ slice-aggregate-selector-named : tie.Need-slice-aggregate-selector-named
 slice-aggregate-selector-named c = sym (length-take-le _ _ (text-within _ (c .before .before .before .before .args .name .len) (c .before .before .before .before .args .name .bytes) (c .before .before .before .before .good .1 .0 .1 .1 .0 .1 .0 .1) (c .before .before .text-length .ensures)))
 
 selector-named-requires : tie.Need-selector-named-requires
-selector-named-requires c κs = search needs
+selector-named-requires c κs = tt
 
 returns : tie.Need-returns
 unfolding nameBytes

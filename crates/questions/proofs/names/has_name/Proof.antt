@@ -24,10 +24,10 @@ returns c =
     sym (other-length (nameFrom ws) (now (c .before .before .before .before .before .args .name)) (name-sized ws) (λ e. c .if2 .taken (sym same ∙ e)))
 
 name-from-requires : tie.Need-name-from-requires
-name-from-requires c κs = search needs
+name-from-requires c κs = tt
 
 is-named-requires : tie.Need-is-named-requires
-is-named-requires c κs = search needs
+is-named-requires c κs = tt
 
 returns-2 : tie.Need-returns-2
 returns-2 c = c .is-named .ensures ∙ ap (λ (n : Name). isNamed n (now (c .before .before .before .before .before .before .before .args .name))) (c .before .name-from .ensures)

@@ -1,6 +1,5 @@
 -- `is_named` by the bytes of the other name: `text-same`.
 use mathlib.Core.Path.{sym, _∙_}
-use borrow.Author.Needs.{needs}
 use lib.Seq.{length-take-le}
 use Rattle.questions.specs.Named.{isNamed, sameName, nameBytes}
 use Rattle.questions.proofs.Laws.{text-same, text-within}
@@ -8,7 +7,7 @@ use Rattle.questions.proofs.names.same_name.Statement.{statement}
 use Rattle.questions.proofs.names.same_name.Tie as tie
 
 text-length-requires : tie.Need-text-length-requires
-text-length-requires c κs = search needs
+text-length-requires c κs = tt
 
 array-share-prefix-bytes : tie.Need-array-share-prefix-bytes
 array-share-prefix-bytes c = text-within _ (c .before .before .args .b .len) (c .before .before .args .b .bytes) (c .before .before .good .1 .0 .1 .1 .0 .1 .0 .1) (c .before .text-length .ensures)
@@ -17,7 +16,7 @@ slice-aggregate-is-named : tie.Need-slice-aggregate-is-named
 slice-aggregate-is-named c = sym (length-take-le _ _ (text-within _ (c .before .before .before .args .b .len) (c .before .before .before .args .b .bytes) (c .before .before .before .good .1 .0 .1 .1 .0 .1 .0 .1) (c .before .before .text-length .ensures)))
 
 is-named-requires : tie.Need-is-named-requires
-is-named-requires c κs = search needs
+is-named-requires c κs = tt
 
 returns : tie.Need-returns
 unfolding sameName nameBytes

@@ -29,10 +29,10 @@ loop-holds : tie.Need-loop-holds Inv-loop μ-loop
 loop-holds c = (omega arith, seeks-first _ _ _)
 
 component-in-requires : tie.Need-component-in-requires Inv-loop μ-loop
-component-in-requires c κs = search needs
+component-in-requires c κs = tt
 
 in-span-requires : tie.Need-in-span-requires Inv-loop μ-loop
-in-span-requires c κs = search needs
+in-span-requires c κs = tt
 
 returns : tie.Need-returns Inv-loop μ-loop
 unfolding componentWith

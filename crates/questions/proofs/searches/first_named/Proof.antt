@@ -32,13 +32,13 @@ add-record-at : tie.Need-add-record-at Inv-loop μ-loop
 add-record-at c = omega (arith, div-le-self (length (now (c .before .before .before .before .args .table))) (c .before .before .before .before .args .size))
 
 record-at-requires : tie.Need-record-at-requires Inv-loop μ-loop
-record-at-requires c κs = search needs
+record-at-requires c κs = tt
 
 words-from-requires : tie.Need-words-from-requires Inv-loop μ-loop
-words-from-requires c κs = search needs
+words-from-requires c κs = tt
 
 has-name-requires : tie.Need-has-name-requires Inv-loop μ-loop
-has-name-requires c κs = search needs
+has-name-requires c κs = tt
 
 add-t13 : tie.Need-add-t13 Inv-loop μ-loop
 add-t13 c = omega (arith, div-le-self (length (now (c .before .before .before .before .before .before .before .before .args .table))) (c .before .before .before .before .before .before .before .before .args .size))

@@ -4,7 +4,6 @@ use mathlib.Core.Path.{ap, _∙_}
 use mathlib.Core.Bool.{Bool}
 use lib.ListN.{length}
 use native.Mathlib.Omega.{arith}
-use borrow.Author.Needs.{needs}
 use denote.Ref.{now}
 use Rattle.records.specs.declared.Component.{Component}
 use Rattle.record_words.specs.Records.{pinSize}
@@ -15,10 +14,10 @@ use Rattle.questions.proofs.searches.pin_named.Statement.{statement}
 use Rattle.questions.proofs.searches.pin_named.Tie as tie
 
 component-in-requires : tie.Need-component-in-requires
-component-in-requires c κs = search needs
+component-in-requires c κs = tt
 
 places-in-requires : tie.Need-places-in-requires
-places-in-requires c κs = search needs
+places-in-requires c κs = tt
 
 first-named-requires : tie.Need-first-named-requires
 unfolding placesIn

@@ -15,13 +15,13 @@ enum-known-found : tie.Need-enum-known-found
 enum-known-found c = search needs
 
 component-in-requires : tie.Need-component-in-requires
-component-in-requires c κs = search needs
+component-in-requires c κs = tt
 
 enum-told : tie.Need-enum-told
 enum-told c = search needs
 
 component-in-requires-2 : tie.Need-component-in-requires-2
-component-in-requires-2 c κs = search needs
+component-in-requires-2 c κs = tt
 
 returns : tie.Need-returns
 returns c = rw (c .before .before .found .given .1) (c .component-in .ensures)

@@ -1,18 +1,17 @@
 -- Value by value.
 use Prim.Native.Nat.{_-_}
-use borrow.Author.Needs.{needs}
 use Rattle.questions.specs.Valued.{valuesOf}
 use Rattle.questions.proofs.values.values_of.Statement.{statement}
 use Rattle.questions.proofs.values.values_of.Tie as tie
 
 or-package-requires : tie.Need-or-package-requires
-or-package-requires c κs = search needs
+or-package-requires c κs = tt
 
 or-package-requires-2 : tie.Need-or-package-requires-2
-or-package-requires-2 c κs = search needs
+or-package-requires-2 c κs = tt
 
 or-package-requires-3 : tie.Need-or-package-requires-3
-or-package-requires-3 c κs = search needs
+or-package-requires-3 c κs = tt
 
 returns : tie.Need-returns
 unfolding valuesOf

@@ -1,21 +1,20 @@
 -- The pin, and the component that has it.
 use Prim.Native.Nat.{_-_}
-use borrow.Author.Needs.{needs}
 use Rattle.questions.specs.Valued.{valuesOfPin}
 use Rattle.questions.proofs.values.values_of_pin.Statement.{statement}
 use Rattle.questions.proofs.values.values_of_pin.Tie as tie
 
 pin-in-requires : tie.Need-pin-in-requires
-pin-in-requires c κs = search needs
+pin-in-requires c κs = tt
 
 component-with-requires : tie.Need-component-with-requires
-component-with-requires c κs = search needs
+component-with-requires c κs = tt
 
 package-of-requires : tie.Need-package-of-requires
-package-of-requires c κs = search needs
+package-of-requires c κs = tt
 
 values-of-requires : tie.Need-values-of-requires
-values-of-requires c κs = search needs
+values-of-requires c κs = tt
 
 returns : tie.Need-returns
 unfolding valuesOfPin

@@ -8,10 +8,10 @@ use Rattle.record_words.proofs.tables.name_words.Reads as name-words-re
 use Rattle.record_words.proofs.tables.text_words.Reads as text-words-reads
 
 name-words-requires : tie.Need-name-words-requires
-name-words-requires c κs = search needs
+name-words-requires c κs = tt
 
 text-words-requires : tie.Need-text-words-requires
-text-words-requires c κs = search needs
+text-words-requires c κs = tt
 
 array-read-t8 : tie.Need-array-read-t8
 array-read-t8 c = search needs

@@ -10,19 +10,19 @@ use Rattle.record_words.proofs.tables.triple_words.Reads as triple-word
 use Rattle.record_words.proofs.values.location_number.Reads as location-number-reads
 
 name-words-requires : tie.Need-name-words-requires
-name-words-requires c κs = search needs
+name-words-requires c κs = tt
 
 name-words-requires-2 : tie.Need-name-words-requires-2
-name-words-requires-2 c κs = search needs
+name-words-requires-2 c κs = tt
 
 triple-words-requires : tie.Need-triple-words-requires
-triple-words-requires c κs = search needs
+triple-words-requires c κs = tt
 
 triple-words-requires-2 : tie.Need-triple-words-requires-2
-triple-words-requires-2 c κs = search needs
+triple-words-requires-2 c κs = tt
 
 triple-words-requires-3 : tie.Need-triple-words-requires-3
-triple-words-requires-3 c κs = search needs
+triple-words-requires-3 c κs = tt
 
 array-read-t14 : tie.Need-array-read-t14
 array-read-t14 c = search needs
@@ -43,10 +43,10 @@ array-read-t29 : tie.Need-array-read-t29
 array-read-t29 c = search needs
 
 location-number-requires : tie.Need-location-number-requires
-location-number-requires c κs = search needs
+location-number-requires c κs = tt
 
 location-number-requires-2 : tie.Need-location-number-requires-2
-location-number-requires-2 c κs = search needs
+location-number-requires-2 c κs = tt
 
 array-read-t34 : tie.Need-array-read-t34
 array-read-t34 c = search needs

@@ -11,10 +11,10 @@ use Rattle.record_words.proofs.values.enable_number.Reads as enable-num
 use Rattle.record_words.proofs.values.polarity_number.Reads as polarity-number-reads
 
 name-words-requires : tie.Need-name-words-requires
-name-words-requires c κs = search needs
+name-words-requires c κs = tt
 
 triple-words-requires : tie.Need-triple-words-requires
-triple-words-requires c κs = search needs
+triple-words-requires c κs = tt
 
 array-read-t18 : tie.Need-array-read-t18
 array-read-t18 c = search needs
@@ -35,13 +35,13 @@ array-read-t33 : tie.Need-array-read-t33
 array-read-t33 c = search needs
 
 type-number-requires : tie.Need-type-number-requires
-type-number-requires c κs = search needs
+type-number-requires c κs = tt
 
 polarity-number-requires : tie.Need-polarity-number-requires
-polarity-number-requires c κs = search needs
+polarity-number-requires c κs = tt
 
 enable-number-requires : tie.Need-enable-number-requires
-enable-number-requires c κs = search needs
+enable-number-requires c κs = tt
 
 array-read-t39 : tie.Need-array-read-t39
 array-read-t39 c = search needs
@@ -53,22 +53,22 @@ array-read-t45 : tie.Need-array-read-t45
 array-read-t45 c = search needs
 
 word-of-requires : tie.Need-word-of-requires
-word-of-requires c κs = search needs
+word-of-requires c κs = tt
 
 word-of-requires-2 : tie.Need-word-of-requires-2
-word-of-requires-2 c κs = search needs
+word-of-requires-2 c κs = tt
 
 word-of-requires-3 : tie.Need-word-of-requires-3
-word-of-requires-3 c κs = search needs
+word-of-requires-3 c κs = tt
 
 word-of-requires-4 : tie.Need-word-of-requires-4
-word-of-requires-4 c κs = search needs
+word-of-requires-4 c κs = tt
 
 word-of-requires-5 : tie.Need-word-of-requires-5
-word-of-requires-5 c κs = search needs
+word-of-requires-5 c κs = tt
 
 word-of-requires-6 : tie.Need-word-of-requires-6
-word-of-requires-6 c κs = search needs
+word-of-requires-6 c κs = tt
 
 returns : tie.Need-returns
 returns c = rw (c .before .before .before .before .before .before .before .before .before .before .name-words .ensures, c .before .before .before .before .before .before .before .before .before .triple-words .ensures, c .before .before .before .before .before .before .before .before .type-number .ensures, c .before .before .before .before .before .before .before .polarity-number .ensures, c .before .before .before .before .before .before .enable-number .ensures, c .before .before .before .before .before .word-of .ensures, c .before .before .before .before .word-of2 .ensures, c .before .before .before .word-of3 .ensures, c .before .before .word-of4 .ensures, c .before .word-of5 .ensures, c .word-of6 .ensures)

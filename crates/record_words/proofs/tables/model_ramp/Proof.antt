@@ -9,13 +9,13 @@ use Rattle.record_words.proofs.tables.slope_words.Reads as slope-words-
 use Rattle.record_words.proofs.values.flag_number.Reads as flag-number-reads
 
 slope-words-requires : tie.Need-slope-words-requires
-slope-words-requires c κs = search needs
+slope-words-requires c κs = tt
 
 slope-words-requires-2 : tie.Need-slope-words-requires-2
-slope-words-requires-2 c κs = search needs
+slope-words-requires-2 c κs = tt
 
 flag-number-requires : tie.Need-flag-number-requires
-flag-number-requires c κs = search needs
+flag-number-requires c κs = tt
 
 array-read-t10 : tie.Need-array-read-t10
 array-read-t10 c = search needs
@@ -54,7 +54,7 @@ array-read-t43 : tie.Need-array-read-t43
 array-read-t43 c = search needs
 
 word-of-requires : tie.Need-word-of-requires
-word-of-requires c κs = search needs
+word-of-requires c κs = tt
 
 returns : tie.Need-returns
 returns c = rw (c .before .before .before .slope-words .ensures, c .before .before .slope-words2 .ensures, c .before .flag-number .ensures, c .word-of .ensures)

@@ -10,22 +10,22 @@ use Rattle.record_words.proofs.tables.triple_words.Reads as triple-word
 use Rattle.record_words.proofs.values.flag_number.Reads as flag-number-reads
 
 triple-words-requires : tie.Need-triple-words-requires
-triple-words-requires c κs = search needs
+triple-words-requires c κs = tt
 
 triple-words-requires-2 : tie.Need-triple-words-requires-2
-triple-words-requires-2 c κs = search needs
+triple-words-requires-2 c κs = tt
 
 table-words-requires : tie.Need-table-words-requires
-table-words-requires c κs = search needs
+table-words-requires c κs = tt
 
 table-words-requires-2 : tie.Need-table-words-requires-2
-table-words-requires-2 c κs = search needs
+table-words-requires-2 c κs = tt
 
 table-words-requires-3 : tie.Need-table-words-requires-3
-table-words-requires-3 c κs = search needs
+table-words-requires-3 c κs = tt
 
 table-words-requires-4 : tie.Need-table-words-requires-4
-table-words-requires-4 c κs = search needs
+table-words-requires-4 c κs = tt
 
 array-read-t11 : tie.Need-array-read-t11
 array-read-t11 c = search needs
@@ -37,7 +37,7 @@ array-read-t17 : tie.Need-array-read-t17
 array-read-t17 c = search needs
 
 flag-number-requires : tie.Need-flag-number-requires
-flag-number-requires c κs = search needs
+flag-number-requires c κs = tt
 
 array-read-t21 : tie.Need-array-read-t21
 array-read-t21 c = search needs

@@ -8,13 +8,13 @@ use Rattle.decimal.proofs.word_of.Reads as word-of-reads
 use Rattle.record_words.proofs.tables.name_words.Reads as name-words-reads
 
 name-words-requires : tie.Need-name-words-requires
-name-words-requires c κs = search needs
+name-words-requires c κs = tt
 
 name-words-requires-2 : tie.Need-name-words-requires-2
-name-words-requires-2 c κs = search needs
+name-words-requires-2 c κs = tt
 
 name-words-requires-3 : tie.Need-name-words-requires-3
-name-words-requires-3 c κs = search needs
+name-words-requires-3 c κs = tt
 
 array-read-t11 : tie.Need-array-read-t11
 array-read-t11 c = search needs
@@ -71,13 +71,13 @@ array-read-t62 : tie.Need-array-read-t62
 array-read-t62 c = search needs
 
 word-of-requires : tie.Need-word-of-requires
-word-of-requires c κs = search needs
+word-of-requires c κs = tt
 
 word-of-requires-2 : tie.Need-word-of-requires-2
-word-of-requires-2 c κs = search needs
+word-of-requires-2 c κs = tt
 
 word-of-requires-3 : tie.Need-word-of-requires-3
-word-of-requires-3 c κs = search needs
+word-of-requires-3 c κs = tt
 
 returns : tie.Need-returns
 returns c = rw (c .before .before .before .before .before .name-words .ensures, c .before .before .before .before .name-words2 .ensures, c .before .before .before .name-words3 .ensures, c .before .before .word-of .ensures, c .before .word-of2 .ensures, c .word-of3 .ensures)

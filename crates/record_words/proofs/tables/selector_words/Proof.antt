@@ -7,7 +7,7 @@ use Rattle.record_words.proofs.tables.selector_words.Lts as lts
 use Rattle.record_words.proofs.tables.name_words.Reads as name-words-reads
 
 name-words-requires : tie.Need-name-words-requires
-name-words-requires c κs = search needs
+name-words-requires c κs = tt
 
 array-read-t7 : tie.Need-array-read-t7
 array-read-t7 c = search needs

@@ -1,5 +1,4 @@
 -- By its slopes.
-use borrow.Author.Needs.{needs}
 use Rattle.record_words.proofs.tables.slope_words.Statement.{statement}
 use Rattle.record_words.proofs.tables.slope_words.Tie as tie
 use Rattle.record_words.proofs.tables.slope_words.Reads as reads
@@ -8,22 +7,22 @@ use Rattle.record_words.proofs.values.dividend_word.Reads as dividend-w
 use Rattle.record_words.proofs.values.divisor_word.Reads as divisor-word-reads
 
 dividend-word-requires : tie.Need-dividend-word-requires
-dividend-word-requires c κs = search needs
+dividend-word-requires c κs = tt
 
 divisor-word-requires : tie.Need-divisor-word-requires
-divisor-word-requires c κs = search needs
+divisor-word-requires c κs = tt
 
 dividend-word-requires-2 : tie.Need-dividend-word-requires-2
-dividend-word-requires-2 c κs = search needs
+dividend-word-requires-2 c κs = tt
 
 divisor-word-requires-2 : tie.Need-divisor-word-requires-2
-divisor-word-requires-2 c κs = search needs
+divisor-word-requires-2 c κs = tt
 
 dividend-word-requires-3 : tie.Need-dividend-word-requires-3
-dividend-word-requires-3 c κs = search needs
+dividend-word-requires-3 c κs = tt
 
 divisor-word-requires-3 : tie.Need-divisor-word-requires-3
-divisor-word-requires-3 c κs = search needs
+divisor-word-requires-3 c κs = tt
 
 returns : tie.Need-returns
 returns c = rw (c .before .before .before .before .before .dividend-word .ensures, c .before .before .before .before .divisor-word .ensures, c .before .before .before .dividend-word2 .ensures, c .before .before .divisor-word2 .ensures, c .before .dividend-word3 .ensures, c .divisor-word3 .ensures)

@@ -12,13 +12,13 @@ enum-known-c : tie.Need-enum-known-c
 enum-known-c c = search needs
 
 word-of-requires : tie.Need-word-of-requires
-word-of-requires c κs = search needs
+word-of-requires c κs = tt
 
 enum-told : tie.Need-enum-told
 enum-told c = search needs
 
 word-of-requires-2 : tie.Need-word-of-requires-2
-word-of-requires-2 c κs = search needs
+word-of-requires-2 c κs = tt
 
 returns : tie.Need-returns
 returns c = c .word-of .ensures ∙ sym (ap divisorWord (c .before .before .c .given .1))

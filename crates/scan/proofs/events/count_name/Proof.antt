@@ -1,7 +1,6 @@
 -- By whether the table is full.
 use Prim.Native.Nat.{_≤_, _<_}
 use native.Mathlib.Omega.{arith}
-use borrow.Author.Needs.{needs}
 use Rattle.rules.specs.Whole.{bound}
 use Rattle.notes.specs.Noted.{used}
 use Rattle.scan.proofs.EventLaws.{counted-full, counted-going, names-small, used-small, kept-more}
@@ -9,10 +8,10 @@ use Rattle.scan.proofs.events.count_name.Statement.{statement}
 use Rattle.scan.proofs.events.count_name.Tie as tie
 
 bound-of-requires : tie.Need-bound-of-requires
-bound-of-requires c κs = search needs
+bound-of-requires c κs = tt
 
 used-of-requires : tie.Need-used-of-requires
-used-of-requires c κs = search needs
+used-of-requires c κs = tt
 
 add-t9 : tie.Need-add-t9
 add-t9 c = omega (arith, names-small (c .before .before .before .before .args .t) (c .before .before .before .before .pre))

@@ -9,7 +9,7 @@ use Rattle.scan.proofs.events.note_waveform.Statement.{statement}
 use Rattle.scan.proofs.events.note_waveform.Tie as tie
 
 waveform-bound-requires : tie.Need-waveform-bound-requires
-waveform-bound-requires c κs = search needs
+waveform-bound-requires c κs = tt
 
 returns : tie.Need-returns
 returns c =

@@ -8,7 +8,7 @@ use Rattle.scan.proofs.reading.change_turn.Statement.{statement}
 use Rattle.scan.proofs.reading.change_turn.Tie as tie
 
 on-change-requires : tie.Need-on-change-requires
-on-change-requires c κs = search needs
+on-change-requires c κs = tt
 
 enum-known-u : tie.Need-enum-known-u
 enum-known-u c = search needs
@@ -17,7 +17,7 @@ enum-known-f : tie.Need-enum-known-f
 enum-known-f c = search needs
 
 broken-requires : tie.Need-broken-requires
-broken-requires c κs = search needs
+broken-requires c κs = tt
 
 returns : tie.Need-returns
 returns c =

@@ -8,31 +8,31 @@ enum-told : tie.Need-enum-told
 enum-told c = search needs
 
 broken-requires : tie.Need-broken-requires
-broken-requires c κs = search needs
+broken-requires c κs = tt
 
 enum-told-2 : tie.Need-enum-told-2
 enum-told-2 c = search needs
 
 broken-requires-2 : tie.Need-broken-requires-2
-broken-requires-2 c κs = search needs
+broken-requires-2 c κs = tt
 
 enum-told-3 : tie.Need-enum-told-3
 enum-told-3 c = search needs
 
 broken-requires-3 : tie.Need-broken-requires-3
-broken-requires-3 c κs = search needs
+broken-requires-3 c κs = tt
 
 enum-told-4 : tie.Need-enum-told-4
 enum-told-4 c = search needs
 
 broken-requires-4 : tie.Need-broken-requires-4
-broken-requires-4 c κs = search needs
+broken-requires-4 c κs = tt
 
 enum-told-5 : tie.Need-enum-told-5
 enum-told-5 c = search needs
 
 broken-requires-5 : tie.Need-broken-requires-5
-broken-requires-5 c κs = search needs
+broken-requires-5 c κs = tt
 
 enum-told-6 : tie.Need-enum-told-6
 enum-told-6 c = search needs

@@ -19,7 +19,7 @@ part-on-plain-end : tie.Need-part-on-plain-end
 part-on-plain-end c = c .before .before .before .pre .text .fits
 
 on-plain-requires : tie.Need-on-plain-requires
-on-plain-requires c κs = search needs
+on-plain-requires c κs = tt
 
 enum-known-u : tie.Need-enum-known-u
 enum-known-u c = search needs
@@ -34,13 +34,13 @@ enum-known-n : tie.Need-enum-known-n
 enum-known-n c = search needs
 
 broken-requires : tie.Need-broken-requires
-broken-requires c κs = search needs
+broken-requires c κs = tt
 
 enum-known-f : tie.Need-enum-known-f
 enum-known-f c = search needs
 
 broken-requires-2 : tie.Need-broken-requires-2
-broken-requires-2 c κs = search needs
+broken-requires-2 c κs = tt
 
 same-length : tie.Need-same-length
 same-length c = search needs

@@ -17,10 +17,10 @@ abbrev μ-loop : tie.MeasureT-loop
 μ-loop notes₀ src l x₀ notes x = length src - x .cursor .at
 
 first-requires : tie.Need-first-requires Inv-loop μ-loop
-first-requires c κs = search needs
+first-requires c κs = tt
 
 nothing-requires : tie.Need-nothing-requires Inv-loop μ-loop
-nothing-requires c κs = search needs
+nothing-requires c κs = tt
 
 loop-holds : tie.Need-loop-holds Inv-loop μ-loop
 loop-holds c = (rw (c .before .first .ensures) rw (c .nothing .ensures) (first-sound (now (c .before .before .before .before .args .src)) (now (c .before .before .before .before .args .notes)) (c .before .before .before .before .pre .0) (c .before .before .before .before .pre .1)), refl, refl)

@@ -30,7 +30,7 @@ enum-known-line-3 : tie.Need-enum-known-line-3
 enum-known-line-3 c = search needs
 
 out-of-lines-requires : tie.Need-out-of-lines-requires
-out-of-lines-requires c κs = search needs
+out-of-lines-requires c κs = tt
 
 same-length : tie.Need-same-length
 same-length c = search needs

@@ -7,31 +7,31 @@ enum-told : tie.Need-enum-told
 enum-told c = search needs
 
 lesser-requires : tie.Need-lesser-requires
-lesser-requires c κs = search needs
+lesser-requires c κs = tt
 
 enum-told-2 : tie.Need-enum-told-2
 enum-told-2 c = search needs
 
 lesser-requires-2 : tie.Need-lesser-requires-2
-lesser-requires-2 c κs = search needs
+lesser-requires-2 c κs = tt
 
 enum-told-3 : tie.Need-enum-told-3
 enum-told-3 c = search needs
 
 lesser-requires-3 : tie.Need-lesser-requires-3
-lesser-requires-3 c κs = search needs
+lesser-requires-3 c κs = tt
 
 enum-told-4 : tie.Need-enum-told-4
 enum-told-4 c = search needs
 
 lesser-requires-4 : tie.Need-lesser-requires-4
-lesser-requires-4 c κs = search needs
+lesser-requires-4 c κs = tt
 
 enum-told-5 : tie.Need-enum-told-5
 enum-told-5 c = search needs
 
 lesser-requires-5 : tie.Need-lesser-requires-5
-lesser-requires-5 c κs = search needs
+lesser-requires-5 c κs = tt
 
 returns : tie.Need-returns
 returns c = rw (c .before .enum-told .given .1) (c .lesser .ensures)

@@ -9,19 +9,19 @@ number-at-requires : tie.Need-number-at-requires
 number-at-requires c κs = search needs
 
 flag-in-requires : tie.Need-flag-in-requires
-flag-in-requires c κs = search needs
+flag-in-requires c κs = tt
 
 words-from-requires : tie.Need-words-from-requires
-words-from-requires c κs = search needs
+words-from-requires c κs = tt
 
 slopes-from-requires : tie.Need-slopes-from-requires
-slopes-from-requires c κs = search needs
+slopes-from-requires c κs = tt
 
 words-from-requires-2 : tie.Need-words-from-requires-2
-words-from-requires-2 c κs = search needs
+words-from-requires-2 c κs = tt
 
 slopes-from-requires-2 : tie.Need-slopes-from-requires-2
-slopes-from-requires-2 c κs = search needs
+slopes-from-requires-2 c κs = tt
 
 cell-at-requires : tie.Need-cell-at-requires
 cell-at-requires c κs = search needs

@@ -9,13 +9,13 @@ number-at-requires : tie.Need-number-at-requires
 number-at-requires c κs = search needs
 
 flag-in-requires : tie.Need-flag-in-requires
-flag-in-requires c κs = search needs
+flag-in-requires c κs = tt
 
 words-from-requires : tie.Need-words-from-requires
-words-from-requires c κs = search needs
+words-from-requires c κs = tt
 
 triple-from-requires : tie.Need-triple-from-requires
-triple-from-requires c κs = search needs
+triple-from-requires c κs = tt
 
 returns : tie.Need-returns
 unfolding rangeFrom

@@ -12,7 +12,7 @@ cell-at-requires-2 : tie.Need-cell-at-requires-2
 cell-at-requires-2 c κs = search needs
 
 slope-in-requires : tie.Need-slope-in-requires
-slope-in-requires c κs = search needs
+slope-in-requires c κs = tt
 
 cell-at-requires-3 : tie.Need-cell-at-requires-3
 cell-at-requires-3 c κs = search needs
@@ -21,7 +21,7 @@ cell-at-requires-4 : tie.Need-cell-at-requires-4
 cell-at-requires-4 c κs = search needs
 
 slope-in-requires-2 : tie.Need-slope-in-requires-2
-slope-in-requires-2 c κs = search needs
+slope-in-requires-2 c κs = tt
 
 cell-at-requires-5 : tie.Need-cell-at-requires-5
 cell-at-requires-5 c κs = search needs
@@ -30,7 +30,7 @@ cell-at-requires-6 : tie.Need-cell-at-requires-6
 cell-at-requires-6 c κs = search needs
 
 slope-in-requires-3 : tie.Need-slope-in-requires-3
-slope-in-requires-3 c κs = search needs
+slope-in-requires-3 c κs = tt
 
 returns : tie.Need-returns
 unfolding slopesFrom

@@ -1,14 +1,13 @@
 -- From word k on.
 use Prim.Native.Nat.{_-_}
-use borrow.Author.Needs.{needs}
 use Rattle.table_records.proofs.parts.span_at.Statement.{statement}
 use Rattle.table_records.proofs.parts.span_at.Tie as tie
 
 words-from-requires : tie.Need-words-from-requires
-words-from-requires c κs = search needs
+words-from-requires c κs = tt
 
 span-from-requires : tie.Need-span-from-requires
-span-from-requires c κs = search needs
+span-from-requires c κs = tt
 
 returns : tie.Need-returns
 returns c = cc

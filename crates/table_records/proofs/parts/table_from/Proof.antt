@@ -9,13 +9,13 @@ number-at-requires : tie.Need-number-at-requires
 number-at-requires c κs = search needs
 
 flag-in-requires : tie.Need-flag-in-requires
-flag-in-requires c κs = search needs
+flag-in-requires c κs = tt
 
 words-from-requires : tie.Need-words-from-requires
-words-from-requires c κs = search needs
+words-from-requires c κs = tt
 
 span-from-requires : tie.Need-span-from-requires
-span-from-requires c κs = search needs
+span-from-requires c κs = tt
 
 returns : tie.Need-returns
 unfolding tableFrom

@@ -1,18 +1,17 @@
 -- Part by part.
 use Prim.Native.Nat.{_-_}
-use borrow.Author.Needs.{needs}
 use Rattle.table_records.specs.Records.{choiceFrom}
 use Rattle.table_records.proofs.tables.choice_from.Statement.{statement}
 use Rattle.table_records.proofs.tables.choice_from.Tie as tie
 
 name-from-requires : tie.Need-name-from-requires
-name-from-requires c κs = search needs
+name-from-requires c κs = tt
 
 words-from-requires : tie.Need-words-from-requires
-words-from-requires c κs = search needs
+words-from-requires c κs = tt
 
 text-from-requires : tie.Need-text-from-requires
-text-from-requires c κs = search needs
+text-from-requires c κs = tt
 
 returns : tie.Need-returns
 unfolding choiceFrom

@@ -1,14 +1,13 @@
 -- The record's words, then the record.
 use Prim.Native.Nat.{_-_}
-use borrow.Author.Needs.{needs}
 use Rattle.table_records.proofs.tables.choice_in.Statement.{statement}
 use Rattle.table_records.proofs.tables.choice_in.Tie as tie
 
 record-at-requires : tie.Need-record-at-requires
-record-at-requires c κs = search needs
+record-at-requires c κs = tt
 
 choice-from-requires : tie.Need-choice-from-requires
-choice-from-requires c κs = search needs
+choice-from-requires c κs = tt
 
 returns : tie.Need-returns
 returns c = cc

@@ -18,28 +18,28 @@ number-at-requires-2 : tie.Need-number-at-requires-2
 number-at-requires-2 c κs = search needs
 
 location-in-requires : tie.Need-location-in-requires
-location-in-requires c κs = search needs
+location-in-requires c κs = tt
 
 number-at-requires-3 : tie.Need-number-at-requires-3
 number-at-requires-3 c κs = search needs
 
 location-in-requires-2 : tie.Need-location-in-requires-2
-location-in-requires-2 c κs = search needs
+location-in-requires-2 c κs = tt
 
 name-at-requires-2 : tie.Need-name-at-requires-2
 name-at-requires-2 c κs = search needs
 
 triple-at-requires : tie.Need-triple-at-requires
-triple-at-requires c κs = search needs
+triple-at-requires c κs = tt
 
 triple-at-requires-2 : tie.Need-triple-at-requires-2
-triple-at-requires-2 c κs = search needs
+triple-at-requires-2 c κs = tt
 
 triple-at-requires-3 : tie.Need-triple-at-requires-3
-triple-at-requires-3 c κs = search needs
+triple-at-requires-3 c κs = tt
 
 span-at-requires : tie.Need-span-at-requires
-span-at-requires c κs = search needs
+span-at-requires c κs = tt
 
 returns : tie.Need-returns
 returns c =

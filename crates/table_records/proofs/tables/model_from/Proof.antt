@@ -19,22 +19,22 @@ number-at-requires-2 : tie.Need-number-at-requires-2
 number-at-requires-2 c κs = search needs
 
 type-in-requires : tie.Need-type-in-requires
-type-in-requires c κs = search needs
+type-in-requires c κs = tt
 
 number-at-requires-3 : tie.Need-number-at-requires-3
 number-at-requires-3 c κs = search needs
 
 polarity-in-requires : tie.Need-polarity-in-requires
-polarity-in-requires c κs = search needs
+polarity-in-requires c κs = tt
 
 number-at-requires-4 : tie.Need-number-at-requires-4
 number-at-requires-4 c κs = search needs
 
 enable-in-requires : tie.Need-enable-in-requires
-enable-in-requires c κs = search needs
+enable-in-requires c κs = tt
 
 triple-at-requires : tie.Need-triple-at-requires
-triple-at-requires c κs = search needs
+triple-at-requires c κs = tt
 
 cell-at-requires : tie.Need-cell-at-requires
 cell-at-requires c κs = search needs
@@ -55,34 +55,34 @@ cell-at-requires-6 : tie.Need-cell-at-requires-6
 cell-at-requires-6 c κs = search needs
 
 triple-at-requires-2 : tie.Need-triple-at-requires-2
-triple-at-requires-2 c κs = search needs
+triple-at-requires-2 c κs = tt
 
 words-from-requires : tie.Need-words-from-requires
-words-from-requires c κs = search needs
+words-from-requires c κs = tt
 
 range-from-requires : tie.Need-range-from-requires
-range-from-requires c κs = search needs
+range-from-requires c κs = tt
 
 table-at-requires : tie.Need-table-at-requires
-table-at-requires c κs = search needs
+table-at-requires c κs = tt
 
 table-at-requires-2 : tie.Need-table-at-requires-2
-table-at-requires-2 c κs = search needs
+table-at-requires-2 c κs = tt
 
 table-at-requires-3 : tie.Need-table-at-requires-3
-table-at-requires-3 c κs = search needs
+table-at-requires-3 c κs = tt
 
 table-at-requires-4 : tie.Need-table-at-requires-4
-table-at-requires-4 c κs = search needs
+table-at-requires-4 c κs = tt
 
 words-from-requires-2 : tie.Need-words-from-requires-2
-words-from-requires-2 c κs = search needs
+words-from-requires-2 c κs = tt
 
 ramp-from-requires : tie.Need-ramp-from-requires
-ramp-from-requires c κs = search needs
+ramp-from-requires c κs = tt
 
 span-at-requires : tie.Need-span-at-requires
-span-at-requires c κs = search needs
+span-at-requires c κs = tt
 
 returns : tie.Need-returns
 returns c =

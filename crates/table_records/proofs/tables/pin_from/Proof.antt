@@ -6,7 +6,7 @@ use Rattle.table_records.proofs.tables.pin_from.Statement.{statement}
 use Rattle.table_records.proofs.tables.pin_from.Tie as tie
 
 name-from-requires : tie.Need-name-from-requires
-name-from-requires c κs = search needs
+name-from-requires c κs = tt
 
 name-at-requires : tie.Need-name-at-requires
 name-at-requires c κs = search needs

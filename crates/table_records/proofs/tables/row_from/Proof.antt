@@ -9,10 +9,10 @@ cell-at-requires : tie.Need-cell-at-requires
 cell-at-requires c κs = search needs
 
 triple-at-requires : tie.Need-triple-at-requires
-triple-at-requires c κs = search needs
+triple-at-requires c κs = tt
 
 as-row-requires : tie.Need-as-row-requires
-as-row-requires c κs = search needs
+as-row-requires c κs = tt
 
 returns : tie.Need-returns
 unfolding rowFrom

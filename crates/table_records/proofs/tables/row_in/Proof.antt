@@ -1,14 +1,13 @@
 -- The record's words, then the record.
 use Prim.Native.Nat.{_-_}
-use borrow.Author.Needs.{needs}
 use Rattle.table_records.proofs.tables.row_in.Statement.{statement}
 use Rattle.table_records.proofs.tables.row_in.Tie as tie
 
 record-at-requires : tie.Need-record-at-requires
-record-at-requires c κs = search needs
+record-at-requires c κs = tt
 
 row-from-requires : tie.Need-row-from-requires
-row-from-requires c κs = search needs
+row-from-requires c κs = tt
 
 returns : tie.Need-returns
 returns c = cc

@@ -12,7 +12,7 @@ name-at-requires : tie.Need-name-at-requires
 name-at-requires c κs = search needs
 
 span-at-requires : tie.Need-span-at-requires
-span-at-requires c κs = search needs
+span-at-requires c κs = tt
 
 returns : tie.Need-returns
 unfolding selectorFrom

@@ -12,7 +12,7 @@ number-at-requires : tie.Need-number-at-requires
 number-at-requires c κs = search needs
 
 edge-in-requires : tie.Need-edge-in-requires
-edge-in-requires c κs = search needs
+edge-in-requires c κs = tt
 
 cell-at-requires : tie.Need-cell-at-requires
 cell-at-requires c κs = search needs
@@ -42,7 +42,7 @@ cell-at-requires-9 : tie.Need-cell-at-requires-9
 cell-at-requires-9 c κs = search needs
 
 span-at-requires : tie.Need-span-at-requires
-span-at-requires c κs = search needs
+span-at-requires c κs = tt
 
 returns : tie.Need-returns
 returns c =

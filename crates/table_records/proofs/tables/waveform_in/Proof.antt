@@ -5,7 +5,7 @@ use Rattle.table_records.proofs.tables.waveform_in.Statement.{statement
 use Rattle.table_records.proofs.tables.waveform_in.Tie as tie
 
 record-at-requires : tie.Need-record-at-requires
-record-at-requires c κs = search needs
+record-at-requires c κs = tt
 
 waveform-from-requires : tie.Need-waveform-from-requires
 waveform-from-requires c κs = search needs

@@ -18,7 +18,7 @@ shared-slice-read-cell-in : tie.Need-shared-slice-read-cell-in
 shared-slice-read-cell-in c = search needs
 
 cell-in-requires : tie.Need-cell-in-requires
-cell-in-requires c κs = search needs
+cell-in-requires c κs = tt
 
 returns : tie.Need-returns
 unfolding cellAt

@@ -22,7 +22,7 @@ unfolding bytesFrom
 loop-holds c = (omega arith, refl, refl)
 
 byte-in-requires : tie.Need-byte-in-requires Inv-loop μ-loop
-byte-in-requires c κs = search needs
+byte-in-requires c κs = tt
 
 slice-write-out : tie.Need-slice-write-out Inv-loop μ-loop
 slice-write-out c = search needs

@@ -7,7 +7,7 @@ use Rattle.table_rows.proofs.parts.fill_key.Statement.{statement}
 use Rattle.table_rows.proofs.parts.fill_key.Tie as tie
 
 opens-table-requires : tie.Need-opens-table-requires
-opens-table-requires c κs = search needs
+opens-table-requires c κs = tt
 
 returns : tie.Need-returns
 returns c = filled-none _ _ _ _ (sym (c .before .opens-table .ensures) ∙ not-true _ (c .if1 .taken)) (c .before .before .before .before .pre .0)

@@ -26,7 +26,7 @@ enum-known-keyword : tie.Need-enum-known-keyword Inv-loop μ-loop
 enum-known-keyword c = search needs
 
 ends-requires : tie.Need-ends-requires Inv-loop μ-loop
-ends-requires c κs = search needs
+ends-requires c κs = tt
 
 same-length : tie.Need-same-length Inv-loop μ-loop
 same-length c = model-length (c .before .before .before .before .before .before .loop .inv) (c .before .before .before .before .before .before .before .before .before .pre .1)

@@ -16,7 +16,7 @@ abbrev μ-loop : tie.MeasureT-loop
 μ-loop src row x₀ d₀ x d = length src - d .at
 
 bare-waveform-requires : tie.Need-bare-waveform-requires Inv-loop μ-loop
-bare-waveform-requires c κs = search needs
+bare-waveform-requires c κs = tt
 
 loop-holds : tie.Need-loop-holds Inv-loop μ-loop
 loop-holds c = gathers-start waveform-fold _ _ _ (c .before .before .pre)

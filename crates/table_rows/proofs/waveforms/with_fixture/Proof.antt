@@ -10,19 +10,19 @@ use Rattle.table_rows.proofs.waveforms.with_fixture.Statement.{statemen
 use Rattle.table_rows.proofs.waveforms.with_fixture.Tie as tie
 
 fixture-line-requires : tie.Need-fixture-line-requires
-fixture-line-requires c κs = search needs
+fixture-line-requires c κs = tt
 
 enum-known-n : tie.Need-enum-known-n
 enum-known-n c = search needs
 
 number-line-requires : tie.Need-number-line-requires
-number-line-requires c κs = search needs
+number-line-requires c κs = tt
 
 enum-known-number : tie.Need-enum-known-number
 enum-known-number c = search needs
 
 fixture-at-requires : tie.Need-fixture-at-requires
-fixture-at-requires c κs = search needs
+fixture-at-requires c κs = tt
 
 enum-told : tie.Need-enum-told
 enum-told c = search needs

@@ -8,7 +8,7 @@ use Rattle.table_rows.proofs.waveforms.with_line.Statement.{statement}
 use Rattle.table_rows.proofs.waveforms.with_line.Tie as tie
 
 row-of-requires : tie.Need-row-of-requires
-row-of-requires c κs = search needs
+row-of-requires c κs = tt
 
 enum-told : tie.Need-enum-told
 enum-told c = search needs
@@ -20,7 +20,7 @@ enum-told-2 : tie.Need-enum-told-2
 enum-told-2 c = search needs
 
 with-fixture-requires : tie.Need-with-fixture-requires
-with-fixture-requires c κs = search needs
+with-fixture-requires c κs = tt
 
 returns : tie.Need-returns
 returns c =

@@ -28,10 +28,10 @@ loop-holds : tie.Need-loop-holds Inv-loop μ-loop
 loop-holds c = (omega arith, words-none _ _)
 
 component-at-requires : tie.Need-component-at-requires Inv-loop μ-loop
-component-at-requires c κs = search needs
+component-at-requires c κs = tt
 
 component-words-requires : tie.Need-component-words-requires Inv-loop μ-loop
-component-words-requires c κs = search needs
+component-words-requires c κs = tt
 
 mul-put : tie.Need-mul-put Inv-loop μ-loop
 mul-put c = omega (arith, words-room (λ (k : ℕ). componentWords (componentAt (now (c .before .before .before .before .before .before .before .before .args .src)) (now (c .before .before .before .before .before .before .before .before .args .notes)) k)) componentSize (λ k. refl) (now (c .before .before .before .before .before .before .before .before .args .out)) (c .before .before .before .before .loop .out) (c .before .before .before .before .loop .i) (c .before .before .before .before .before .before .before .before .args .n) (c .before .before .before .before .loop .inv .1) (c .before .before .before .before .before .before .before .before .pre) (c .before .before .before .loop-test .taken), words-keep (λ (k : ℕ). componentWords (componentAt (now (c .before .before .before .before .before .before .before .before .args .src)) (now (c .before .before .before .before .before .before .before .before .args .notes)) k)) componentSize (λ k. refl) (now (c .before .before .before .before .before .before .before .before .args .out)) (c .before .before .before .before .loop .out) (c .before .before .before .before .loop .i) (c .before .before .before .before .before .before .before .before .args .n) (c .before .before .before .before .loop .inv .1) (c .before .before .before .before .before .before .before .before .pre) (c .before .before .before .before .loop .inv .0), c .before .before .before .before .before .before .before .before .good)

@@ -28,10 +28,10 @@ loop-holds : tie.Need-loop-holds Inv-loop μ-loop
 loop-holds c = (omega arith, words-none _ _)
 
 waveform-at-requires : tie.Need-waveform-at-requires Inv-loop μ-loop
-waveform-at-requires c κs = search needs
+waveform-at-requires c κs = tt
 
 waveform-words-requires : tie.Need-waveform-words-requires Inv-loop μ-loop
-waveform-words-requires c κs = search needs
+waveform-words-requires c κs = tt
 
 mul-put : tie.Need-mul-put Inv-loop μ-loop
 mul-put c = omega (arith, words-room (λ (k : ℕ). waveformWords (waveformAt (now (c .before .before .before .before .before .before .before .before .args .src)) (now (c .before .before .before .before .before .before .before .before .args .notes)) k)) waveformSize (λ k. refl) (now (c .before .before .before .before .before .before .before .before .args .out)) (c .before .before .before .before .loop .out) (c .before .before .before .before .loop .i) (c .before .before .before .before .before .before .before .before .args .n) (c .before .before .before .before .loop .inv .1) (c .before .before .before .before .before .before .before .before .pre) (c .before .before .before .loop-test .taken), words-keep (λ (k : ℕ). waveformWords (waveformAt (now (c .before .before .before .before .before .before .before .before .args .src)) (now (c .before .before .before .before .before .before .before .before .args .notes)) k)) waveformSize (λ k. refl) (now (c .before .before .before .before .before .before .before .before .args .out)) (c .before .before .before .before .loop .out) (c .before .before .before .before .loop .i) (c .before .before .before .before .before .before .before .before .args .n) (c .before .before .before .before .loop .inv .1) (c .before .before .before .before .before .before .before .before .pre) (c .before .before .before .before .loop .inv .0), c .before .before .before .before .before .before .before .before .good)

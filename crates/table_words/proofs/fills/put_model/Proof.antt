@@ -14,13 +14,13 @@ use Rattle.record_words.proofs.tables.model_ramp.Reads as model-ramp-reads
 use Rattle.record_words.proofs.tables.model_tables.Reads as model-tables-reads
 
 model-first-requires : tie.Need-model-first-requires
-model-first-requires c κs = search needs
+model-first-requires c κs = tt
 
 model-tables-requires : tie.Need-model-tables-requires
-model-tables-requires c κs = search needs
+model-tables-requires c κs = tt
 
 model-ramp-requires : tie.Need-model-ramp-requires
-model-ramp-requires c κs = search needs
+model-ramp-requires c κs = tt
 
 slice-aggregate-put : tie.Need-slice-aggregate-put
 slice-aggregate-put c = search needs
