@@ -36,7 +36,6 @@ fn tell_changed() {
 
 // Prints a file's dump. Of each table so many records are lent, and no more than it has.
 fn print_lent(
-    out: &mut [u8],
     src: &[u8],
     l: Lengths,
     components: &mut [u64],
@@ -54,8 +53,7 @@ fn print_lent(
     let m = words_in(models.len(), MODEL_WORDS, l.models);
     let w = words_in(waveforms.len(), WAVEFORM_WORDS, l.waveforms);
     let r = words_in(rows.len(), ROW_WORDS, l.rows);
-    dump_output::print_file(
-        out,
+    let answer = dump_output::print_file(
         src,
         &mut components[0..c],
         &mut pins[0..p],
@@ -64,7 +62,8 @@ fn print_lent(
         &mut models[0..m],
         &mut waveforms[0..w],
         &mut rows[0..r],
-    )
+    );
+    answer.counts
 }
 
 // Every table as it was before so much of it was used; false where more had changed than that.
@@ -97,7 +96,6 @@ fn front(src: &[u8], n: usize) -> &[u8] {
 }
 
 fn print_next(
-    out: &mut [u8; 65536],
     src: &[u8],
     l: Lengths,
     components: &mut [u64; COMPONENT_TABLE],
@@ -109,7 +107,6 @@ fn print_next(
     rows: &mut [u64; ROW_TABLE],
 ) {
     let used = print_lent(
-        out,
         src,
         l,
         components,
@@ -159,7 +156,6 @@ fn look(
 
 fn main() {
     let mut src = [0u8; 131072];
-    let mut out = io::large_buffer();
     let mut head = [0u8; 32];
     let mut components = [PATTERN; COMPONENT_TABLE];
     let mut pins = [PATTERN; PIN_TABLE];
@@ -174,7 +170,6 @@ fn main() {
             break;
         };
         print_next(
-            &mut out,
             front(&src, n),
             lengths_in(&head),
             &mut components,

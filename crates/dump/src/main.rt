@@ -9,7 +9,6 @@ use program_output::tables::WAVEFORM_TABLE;
 fn main() {
     let mut src = program_output::file_buffer();
     let n = io::read_full(0, &mut src);
-    let mut out = io::large_buffer();
     let mut components = [0u64; COMPONENT_TABLE];
     let mut pins = [0u64; PIN_TABLE];
     let mut selectors = [0u64; SELECTOR_TABLE];
@@ -18,7 +17,6 @@ fn main() {
     let mut waveforms = [0u64; WAVEFORM_TABLE];
     let mut rows = [0u64; 4000];
     dump_output::print_file(
-        &mut out,
         &src[..n],
         &mut components,
         &mut pins,

@@ -1,4 +1,6 @@
 // A file read into lent tables of words, and its dump or its refusal on standard output.
+ghost use Rattle.table_words.specs.Packed.{wordTables};
+ghost use Rattle.table_reader.specs.ReadInWords.{ReadInWords};
 use dump_text::components::accepted_line;
 use dump_text::components::end_line;
 use dump_text::components::header_lines;
@@ -70,13 +72,12 @@ fn print_answer(
             waveforms,
             rows,
         ),
-        Verdict::Refused(f) => print_refusal(out, f),
+        Verdict::Refused(f) => print_refusal(f),
     }
 }
 
-// Reads a file into the lent tables, prints its dump or its refusal by way of the lent buffer, and answers how much of each table it uses.
+// Reads a file into the lent tables, as `table_reader::read` does, and prints its dump or its refusal.
 pub fn print_file(
-    out: &mut [u8],
     src: &[u8],
     components: &mut [u64],
     pins: &mut [u64],
@@ -85,7 +86,9 @@ pub fn print_file(
     models: &mut [u64],
     waveforms: &mut [u64],
     rows: &mut [u64],
-) -> Counts {
+) -> Answer
+    ensures { λ r. ⌜ ReadInWords (now (src .entry)) (wordTables (now (components .entry)) (now (pins .entry)) (now (selectors .entry)) (now (choices .entry)) (now (models .entry)) (now (waveforms .entry)) (now (rows .entry))) r (wordTables (now (components .exit)) (now (pins .exit)) (now (selectors .exit)) (now (choices .exit)) (now (models .exit)) (now (waveforms .exit)) (now (rows .exit))) ⌝ }
+{
     let answer = table_reader::read(
         src,
         components,
@@ -96,8 +99,9 @@ pub fn print_file(
         waveforms,
         rows,
     );
+    let mut out = io::large_buffer();
     print_answer(
-        out,
+        &mut out,
         answer,
         components,
         pins,
@@ -107,5 +111,5 @@ pub fn print_file(
         waveforms,
         rows,
     );
-    answer.counts
+    answer
 }

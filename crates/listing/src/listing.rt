@@ -94,6 +94,6 @@ pub(crate) fn print_answer(
     let verdict = answer.verdict;
     match verdict {
         Verdict::Accepted => print_listing(out, answer.counts, pins, selectors, choices, models),
-        Verdict::Refused(f) => program_output::print_refusal(out, f),
+        Verdict::Refused(f) => program_output::print_refusal(f),
     }
 }

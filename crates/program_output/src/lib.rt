@@ -1,7 +1,8 @@
 // What every program needs: where a file's bytes are kept, the tables and the parts of them that are in use, and bytes and refusals written to
 // standard output.
 ghost use mathlib.Core.Path.{_≡_};
-ghost use Rattle.program_output.specs.Kept.{fileBuffer};
+ghost use lib.ListN.{length};
+ghost use Rattle.program_output.specs.Kept.{fileBuffer, nextPlace};
 use records::Fault;
 
 pub mod tables; // tables.rt: how long tables are, and the parts of them that are in use
@@ -21,7 +22,9 @@ pub fn put_out(out: &[u8], n: usize) {
 }
 
 // Writes the first n bytes once they are more than half of the buffer; answers where the next text goes.
-pub fn flushed(out: &[u8], n: usize) -> usize {
+pub fn flushed(out: &[u8], n: usize) -> usize
+    ensures { λ r. ⌜ r ≡ nextPlace (length (now (out .entry))) n ⌝ }
+{
     if n <= out.len() / 2 {
         return n;
     }
@@ -29,7 +32,8 @@ pub fn flushed(out: &[u8], n: usize) -> usize {
     0
 }
 
-pub fn print_refusal(out: &mut [u8], f: Fault) {
-    let n = text_buffer::refused_line(out, 0, f);
-    put_out(out, n);
+pub fn print_refusal(f: Fault) {
+    let mut out = io::buffer();
+    let n = text_buffer::refused_line(&mut out, 0, f);
+    put_out(&out, n);
 }

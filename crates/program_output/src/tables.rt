@@ -1,5 +1,8 @@
 // How long a program's tables are, and the parts of them that are in use.
-ghost use Prim.Native.Nat.{_≤_};
+ghost use mathlib.Core.Path.{_≡_};
+ghost use Prim.Native.Nat.{_+_, _/_, _≤_, min};
+ghost use lib.ListN.{length, take};
+ghost use Rattle.program_output.specs.Kept.{wordsIn};
 use record_words::CHOICE_WORDS;
 use record_words::COMPONENT_WORDS;
 use record_words::MODEL_WORDS;
@@ -31,7 +34,9 @@ pub const WAVEFORM_TABLE: usize = MOST_WAVEFORMS * WAVEFORM_WORDS;
 // ---- parts of tables: a record has `size` words
 
 // How many whole records a table has.
-pub fn records_in(table: &[u64], size: usize) -> usize {
+pub fn records_in(table: &[u64], size: usize) -> usize
+    ensures { λ r. ⌜ r ≡ length (now (table .entry)) / size ⌝ }
+{
     if size == 0 {
         return 0;
     }
@@ -40,10 +45,11 @@ pub fn records_in(table: &[u64], size: usize) -> usize {
 
 // How many words so many records have, in a table of so many words: all of them where it has no more records.
 pub fn words_in(words: usize, size: usize, count: usize) -> usize
+    ensures { λ r. ⌜ r ≡ wordsIn words size count ⌝ }
     ensures { λ r. ⌜ r ≤ words ⌝ }
 {
     if size == 0 {
-        return 0;
+        return words;
     }
     if count < words / size {
         return count * size;
@@ -52,13 +58,17 @@ pub fn words_in(words: usize, size: usize, count: usize) -> usize
 }
 
 // The words of the first records of a table.
-pub fn used(table: &[u64], size: usize, count: usize) -> &[u64] {
+pub fn used(table: &[u64], size: usize, count: usize) -> &[u64]
+    ensures { λ r. ⌜ now r ≡ take (wordsIn (length (now (table .entry))) size count) (now (table .entry)) ⌝ }
+{
     let n = words_in(table.len(), size, count);
     &table[0..n]
 }
 
 // Where a span ends in a table of n records.
-pub fn end_in(s: Span, n: usize) -> usize {
+pub fn end_in(s: Span, n: usize) -> usize
+    ensures { λ r. ⌜ r ≡ min (s .start + s .count) n ⌝ }
+{
     if n < s.start {
         return n;
     }
