@@ -1,13 +1,12 @@
 -- By what its parts are while nothing is read.
-use borrow.Author.Needs.{needs}
 use Rattle.blank_records.proofs.blank_choice.Statement.{statement}
 use Rattle.blank_records.proofs.blank_choice.Tie as tie
 
 no-name-requires : tie.Need-no-name-requires
-no-name-requires c κs = search needs
+no-name-requires c κs = tt
 
 no-words-requires : tie.Need-no-words-requires
-no-words-requires c κs = search needs
+no-words-requires c κs = tt
 
 returns : tie.Need-returns
 returns c = rw (c .before .no-name .ensures, c .no-words .ensures)

@@ -1,13 +1,12 @@
 -- By what its parts are while nothing is read.
-use borrow.Author.Needs.{needs}
 use Rattle.blank_records.proofs.blank_component.Statement.{statement}
 use Rattle.blank_records.proofs.blank_component.Tie as tie
 
 no-name-requires : tie.Need-no-name-requires
-no-name-requires c κs = search needs
+no-name-requires c κs = tt
 
 no-cells-requires : tie.Need-no-cells-requires
-no-cells-requires c κs = search needs
+no-cells-requires c κs = tt
 
 returns : tie.Need-returns
 returns c = rw (c .before .no-name .ensures, c .no-cells .ensures)

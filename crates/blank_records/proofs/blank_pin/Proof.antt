@@ -1,10 +1,9 @@
 -- By what its parts are while nothing is read.
-use borrow.Author.Needs.{needs}
 use Rattle.blank_records.proofs.blank_pin.Statement.{statement}
 use Rattle.blank_records.proofs.blank_pin.Tie as tie
 
 no-name-requires : tie.Need-no-name-requires
-no-name-requires c κs = search needs
+no-name-requires c κs = tt
 
 returns : tie.Need-returns
 returns c = rw (c .no-name .ensures)

@@ -1,6 +1,5 @@
 -- By whether the place is one of the component's, then by the pin's name.
 use mathlib.Core.Path.{sym, _∙_}
-use borrow.Author.Needs.{needs}
 use Rattle.laws.proofs.Tests.{cond-yes, cond-no, and-both, and-left, and-right}
 use Rattle.questions.specs.Searched.{inSpan}
 use Rattle.lent_pins.specs.Search.{tryPin}
@@ -8,10 +7,10 @@ use Rattle.lent_pins.proofs.try_pin.Statement.{statement}
 use Rattle.lent_pins.proofs.try_pin.Tie as tie
 
 in-span-requires : tie.Need-in-span-requires
-in-span-requires c κs = search needs
+in-span-requires c κs = tt
 
 same-name-requires : tie.Need-same-name-requires
-same-name-requires c κs = search needs
+same-name-requires c κs = tt
 
 returns : tie.Need-returns
 unfolding tryPin

@@ -13,25 +13,25 @@ abbrev μ-loop : tie.MeasureT-loop
 μ-loop out₀ at waveforms rows start end next₀ i₀ out next i = end - i
 
 records-in-requires : tie.Need-records-in-requires Inv-loop μ-loop
-records-in-requires c κs = search needs
+records-in-requires c κs = tt
 
 end-in-requires : tie.Need-end-in-requires Inv-loop μ-loop
-end-in-requires c κs = search needs
+end-in-requires c κs = tt
 
 loop-holds : tie.Need-loop-holds Inv-loop μ-loop
 loop-holds c = search needs
 
 waveform-in-requires : tie.Need-waveform-in-requires Inv-loop μ-loop
-waveform-in-requires c κs = search needs
+waveform-in-requires c κs = tt
 
 waveform-lines-requires : tie.Need-waveform-lines-requires Inv-loop μ-loop
-waveform-lines-requires c κs = search needs
+waveform-lines-requires c κs = tt
 
 put-rows-requires : tie.Need-put-rows-requires Inv-loop μ-loop
-put-rows-requires c κs = search needs
+put-rows-requires c κs = tt
 
 flushed-requires : tie.Need-flushed-requires Inv-loop μ-loop
-flushed-requires c κs = search needs
+flushed-requires c κs = tt
 
 add-i : tie.Need-add-i Inv-loop μ-loop
 add-i c = search needs

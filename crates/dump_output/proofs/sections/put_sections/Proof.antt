@@ -13,22 +13,22 @@ abbrev μ-loop : tie.MeasureT-loop
 μ-loop out₀ at components pins selectors choices models waveforms rows n next₀ k₀ out next k = n - k
 
 sections-in-requires : tie.Need-sections-in-requires Inv-loop μ-loop
-sections-in-requires c κs = search needs
+sections-in-requires c κs = tt
 
 loop-holds : tie.Need-loop-holds Inv-loop μ-loop
 loop-holds c = search needs
 
 try-component-requires : tie.Need-try-component-requires Inv-loop μ-loop
-try-component-requires c κs = search needs
+try-component-requires c κs = tt
 
 try-selector-requires : tie.Need-try-selector-requires Inv-loop μ-loop
-try-selector-requires c κs = search needs
+try-selector-requires c κs = tt
 
 try-model-requires : tie.Need-try-model-requires Inv-loop μ-loop
-try-model-requires c κs = search needs
+try-model-requires c κs = tt
 
 flushed-requires : tie.Need-flushed-requires Inv-loop μ-loop
-flushed-requires c κs = search needs
+flushed-requires c κs = tt
 
 add-k : tie.Need-add-k Inv-loop μ-loop
 add-k c = search needs

@@ -11,16 +11,16 @@ abbrev μ-loop : tie.MeasureT-loop
 μ-loop table size k n i₀ i = n - i
 
 records-in-requires : tie.Need-records-in-requires Inv-loop μ-loop
-records-in-requires c κs = search needs
+records-in-requires c κs = tt
 
 loop-holds : tie.Need-loop-holds Inv-loop μ-loop
 loop-holds c = search needs
 
 record-at-requires : tie.Need-record-at-requires Inv-loop μ-loop
-record-at-requires c κs = search needs
+record-at-requires c κs = tt
 
 number-at-requires : tie.Need-number-at-requires Inv-loop μ-loop
-number-at-requires c κs = search needs
+number-at-requires c κs = tt
 
 returns : tie.Need-returns Inv-loop μ-loop
 returns c = search needs
