@@ -25,7 +25,7 @@ slice-aggregate-next-file-2 : tie.Need-slice-aggregate-next-file-2 Inv-loop μ-l
 slice-aggregate-next-file-2 c = search needs
 
 next-file-requires : tie.Need-next-file-requires Inv-loop μ-loop
-next-file-requires c κs = search needs
+next-file-requires c κs = tt
 
 enum-known-n : tie.Need-enum-known-n Inv-loop μ-loop
 enum-known-n c = search needs
@@ -37,16 +37,16 @@ slice-aggregate-front : tie.Need-slice-aggregate-front Inv-loop μ-loop
 slice-aggregate-front c = search needs
 
 front-requires : tie.Need-front-requires Inv-loop μ-loop
-front-requires c κs = search needs
+front-requires c κs = tt
 
 slice-aggregate-lengths-in : tie.Need-slice-aggregate-lengths-in Inv-loop μ-loop
 slice-aggregate-lengths-in c = search needs
 
 lengths-in-requires : tie.Need-lengths-in-requires Inv-loop μ-loop
-lengths-in-requires c κs = search needs
+lengths-in-requires c κs = tt
 
 print-next-requires : tie.Need-print-next-requires Inv-loop μ-loop
-print-next-requires c κs = search needs
+print-next-requires c κs = tt
 
 add-files : tie.Need-add-files Inv-loop μ-loop
 add-files c = omega (arith, c .before .before .before .before .before .before .before .before .before .before .before .before .before .before .before .before .before .before .before .before .loop-test .taken)
@@ -58,7 +58,7 @@ loop-again : tie.Need-loop-again Inv-loop μ-loop
 loop-again c = (omega (arith, c .before .before .before .before .before .before .before .before .before .before .before .before .before .before .before .before .before .before .before .before .loop-test .taken), search needs, search needs)
 
 look-requires : tie.Need-look-requires Inv-loop μ-loop
-look-requires c κs = search needs
+look-requires c κs = tt
 
 returns : tie.Need-returns Inv-loop μ-loop
 returns c = search needs

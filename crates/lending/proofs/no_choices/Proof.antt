@@ -1,14 +1,13 @@
 -- One record, over and over.
 use mathlib.Core.Path.{ap}
 use lib.ListN.{replicate}
-use borrow.Author.Needs.{needs}
 use Rattle.records.specs.declared.Choice.{Choice}
 use Rattle.lending.specs.Lent.{noChoices}
 use Rattle.lending.proofs.no_choices.Statement.{statement}
 use Rattle.lending.proofs.no_choices.Tie as tie
 
 blank-choice-requires : tie.Need-blank-choice-requires
-blank-choice-requires c κs = search needs
+blank-choice-requires c κs = tt
 
 returns : tie.Need-returns
 unfolding noChoices

@@ -1,14 +1,13 @@
 -- One record, over and over.
 use mathlib.Core.Path.{ap}
 use lib.ListN.{replicate}
-use borrow.Author.Needs.{needs}
 use Rattle.records.specs.declared.Selector.{Selector}
 use Rattle.lending.specs.Lent.{noSelectors}
 use Rattle.lending.proofs.no_selectors.Statement.{statement}
 use Rattle.lending.proofs.no_selectors.Tie as tie
 
 blank-selector-requires : tie.Need-blank-selector-requires
-blank-selector-requires c κs = search needs
+blank-selector-requires c κs = tt
 
 returns : tie.Need-returns
 unfolding noSelectors

@@ -1,14 +1,13 @@
 -- One record, over and over.
 use mathlib.Core.Path.{ap}
 use lib.ListN.{replicate}
-use borrow.Author.Needs.{needs}
 use Rattle.records.specs.declared.Component.{Component}
 use Rattle.lending.specs.Lent.{oneComponent}
 use Rattle.lending.proofs.one_component.Statement.{statement}
 use Rattle.lending.proofs.one_component.Tie as tie
 
 blank-component-requires : tie.Need-blank-component-requires
-blank-component-requires c κs = search needs
+blank-component-requires c κs = tt
 
 returns : tie.Need-returns
 unfolding oneComponent

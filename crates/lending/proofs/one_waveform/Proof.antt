@@ -1,14 +1,13 @@
 -- One record, over and over.
 use mathlib.Core.Path.{ap}
 use lib.ListN.{replicate}
-use borrow.Author.Needs.{needs}
 use Rattle.records.specs.declared.Waveform.{Waveform}
 use Rattle.lending.specs.Lent.{oneWaveform}
 use Rattle.lending.proofs.one_waveform.Statement.{statement}
 use Rattle.lending.proofs.one_waveform.Tie as tie
 
 blank-waveform-requires : tie.Need-blank-waveform-requires
-blank-waveform-requires c κs = search needs
+blank-waveform-requires c κs = tt
 
 returns : tie.Need-returns
 unfolding oneWaveform

@@ -14,7 +14,7 @@ loop-holds : tie.Need-loop-holds Inv-loop μ-loop
 loop-holds c = search needs
 
 buffer-requires : tie.Need-buffer-requires Inv-loop μ-loop
-buffer-requires c κs = search needs
+buffer-requires c κs = tt
 
 slice-aggregate-pin-line : tie.Need-slice-aggregate-pin-line Inv-loop μ-loop
 slice-aggregate-pin-line c = search needs
@@ -26,13 +26,13 @@ array-copy-out-pin-line : tie.Need-array-copy-out-pin-line Inv-loop μ-loop
 array-copy-out-pin-line c = search needs
 
 pin-line-requires : tie.Need-pin-line-requires Inv-loop μ-loop
-pin-line-requires c κs = search needs
+pin-line-requires c κs = tt
 
 slice-aggregate-put-out : tie.Need-slice-aggregate-put-out Inv-loop μ-loop
 slice-aggregate-put-out c = search needs
 
 put-out-requires : tie.Need-put-out-requires Inv-loop μ-loop
-put-out-requires c κs = search needs
+put-out-requires c κs = tt
 
 add-i : tie.Need-add-i Inv-loop μ-loop
 add-i c = search needs

@@ -15,7 +15,7 @@ loop-holds : tie.Need-loop-holds Inv-loop μ-loop
 loop-holds c = search needs
 
 buffer-requires : tie.Need-buffer-requires Inv-loop μ-loop
-buffer-requires c κs = search needs
+buffer-requires c κs = tt
 
 slice-aggregate-put-bytes : tie.Need-slice-aggregate-put-bytes Inv-loop μ-loop
 slice-aggregate-put-bytes c = search needs
@@ -24,7 +24,7 @@ slice-aggregate-put-bytes-2 : tie.Need-slice-aggregate-put-bytes-2 Inv-loop μ-l
 slice-aggregate-put-bytes-2 c = search needs
 
 put-bytes-requires : tie.Need-put-bytes-requires Inv-loop μ-loop
-put-bytes-requires c κs = search needs
+put-bytes-requires c κs = tt
 
 slice-aggregate-put-number : tie.Need-slice-aggregate-put-number Inv-loop μ-loop
 slice-aggregate-put-number c = search needs
@@ -36,19 +36,19 @@ shared-slice-read-put-number : tie.Need-shared-slice-read-put-number Inv-loop μ
 shared-slice-read-put-number c = search needs
 
 put-number-requires : tie.Need-put-number-requires Inv-loop μ-loop
-put-number-requires c κs = search needs
+put-number-requires c κs = tt
 
 slice-aggregate-put-byte : tie.Need-slice-aggregate-put-byte Inv-loop μ-loop
 slice-aggregate-put-byte c = search needs
 
 put-byte-requires : tie.Need-put-byte-requires Inv-loop μ-loop
-put-byte-requires c κs = search needs
+put-byte-requires c κs = tt
 
 slice-aggregate-put-out : tie.Need-slice-aggregate-put-out Inv-loop μ-loop
 slice-aggregate-put-out c = search needs
 
 put-out-requires : tie.Need-put-out-requires Inv-loop μ-loop
-put-out-requires c κs = search needs
+put-out-requires c κs = tt
 
 add-i : tie.Need-add-i Inv-loop μ-loop
 add-i c = search needs

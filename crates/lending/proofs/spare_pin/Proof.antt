@@ -1,10 +1,9 @@
 -- A blank pin but for its name.
-use borrow.Author.Needs.{needs}
 use Rattle.lending.proofs.spare_pin.Statement.{statement}
 use Rattle.lending.proofs.spare_pin.Tie as tie
 
 blank-pin-requires : tie.Need-blank-pin-requires
-blank-pin-requires c κs = search needs
+blank-pin-requires c κs = tt
 
 returns : tie.Need-returns
 returns c = rw (c .blank-pin .ensures)

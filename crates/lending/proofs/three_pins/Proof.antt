@@ -1,14 +1,13 @@
 -- One record, over and over.
 use mathlib.Core.Path.{ap}
 use lib.ListN.{replicate}
-use borrow.Author.Needs.{needs}
 use Rattle.records.specs.declared.Pin.{Pin}
 use Rattle.lending.specs.Lent.{threePins}
 use Rattle.lending.proofs.three_pins.Statement.{statement}
 use Rattle.lending.proofs.three_pins.Tie as tie
 
 spare-pin-requires : tie.Need-spare-pin-requires
-spare-pin-requires c κs = search needs
+spare-pin-requires c κs = tt
 
 returns : tie.Need-returns
 unfolding threePins

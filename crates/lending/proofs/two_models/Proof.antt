@@ -1,14 +1,13 @@
 -- One record, over and over.
 use mathlib.Core.Path.{ap}
 use lib.ListN.{replicate}
-use borrow.Author.Needs.{needs}
 use Rattle.records.specs.declared.Model.{Model}
 use Rattle.lending.specs.Lent.{twoModels}
 use Rattle.lending.proofs.two_models.Statement.{statement}
 use Rattle.lending.proofs.two_models.Tie as tie
 
 blank-model-requires : tie.Need-blank-model-requires
-blank-model-requires c κs = search needs
+blank-model-requires c κs = tt
 
 returns : tie.Need-returns
 unfolding twoModels

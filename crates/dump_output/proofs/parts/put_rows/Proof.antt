@@ -25,7 +25,7 @@ record-at-requires : tie.Need-record-at-requires Inv-loop μ-loop
 record-at-requires c κs = tt
 
 put-row-requires : tie.Need-put-row-requires Inv-loop μ-loop
-put-row-requires c κs = search needs
+put-row-requires c κs = tt
 
 flushed-requires : tie.Need-flushed-requires Inv-loop μ-loop
 flushed-requires c κs = tt

@@ -11,16 +11,16 @@ abbrev μ-loop : tie.MeasureT-loop
 μ-loop models n width₀ i₀ width i = n - i
 
 records-in-requires : tie.Need-records-in-requires Inv-loop μ-loop
-records-in-requires c κs = search needs
+records-in-requires c κs = tt
 
 loop-holds : tie.Need-loop-holds Inv-loop μ-loop
 loop-holds c = search needs
 
 model-in-requires : tie.Need-model-in-requires Inv-loop μ-loop
-model-in-requires c κs = search needs
+model-in-requires c κs = tt
 
 wider-requires : tie.Need-wider-requires Inv-loop μ-loop
-wider-requires c κs = search needs
+wider-requires c κs = tt
 
 add-i : tie.Need-add-i Inv-loop μ-loop
 add-i c = search needs

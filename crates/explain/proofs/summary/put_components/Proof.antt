@@ -13,16 +13,16 @@ abbrev μ-loop : tie.MeasureT-loop
 μ-loop out₀ at w components pins selectors choices models n next₀ i₀ out next i = n - i
 
 records-in-requires : tie.Need-records-in-requires Inv-loop μ-loop
-records-in-requires c κs = search needs
+records-in-requires c κs = tt
 
 loop-holds : tie.Need-loop-holds Inv-loop μ-loop
 loop-holds c = search needs
 
 component-in-requires : tie.Need-component-in-requires Inv-loop μ-loop
-component-in-requires c κs = search needs
+component-in-requires c κs = tt
 
 put-component-requires : tie.Need-put-component-requires Inv-loop μ-loop
-put-component-requires c κs = search needs
+put-component-requires c κs = tt
 
 add-i : tie.Need-add-i Inv-loop μ-loop
 add-i c = search needs

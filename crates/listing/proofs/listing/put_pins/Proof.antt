@@ -13,19 +13,19 @@ abbrev μ-loop : tie.MeasureT-loop
 μ-loop out₀ at pins selectors choices models n next₀ i₀ out next i = n - i
 
 records-in-requires : tie.Need-records-in-requires Inv-loop μ-loop
-records-in-requires c κs = search needs
+records-in-requires c κs = tt
 
 loop-holds : tie.Need-loop-holds Inv-loop μ-loop
 loop-holds c = search needs
 
 pin-in-requires : tie.Need-pin-in-requires Inv-loop μ-loop
-pin-in-requires c κs = search needs
+pin-in-requires c κs = tt
 
 put-pin-requires : tie.Need-put-pin-requires Inv-loop μ-loop
-put-pin-requires c κs = search needs
+put-pin-requires c κs = tt
 
 flushed-requires : tie.Need-flushed-requires Inv-loop μ-loop
-flushed-requires c κs = search needs
+flushed-requires c κs = tt
 
 add-i : tie.Need-add-i Inv-loop μ-loop
 add-i c = search needs
