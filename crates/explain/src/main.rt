@@ -1,52 +1,14 @@
 // Standard input is read as a file and told to a person: a summary, or the fault and its line. All rows that a file can have are lent.
 // The first argument is the file's name.
-use program_output::put_out;
+use explain_output::print_answer;
 use program_output::tables::CHOICE_TABLE;
 use program_output::tables::COMPONENT_TABLE;
 use program_output::tables::MODEL_TABLE;
 use program_output::tables::PIN_TABLE;
 use program_output::tables::SELECTOR_TABLE;
 use program_output::tables::WAVEFORM_TABLE;
-use records::Answer;
-use records::Fault;
-use records::Verdict;
-
-mod summary; // summary.rt: the summary of an accepted file
-
-fn print_refusal(out: &mut [u8], name: &[u8], src: &[u8], fault: Fault) {
-    let n = explain_text::put_refusal(out, 0, name, src, fault);
-    put_out(out, n);
-}
-
-fn print_answer(
-    out: &mut [u8],
-    name: &[u8],
-    src: &[u8],
-    answer: Answer,
-    components: &[u64],
-    pins: &[u64],
-    selectors: &[u64],
-    choices: &[u64],
-    models: &[u64],
-) {
-    let verdict = answer.verdict;
-    match verdict {
-        Verdict::Accepted => summary::print_summary(
-            out,
-            name,
-            answer,
-            components,
-            pins,
-            selectors,
-            choices,
-            models,
-        ),
-        Verdict::Refused(f) => print_refusal(out, name, src, f),
-    }
-}
 
 fn print_file(name: &[u8], src: &[u8]) {
-    let mut out = io::large_buffer();
     let mut components = [0u64; COMPONENT_TABLE];
     let mut pins = [0u64; PIN_TABLE];
     let mut selectors = [0u64; SELECTOR_TABLE];
@@ -65,7 +27,6 @@ fn print_file(name: &[u8], src: &[u8]) {
         &mut rows,
     );
     print_answer(
-        &mut out,
         name,
         src,
         answer,

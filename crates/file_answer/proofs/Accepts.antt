@@ -30,13 +30,13 @@ use Rattle.layout_by_notes.specs.Lies.{pick, isOf, noted, componentNoted, pinNo
 use Rattle.layout_by_notes.proofs.Tables.{lies}
 use Rattle.name_checks.specs.Lookup as look
 use Rattle.name_checks.proofs.SortLaws.{many-count}
-use Rattle.scan.specs.Events.{logOf}
-use Rattle.scan.specs.Scans.{faultOfEnding, finishIs, WithinAt}
-use Rattle.scan.specs.declared.Tally.{Tally}
-use Rattle.scan.specs.declared.Scanned.{Scanned}
-use Rattle.scan.specs.declared.Ending.{Ending}
-use Rattle.scan.specs.declared.Ending.the-variants.{Whole, Broken}
-use Rattle.scan.proofs.EventLaws.{names-small}
+use Rattle.noted_events.specs.Events.{logOf}
+use Rattle.file_answer.specs.Scans.{faultOfEnding, finishIs, WithinAt}
+use Rattle.noted_events.specs.declared.Tally.{Tally}
+use Rattle.file_answer.specs.declared.Scanned.{Scanned}
+use Rattle.file_answer.specs.declared.Ending.{Ending}
+use Rattle.file_answer.specs.declared.Ending.the-variants.{Whole, Broken}
+use Rattle.noted_events.proofs.EventLaws.{names-small}
 use Rattle.component_records.specs.Views.{headerLaid}
 use Rattle.file_answer.specs.Answered.{refusal, answerOf, answerFor, verdictOf}
 use Rattle.file_answer.specs.Sorted.{upTo, Sorted, SortedFor, Outlines, ReadWhole}

@@ -1,4 +1,5 @@
 -- Laws of what is answered.
+pub mod ScanLaws
 pub mod Laws
 pub mod UpTo
 pub mod SortedLaws

@@ -1,3 +1,4 @@
 -- What is answered to a file, and what is noted of it.
+pub mod Scans
 pub mod Answered
 pub mod Sorted

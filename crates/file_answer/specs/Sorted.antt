@@ -13,8 +13,8 @@ use Rattle.records.specs.declared.Lengths.{Lengths}
 use Rattle.rules.specs.declared.Stage.the-variants.{BeforeVersion}
 use Rattle.notes.specs.Noted.{Log, entryOf, runLog, emptyLog, whole, clash}
 use Rattle.note_words.specs.Store.{waveAt, notesTo, storeLength}
-use Rattle.scan.specs.Events.{logOf, Within}
-use Rattle.scan.specs.declared.Tally.{Tally}
+use Rattle.noted_events.specs.Events.{logOf, Within}
+use Rattle.noted_events.specs.declared.Tally.{Tally}
 use Rattle.layout_by_notes.specs.Lies.{noted}
 use Rattle.from_notes.specs.Made.{noteBy}
 use Rattle.file_answer.specs.Answered.{answerOf}

@@ -11,19 +11,20 @@ ghost use Rattle.component_records.specs.Views.{headerLaid};
 ghost use Rattle.file_answer.specs.Answered.{refusal, verdictOf};
 ghost use Rattle.file_answer.specs.Sorted.{Outlines, ReadWhole};
 ghost use Rattle.records.specs.declared.Verdict.the-variants.{Accepted};
+use crate::Ending;
+use crate::reading::scan;
 use cut_lines::Cursor;
 use lines::Bytes;
 use name_checks::Clash;
 use name_checks::Last;
 use note_words::STORE_LENGTH;
+use noted_events::Tally;
 use records::Answer;
 use records::Counts;
 use records::Fault;
 use records::Header;
 use records::Lengths;
 use records::Verdict;
-use scan::Ending;
-use scan::Tally;
 
 fn refused(f: Fault) -> Answer
     ensures { λ r. ⌜ r ≡ refusal (f .number) (f .line) ⌝ }
@@ -76,7 +77,7 @@ fn settle(src: &[u8], l: Lengths, notes: &mut [u32]) -> Answer
     requires { ⌜ (bytesFault (now src) ≡ Clean) × (storeLength ≤ length (now notes)) ⌝ }
     ensures { λ r. ⌜ Outlines l (now (src .entry)) r (now (notes .exit)) ⌝ }
 {
-    let z = scan::scan(notes, src, l);
+    let z = scan(notes, src, l);
     let t = z.tally;
     let ending = z.ending;
     match name_checks::first_clash(src, notes, t.names) {

@@ -7,7 +7,7 @@ use lib.ListN.{length, length-drop}
 use Rattle.laws.proofs.Lists.{part-length}
 use Rattle.words.specs.Places.{WordAt}
 use Rattle.named_lines.specs.Places.{NameIs}
-use Rattle.scan.specs.Places.{FirstIn, ArgumentIn}
+use Rattle.noted_events.specs.Places.{FirstIn, ArgumentIn}
 use Rattle.name_checks.specs.Lookup.{Within}
 use Rattle.text_buffer.specs.Put.{Put}
 use Rattle.text_buffer.specs.Parts.{PartAt}

@@ -5,8 +5,8 @@ use borrow.Author.Needs.{needs}
 use denote.Ref.{now}
 use Rattle.name_checks.specs.Lookup.{lastIs}
 use Rattle.notes.specs.Noted.{heldOf}
-use Rattle.scan.specs.Events.{logOf}
-use Rattle.scan.proofs.EventLaws.{names-small}
+use Rattle.noted_events.specs.Events.{logOf}
+use Rattle.noted_events.proofs.EventLaws.{names-small}
 use Rattle.rules.specs.Whole.{passed}
 use Rattle.file_answer.proofs.Accepts.{refuses, accepts, roomy, through}
 use Rattle.file_answer.proofs.settling.last_checks.Statement.{statement}

@@ -10,7 +10,7 @@ name-from-requires : tie.Need-name-from-requires
 name-from-requires c κs = tt
 
 returns : tie.Need-returns
-returns c = cc
+returns c = rw (c .name-from .ensures, c .before .words-from .ensures)
 
 pub name-at-spec : {M : Type 1} → statement M
 name-at-spec = tie.close (tie.spec words-from-requires name-from-requires returns)

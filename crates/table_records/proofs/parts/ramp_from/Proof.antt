@@ -28,7 +28,7 @@ cell-at-requires c κs = search needs
 
 returns : tie.Need-returns
 unfolding rampFrom
-returns c = cc
+returns c = rw (c .cell-at .ensures, c .before .slopes-from2 .ensures, c .before .before .words-from2 .ensures, c .before .before .before .slopes-from .ensures, c .before .before .before .before .words-from .ensures, c .before .before .before .before .before .flag-in .ensures, c .before .before .before .before .before .before .number-at .ensures)
 
 pub ramp-from-spec : {M : Type 1} → statement M
 ramp-from-spec =

@@ -19,7 +19,7 @@ triple-from-requires c κs = tt
 
 returns : tie.Need-returns
 unfolding rangeFrom
-returns c = cc
+returns c = rw (c .triple-from .ensures, c .before .words-from .ensures, c .before .before .flag-in .ensures, c .before .before .before .number-at .ensures)
 
 pub range-from-spec : {M : Type 1} → statement M
 range-from-spec =

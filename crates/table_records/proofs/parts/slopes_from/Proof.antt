@@ -34,7 +34,7 @@ slope-in-requires-3 c κs = tt
 
 returns : tie.Need-returns
 unfolding slopesFrom
-returns c = cc
+returns c = rw (c .slope-in3 .ensures, c .before .cell-at6 .ensures, c .before .before .cell-at5 .ensures, c .before .before .before .slope-in2 .ensures, c .before .before .before .before .cell-at4 .ensures, c .before .before .before .before .before .cell-at3 .ensures, c .before .before .before .before .before .before .slope-in .ensures, c .before .before .before .before .before .before .before .cell-at2 .ensures, c .before .before .before .before .before .before .before .before .cell-at .ensures)
 
 pub slopes-from-spec : {M : Type 1} → statement M
 slopes-from-spec =

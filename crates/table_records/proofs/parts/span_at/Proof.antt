@@ -10,7 +10,7 @@ span-from-requires : tie.Need-span-from-requires
 span-from-requires c κs = tt
 
 returns : tie.Need-returns
-returns c = cc
+returns c = rw (c .span-from .ensures, c .before .words-from .ensures)
 
 pub span-at-spec : {M : Type 1} → statement M
 span-at-spec = tie.close (tie.spec words-from-requires span-from-requires returns)

@@ -13,7 +13,7 @@ number-at-requires-2 c κs = search needs
 
 returns : tie.Need-returns
 unfolding spanFrom
-returns c = cc
+returns c = rw (c .number-at2 .ensures, c .before .number-at .ensures)
 
 pub span-from-spec : {M : Type 1} → statement M
 span-from-spec = tie.close (tie.spec number-at-requires number-at-requires-2 returns)

@@ -10,7 +10,7 @@ table-from-requires : tie.Need-table-from-requires
 table-from-requires c κs = tt
 
 returns : tie.Need-returns
-returns c = cc
+returns c = rw (c .table-from .ensures, c .before .words-from .ensures)
 
 pub table-at-spec : {M : Type 1} → statement M
 table-at-spec = tie.close (tie.spec words-from-requires table-from-requires returns)

@@ -19,7 +19,7 @@ span-from-requires c κs = tt
 
 returns : tie.Need-returns
 unfolding tableFrom
-returns c = cc
+returns c = rw (c .span-from .ensures, c .before .words-from .ensures, c .before .before .flag-in .ensures, c .before .before .before .number-at .ensures)
 
 pub table-from-spec : {M : Type 1} → statement M
 table-from-spec =

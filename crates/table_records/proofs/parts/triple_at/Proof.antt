@@ -10,7 +10,7 @@ triple-from-requires : tie.Need-triple-from-requires
 triple-from-requires c κs = tt
 
 returns : tie.Need-returns
-returns c = cc
+returns c = rw (c .triple-from .ensures, c .before .words-from .ensures)
 
 pub triple-at-spec : {M : Type 1} → statement M
 triple-at-spec = tie.close (tie.spec words-from-requires triple-from-requires returns)

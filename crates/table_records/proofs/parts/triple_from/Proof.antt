@@ -16,7 +16,7 @@ cell-at-requires-3 c κs = search needs
 
 returns : tie.Need-returns
 unfolding tripleFrom
-returns c = cc
+returns c = rw (c .cell-at3 .ensures, c .before .cell-at2 .ensures, c .before .before .cell-at .ensures)
 
 pub triple-from-spec : {M : Type 1} → statement M
 triple-from-spec =

@@ -15,7 +15,7 @@ text-from-requires c κs = tt
 
 returns : tie.Need-returns
 unfolding choiceFrom
-returns c = cc
+returns c = rw (c .text-from .ensures, c .before .words-from .ensures, c .before .before .name-from .ensures)
 
 pub choice-from-spec : {M : Type 1} → statement M
 choice-from-spec =

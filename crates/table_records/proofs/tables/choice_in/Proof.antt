@@ -10,7 +10,7 @@ choice-from-requires : tie.Need-choice-from-requires
 choice-from-requires c κs = tt
 
 returns : tie.Need-returns
-returns c = cc
+returns c = rw (c .choice-from .ensures, c .before .record-at .ensures)
 
 pub choice-in-spec : {M : Type 1} → statement M
 choice-in-spec = tie.close (tie.spec record-at-requires choice-from-requires returns)

@@ -10,7 +10,7 @@ component-from-requires : tie.Need-component-from-requires
 component-from-requires c κs = tt
 
 returns : tie.Need-returns
-returns c = cc
+returns c = rw (c .component-from .ensures, c .before .record-at .ensures)
 
 pub component-in-spec : {M : Type 1} → statement M
 component-in-spec = tie.close (tie.spec record-at-requires component-from-requires returns)

@@ -10,7 +10,7 @@ model-from-requires : tie.Need-model-from-requires
 model-from-requires c κs = tt
 
 returns : tie.Need-returns
-returns c = cc
+returns c = rw (c .model-from .ensures, c .before .record-at .ensures)
 
 pub model-in-spec : {M : Type 1} → statement M
 model-in-spec = tie.close (tie.spec record-at-requires model-from-requires returns)

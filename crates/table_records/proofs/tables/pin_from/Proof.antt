@@ -25,7 +25,7 @@ cell-at-requires-3 c κs = search needs
 
 returns : tie.Need-returns
 unfolding pinFrom
-returns c = cc
+returns c = rw (c .cell-at3 .ensures, c .before .cell-at2 .ensures, c .before .before .cell-at .ensures, c .before .before .before .name-at2 .ensures, c .before .before .before .before .name-at .ensures, c .before .before .before .before .before .name-from .ensures)
 
 pub pin-from-spec : {M : Type 1} → statement M
 pin-from-spec =

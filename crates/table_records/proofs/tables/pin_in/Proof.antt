@@ -10,7 +10,7 @@ pin-from-requires : tie.Need-pin-from-requires
 pin-from-requires c κs = tt
 
 returns : tie.Need-returns
-returns c = cc
+returns c = rw (c .pin-from .ensures, c .before .record-at .ensures)
 
 pub pin-in-spec : {M : Type 1} → statement M
 pin-in-spec = tie.close (tie.spec record-at-requires pin-from-requires returns)

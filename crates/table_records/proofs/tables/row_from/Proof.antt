@@ -16,7 +16,7 @@ as-row-requires c κs = tt
 
 returns : tie.Need-returns
 unfolding rowFrom
-returns c = cc
+returns c = rw (c .as-row .ensures, c .before .triple-at .ensures, c .before .before .cell-at .ensures)
 
 pub row-from-spec : {M : Type 1} → statement M
 row-from-spec = tie.close (tie.spec cell-at-requires triple-at-requires as-row-requires returns)

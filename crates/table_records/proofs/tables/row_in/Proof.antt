@@ -10,7 +10,7 @@ row-from-requires : tie.Need-row-from-requires
 row-from-requires c κs = tt
 
 returns : tie.Need-returns
-returns c = cc
+returns c = rw (c .row-from .ensures, c .before .record-at .ensures)
 
 pub row-in-spec : {M : Type 1} → statement M
 row-in-spec = tie.close (tie.spec record-at-requires row-from-requires returns)

@@ -16,7 +16,7 @@ span-at-requires c κs = tt
 
 returns : tie.Need-returns
 unfolding selectorFrom
-returns c = cc
+returns c = rw (c .span-at .ensures, c .before .name-at .ensures, c .before .before .number-at .ensures)
 
 pub selector-from-spec : {M : Type 1} → statement M
 selector-from-spec =

@@ -10,7 +10,7 @@ selector-from-requires : tie.Need-selector-from-requires
 selector-from-requires c κs = tt
 
 returns : tie.Need-returns
-returns c = cc
+returns c = rw (c .selector-from .ensures, c .before .record-at .ensures)
 
 pub selector-in-spec : {M : Type 1} → statement M
 selector-in-spec = tie.close (tie.spec record-at-requires selector-from-requires returns)

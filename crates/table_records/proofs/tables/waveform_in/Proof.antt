@@ -11,7 +11,7 @@ waveform-from-requires : tie.Need-waveform-from-requires
 waveform-from-requires c κs = search needs
 
 returns : tie.Need-returns
-returns c = cc
+returns c = rw (c .waveform-from .ensures, c .before .record-at .ensures)
 
 pub waveform-in-spec : {M : Type 1} → statement M
 waveform-in-spec = tie.close (tie.spec record-at-requires waveform-from-requires returns)

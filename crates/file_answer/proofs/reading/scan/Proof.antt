@@ -1,0 +1,76 @@
+-- The lines from here on, with what is noted so far, give what all lines give.
+use Prim.Native.Nat.{_-_}
+use mathlib.Core.Path.{_≡_, refl, _∙_, subst}
+use lib.ListN.{length}
+use native.Mathlib.Omega.{arith}
+use borrow.Author.Needs.{needs}
+use denote.Ref.{now}
+use Rattle.file_answer.specs.Scans.{Sound, runFrom, TurnIs}
+use Rattle.file_answer.proofs.ScanLaws.{first-sound, first-run}
+use Rattle.file_answer.proofs.reading.scan.Statement.{statement}
+use Rattle.file_answer.proofs.reading.scan.Tie as tie
+
+abbrev Inv-loop : tie.InvT-loop
+Inv-loop notes₀ src l x₀ notes x = Sound src notes x × (length notes ≡ length notes₀) × (runFrom l src notes₀ x₀ ≡ runFrom l src notes x)
+
+abbrev μ-loop : tie.MeasureT-loop
+μ-loop notes₀ src l x₀ notes x = length src - x .cursor .at
+
+first-requires : tie.Need-first-requires Inv-loop μ-loop
+first-requires c κs = tt
+
+nothing-requires : tie.Need-nothing-requires Inv-loop μ-loop
+nothing-requires c κs = tt
+
+loop-holds : tie.Need-loop-holds Inv-loop μ-loop
+loop-holds c = (rw (c .before .first .ensures) rw (c .nothing .ensures) (first-sound (now (c .before .before .before .before .args .src)) (now (c .before .before .before .before .args .notes)) (c .before .before .before .before .pre .0) (c .before .before .before .before .pre .1)), refl, refl)
+
+turn-requires : tie.Need-turn-requires Inv-loop μ-loop
+turn-requires c κs = c .before .loop .inv .0
+
+enum-known-y : tie.Need-enum-known-y Inv-loop μ-loop
+enum-known-y c = search needs
+
+loop-less : tie.Need-loop-less Inv-loop μ-loop
+loop-less c =
+    let a = c .before .before .before .before .before .before .before .before .before .before .before .before .args in
+    let h = subst (TurnIs (a .l) (now (a .src)) (c .before .before .before .before .before .before .before .loop .notes) (c .before .before .before .before .before .before .before .loop .x) (c .before .before .before .before .before .turn .last .0)) (c .before .y .given .1) (c .before .before .before .before .before .turn .ensures) in
+    omega (arith, h .rises, h .placed .within)
+
+loop-again : tie.Need-loop-again Inv-loop μ-loop
+loop-again c =
+    let a = c .before .before .before .before .before .before .before .before .before .before .before .before .args in
+    let i = c .before .before .before .before .before .before .before .loop .inv in
+    let n = c .before .before .before .before .notes .given in
+    let h = subst (TurnIs (a .l) (now (a .src)) (c .before .before .before .before .before .before .before .loop .notes) (c .before .before .before .before .before .before .before .loop .x) (c .before .before .before .before .before .turn .last .0)) (c .before .y .given .1) (c .before .before .before .before .before .turn .ensures) in
+    (record { placed = h .placed; small = i .0 .small; store = omega (arith, n, i .0 .store); within = h .within; rows = h .rows }, n ∙ i .1, i .2 ∙ h .says)
+
+enum-known-z : tie.Need-enum-known-z Inv-loop μ-loop
+enum-known-z c = search needs
+
+same-length : tie.Need-same-length Inv-loop μ-loop
+same-length c = c .before .before .before .before .notes .given ∙ c .before .before .before .before .before .before .before .loop .inv .1
+
+returns : tie.Need-returns Inv-loop μ-loop
+returns c =
+    let a = c .before .before .before .before .before .before .before .before .before .before .before .before .args in
+    let i = c .before .before .before .before .before .before .before .loop .inv in
+    let h = subst (TurnIs (a .l) (now (a .src)) (c .before .before .before .before .before .before .before .loop .notes) (c .before .before .before .before .before .before .before .loop .x) (c .before .before .before .before .before .turn .last .0)) (c .before .z .given .1) (c .before .before .before .before .before .turn .ensures) in
+    (first-run (a .l) (now (a .src)) (now (a .notes)) _ _ (c .before .before .before .before .before .before .before .before .before .first .ensures) (c .before .before .before .before .before .before .before .before .nothing .ensures) ∙ i .2 ∙ h .says, (h .names, h .within))
+
+pub scan-spec : {M : Type 1} → statement M
+scan-spec =
+    tie.close
+    (tie.spec
+    Inv-loop
+    μ-loop
+    first-requires
+    nothing-requires
+    loop-holds
+    turn-requires
+    enum-known-y
+    loop-less
+    loop-again
+    enum-known-z
+    same-length
+    returns)

@@ -1,0 +1,87 @@
+-- The lines read from a place on, as the code answers it.
+use Prim.Native.Nat.{ℕ, _≤_, _<_}
+use mathlib.Core.Path.{_≡_}
+use mathlib.Core.List.{List}
+use mathlib.Core.Option.{Option, none, some}
+use lib.ListN.{length}
+use Rattle.laws.specs.Lists.{part}
+use Rattle.records.specs.declared.Fault.{Fault}
+use Rattle.cut_lines.specs.Texts.{plain, change}
+use Rattle.cut_lines.specs.Cursors.{rest, past, Placed}
+use Rattle.cut_lines.specs.declared.Cursor.{Cursor}
+use Rattle.rules.specs.Steps.{onPlain, onChange}
+use Rattle.records.specs.declared.Lengths.{Lengths}
+use Rattle.rules.specs.declared.Stage.{Stage}
+use Rattle.notes.specs.Noted.{Log, Finish, afterWent, runLog}
+use Rattle.note_words.specs.Store.{mostNames, storeLength}
+use Rattle.noted_events.specs.Events.{logOf, Within, KeptCounts}
+use Rattle.noted_events.specs.declared.Spot.{Spot}
+use Rattle.noted_events.specs.declared.Tally.{Tally}
+use Rattle.file_answer.specs.declared.Standing.{Standing}
+use Rattle.file_answer.specs.declared.Scanned.{Scanned}
+use Rattle.file_answer.specs.declared.Ending.{Ending}
+use Rattle.file_answer.specs.declared.Ending.the-variants.{Whole, Broken}
+use Rattle.file_answer.specs.declared.Turn.{Turn}
+use Rattle.file_answer.specs.declared.Turn.the-variants.{On, End}
+
+abbrev pub faultOfEnding : Ending → Option Fault
+faultOfEnding Whole = none
+faultOfEnding (Broken f) = some f
+
+abbrev pub finishIs : List ℕ → List ℕ → Scanned → Finish
+finishIs s xs r = record { fault = faultOfEnding (r .ending); log = logOf s xs (r .tally) }
+
+-- ---- one text: n is the number of the line after the last
+
+abbrev pub textStep : Lengths → ℕ → List ℕ → List ℕ → Stage → Tally → Spot → Finish
+textStep l n s xs g t p =
+    afterWent l (logOf s xs t) (plain (p .line) (part (p .start) (p .end) s)) (rest s (p .next))
+    (λ (u : Stage) (h : Log). runLog l n u h (rest s (p .next)))
+    (onPlain g (p .line) (part (p .start) (p .end) s))
+
+abbrev pub changeStep : Lengths → ℕ → List ℕ → List ℕ → Stage → Tally → ℕ → ℕ → Cursor → Finish
+changeStep l n s xs g t k f c =
+    afterWent l (logOf s xs t) (change k f) (rest s c) (λ (u : Stage) (h : Log). runLog l n u h (rest s c)) (onChange g k f)
+
+-- the rest of the lines from here on gives what the text gives
+pub record GoesOn (l : Lengths) (n : ℕ) (s xs : List ℕ) (f : Finish) (t : Tally) (c : Cursor) (y : Standing) : Type 0 where
+  pub says : f ≡ runLog l n (y .stage) (logOf s xs (y .tally)) (rest s (y .cursor))
+  pub cursor : y .cursor ≡ c
+  pub kept : KeptCounts t (y .tally)
+
+-- lines read to the end leave a tally within the bounds
+abbrev pub WithinAt : Tally → Ending → Type 0
+WithinAt t Whole = Within t
+WithinAt t (Broken f) = Unit {0}
+
+pub record Ends (s xs : List ℕ) (f : Finish) (z : Scanned) : Type 0 where
+  pub says : f ≡ finishIs s xs z
+  pub names : z .tally .names ≤ mostNames
+  pub within : WithinAt (z .tally) (z .ending)
+
+abbrev pub StepIs : Lengths → ℕ → List ℕ → List ℕ → Finish → Tally → Cursor → Turn → Type 0
+StepIs l n s xs f t c (On y) = GoesOn l n s xs f t c y
+StepIs l n s xs f t c (End z) = Ends s xs f z
+
+-- ---- from a place on
+
+abbrev pub runFrom : Lengths → List ℕ → List ℕ → Standing → Finish
+runFrom l s xs x = runLog l (past s (x .cursor)) (x .stage) (logOf s xs (x .tally)) (rest s (x .cursor))
+
+pub record Sound (s xs : List ℕ) (x : Standing) : Type 0 where
+  pub placed : Placed s (x .cursor)
+  pub small : length s ≤ 65536
+  pub store : storeLength ≤ length xs
+  pub within : Within (x .tally)
+  pub rows : x .tally .counts .rows ≤ x .cursor .at
+
+pub record Moves (l : Lengths) (s xs : List ℕ) (x : Standing) (ys : List ℕ) (y : Standing) : Type 0 where
+  pub says : runFrom l s xs x ≡ runFrom l s ys y
+  pub placed : Placed s (y .cursor)
+  pub within : Within (y .tally)
+  pub rows : y .tally .counts .rows ≤ y .cursor .at
+  pub rises : x .cursor .at < y .cursor .at
+
+abbrev pub TurnIs : Lengths → List ℕ → List ℕ → Standing → List ℕ → Turn → Type 0
+TurnIs l s xs x ys (On y) = Moves l s xs x ys y
+TurnIs l s xs x ys (End z) = Ends s ys (runFrom l s xs x) z

@@ -1,0 +1,151 @@
+-- Laws of `specs/Events.antt`: the log with one thing more is the store with its words written.
+use Prim.Native.Nat.{ℕ, _+_, _*_, _≤_, _<_, min}
+use mathlib.Core.Path.{_≡_, refl, sym, ap, _∙_}
+use mathlib.Core.List.{List, []}
+use mathlib.Core.Bool.{Bool, true, false, cond}
+use native.Mathlib.Omega.{arith}
+use lib.ListN.{length, drop}
+use lib.Seq.{sets, getD-drop}
+use lib.Dec.{leb}
+use borrow.Author.Tests.{le-leb, lt-leb, eq-eqb, ne-eqb}
+use Rattle.laws.specs.Lists.{part}
+use Rattle.laws.proofs.Tests.{by-test, cond-yes, cond-no}
+use Rattle.words.specs.Words.{word, words}
+use Rattle.words.specs.declared.Word.{Word}
+use Rattle.cut_lines.specs.Cursors.{rest}
+use Rattle.rules.specs.Whole.{bound}
+use Rattle.records.specs.Bounds.{most, mostWaveforms}
+use Rattle.records.specs.declared.Kind.{Kind}
+use Rattle.records.specs.declared.Kind.the-variants.{OfComponent, OfPin, OfSelector, OfChoice, OfModel}
+use Rattle.rules.specs.declared.Event.the-variants.{WaveformOpened, TableRow, Ended}
+use Rattle.records.specs.declared.Lengths.{Lengths}
+use Rattle.notes.specs.Noted.{Note, used, oneMore, moreWaveforms, moreRows, sections, rowNote, going, full, withNote}
+use Rattle.notes.proofs.Settles.{more-waveforms}
+use Rattle.note_words.specs.Store.{namesHeld, wordsPerName, wordsPerWave, wavesFrom, wordsOfSection, sectionFrom, wordsOfRow, rowFrom, kindOf, isSection, noteAt, waveWords, logIn}
+use Rattle.note_words.specs.declared.SectionNote.{SectionNote}
+use Rattle.note_words.specs.declared.RowNote.{RowNote}
+use Rattle.note_words.proofs.Laws.{section-said, row-said, log-note, log-wave}
+use Rattle.noted_events.specs.Places.{FirstIn}
+use Rattle.noted_events.specs.Events.{logOf, toldIs, loggedAt, sectionIn, rowIn, counted, Within, KeptCounts, Ready}
+use Rattle.noted_events.specs.declared.Spot.{Spot}
+use Rattle.noted_events.specs.declared.Tally.{Tally}
+use Rattle.noted_events.specs.declared.Told.{Told}
+use Rattle.noted_events.specs.declared.Told.the-variants.{Going, Full}
+
+-- ---- names
+
+pub names-small : (t : Tally) → Within t → t .names ≤ namesHeld
+names-small t w = omega (arith, w .names, w .components, w .pins, w .selectors, w .choices, w .models)
+
+pub used-small : (t : Tally) (k : Kind) → Within t → used (t .counts) k ≤ most OfPin
+used-small t OfComponent w = omega (arith, w .components)
+used-small t OfPin w = w .pins
+used-small t OfSelector w = omega (arith, w .selectors)
+used-small t OfChoice w = omega (arith, w .choices)
+used-small t OfModel w = omega (arith, w .models)
+
+module _ (l : Lengths) (t : Tally) (k : Kind) where
+  pub counted-full : bound l k ≤ used (t .counts) k → Full 17 (record { names = t .names + 1; counts = t .counts }) ≡ counted l t k
+  unfolding counted
+  counted-full h = sym (cond-yes _ _ (le-leb (bound l k) (used (t .counts) k) h))
+
+  pub counted-going : used (t .counts) k < bound l k → Going (record { names = t .names + 1; counts = oneMore (t .counts) k }) ≡ counted l t k
+  unfolding counted
+  counted-going h = sym (cond-no _ _ (lt-leb (bound l k) (used (t .counts) k) h))
+
+-- the words that are written for a name say its note
+name-told : (s xs ws : List ℕ) (l : Lengths) (t : Tally) (n : Note) → Within t → length ws ≡ wordsPerName → noteAt s (sets xs (wordsPerName * t .names) ws) (t .names) ≡ n
+    → withNote l (logOf s xs t) n ≡ toldIs s (sets xs (wordsPerName * t .names) ws) (n .line) (counted l t (n .kind))
+unfolding withNote logIn counted
+name-told s xs ws l t n within nine says =
+    let held = names-small t within in
+    by-test (leb (bound l (n .kind)) (used (t .counts) (n .kind)))
+    (λ h. rw h rw (log-note s xs (t .names) ws n (t .counts) held nine says) refl)
+    (λ h. rw h rw (log-note s xs (t .names) ws n (oneMore (t .counts) (n .kind)) held nine says) rw (more-waveforms (t .counts) (n .kind)) refl)
+
+-- ---- the bounds
+
+pub kept-more : (l : Lengths) (t : Tally) (k : Kind) → Within t → used (t .counts) k < bound l k → KeptCounts t (record { names = t .names + 1; counts = oneMore (t .counts) k })
+kept-more l t OfComponent w h = record { within = record { names = omega (arith, w .names); components = omega (arith, h); pins = w .pins; selectors = w .selectors; choices = w .choices; models = w .models; waveforms = w .waveforms }; rows = omega arith }
+kept-more l t OfPin w h = record { within = record { names = omega (arith, w .names); components = w .components; pins = omega (arith, h); selectors = w .selectors; choices = w .choices; models = w .models; waveforms = w .waveforms }; rows = omega arith }
+kept-more l t OfSelector w h = record { within = record { names = omega (arith, w .names); components = w .components; pins = w .pins; selectors = omega (arith, h); choices = w .choices; models = w .models; waveforms = w .waveforms }; rows = omega arith }
+kept-more l t OfChoice w h = record { within = record { names = omega (arith, w .names); components = w .components; pins = w .pins; selectors = w .selectors; choices = omega (arith, h); models = w .models; waveforms = w .waveforms }; rows = omega arith }
+kept-more l t OfModel w h = record { within = record { names = omega (arith, w .names); components = w .components; pins = w .pins; selectors = w .selectors; choices = w .choices; models = omega (arith, h); waveforms = w .waveforms }; rows = omega arith }
+
+-- ---- sections and rows
+
+module _ (s xs : List ℕ) (l : Lengths) (t : Tally) (p : Spot) (ready : Ready s xs t p) where
+  pub name-fits : wordsPerName * t .names + wordsPerName ≤ length xs
+  name-fits = omega (arith, names-small t (ready .within), ready .store)
+
+  pub told-section : (k : Kind) (n a e start row : ℕ) (w : List ℕ) {x : SectionNote} {ys : List ℕ} {r : Told} → x ≡ sectionIn n p a e (t .counts) start row → kindOf n ≡ k → isSection k ≡ true → part a e s ≡ w
+      → ys ≡ sets xs (wordsPerName * t .names) (wordsOfSection x) → r ≡ counted l t k
+      → withNote l (logOf s xs t) (record { kind = k; line = p .line; name = w; names = []; text = []; behind = rest s (p .next); section = sections (t .counts); start = start; row = row }) ≡ toldIs s ys (p .line) r
+  unfolding rest sections
+  told-section k n a e start row w is of kinds text written counts =
+      let y = sectionIn n p a e (t .counts) start row in
+      rw (written, counts, is, sym text, ready .text .line)
+      (name-told s xs (wordsOfSection y) l t (sectionFrom s k y) (ready .within) refl (section-said s xs (t .names) name-fits k y of kinds))
+
+  pub told-row : (k : Kind) (n : ℕ) (name model : Word) (m : ℕ) {x : RowNote} {ys : List ℕ} {r : Told} → x ≡ rowIn n p name model → kindOf n ≡ k → isSection k ≡ false
+      → part (name .start) (name .end) s ≡ word 0 (words (part (p .start) (p .end) s)) → part (model .start) (model .end) s ≡ word m (words (part (p .start) (p .end) s))
+      → ys ≡ sets xs (wordsPerName * t .names) (wordsOfRow x) → r ≡ counted l t k
+      → withNote l (logOf s xs t) (rowNote k (p .line) m (part (p .start) (p .end) s)) ≡ toldIs s ys (p .line) r
+  told-row k n name model m is of kinds named says written counts =
+      let y = rowIn n p name model in
+      rw (written, counts, is, sym named, sym says)
+      (name-told s xs (wordsOfRow y) l t (rowFrom s k y) (ready .within) refl (row-said s xs (t .names) name-fits k y of kinds))
+
+pub third-in : (s : List ℕ) (a e : ℕ) (x y z : Word) → FirstIn s a e x → FirstIn s (x .end) e y → FirstIn s (y .end) e z → part (z .start) (z .end) s ≡ word 2 (words (part a e s))
+unfolding word
+third-in s a e x y z f g h =
+    let ws : List (List ℕ) = words (part a e s) in
+    h .text ∙ ap (word 0) (g .others ∙ ap (drop 1) (f .others)) ∙ getD-drop 1 (drop 1 ws) 0 [] ∙ getD-drop 1 ws 1 []
+
+-- ---- waveforms
+
+module _ (s xs : List ℕ) (l : Lengths) (t : Tally) (p : Spot) (ready : Ready s xs t p) where
+  pub waveform-full : min mostWaveforms (l .waveforms) ≤ t .counts .waveforms → loggedAt l s xs t p WaveformOpened ≡ full 17 (p .line) (logOf s xs t)
+  unfolding logIn
+  waveform-full h = rw (le-leb (min mostWaveforms (l .waveforms)) (t .counts .waveforms) h) refl
+
+  pub waveform-going : t .counts .waveforms < min mostWaveforms (l .waveforms)
+      → loggedAt l s xs t p WaveformOpened
+      ≡ going (logOf s (sets xs (wavesFrom + wordsPerWave * t .counts .waveforms) (waveWords (p .start) (p .line) (p .next .comment) (t .counts .rows))) (record { names = t .names; counts = moreWaveforms (t .counts) }))
+  unfolding logIn
+  waveform-going h =
+      let n : t .names ≤ namesHeld = names-small t (ready .within) in
+      rw (lt-leb (min mostWaveforms (l .waveforms)) (t .counts .waveforms) h)
+      rw (log-wave s xs (t .names) (t .counts .waveforms) (p .start) (p .line) (p .next .comment) (t .counts .rows) (moreWaveforms (t .counts)) (omega (arith, n)) (omega (arith, h, ready .store)) refl)
+      rw (ready .text .here) refl
+
+  pub kept-waveform : t .counts .waveforms < min mostWaveforms (l .waveforms) → KeptCounts t (record { names = t .names; counts = moreWaveforms (t .counts) })
+  kept-waveform h =
+      let w : Within t = ready .within in
+      record { within = record { names = w .names; components = w .components; pins = w .pins; selectors = w .selectors; choices = w .choices; models = w .models; waveforms = omega (arith, h) }; rows = omega arith }
+
+  -- ---- table rows and the end
+
+  pub rows-full : l .rows ≤ t .counts .rows → loggedAt l s xs t p TableRow ≡ full 18 (p .line) (logOf s xs t)
+  unfolding logIn
+  rows-full h = rw (le-leb (l .rows) (t .counts .rows) h) refl
+
+  pub rows-going : t .counts .rows < l .rows → loggedAt l s xs t p TableRow ≡ going (logOf s xs (record { names = t .names; counts = moreRows (t .counts) }))
+  unfolding logIn
+  rows-going h = rw (lt-leb (l .rows) (t .counts .rows) h) refl
+
+  pub kept-row : KeptCounts t (record { names = t .names; counts = moreRows (t .counts) })
+  kept-row =
+      let w : Within t = ready .within in
+      record { within = record { names = w .names; components = w .components; pins = w .pins; selectors = w .selectors; choices = w .choices; models = w .models; waveforms = w .waveforms }; rows = omega arith }
+
+  pub kept-same : KeptCounts t t
+  kept-same = record { within = ready .within; rows = omega arith }
+
+  pub end-none : (alone : Bool) → t .counts .components ≡ 0 → loggedAt l s xs t p (Ended alone) ≡ full 9 (p .line) (logOf s xs t)
+  unfolding logIn
+  end-none alone h = rw (eq-eqb (t .counts .components) 0 h) refl
+
+  pub end-some : (alone : Bool) → (t .counts .components ≡ 0 → ⊥) → loggedAt l s xs t p (Ended alone) ≡ cond alone (going (logOf s xs t)) (full 10 (p .line) (logOf s xs t))
+  unfolding logIn
+  end-some alone h = rw (ne-eqb (t .counts .components) 0 h) refl

@@ -1,0 +1,3 @@
+-- Laws of what is noted.
+pub mod PartLaws
+pub mod EventLaws

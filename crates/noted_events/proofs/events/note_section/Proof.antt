@@ -1,0 +1,138 @@
+-- The note is the section's, by the places of its argument and of its first word.
+use Prim.Native.Nat.{ℕ, _≤_}
+use mathlib.Core.Path.{refl, ap, _∙_}
+use mathlib.Core.List.{List}
+use native.Mathlib.Omega.{arith}
+use borrow.Author.Needs.{needs}
+use denote.Ref.{now}
+use Rattle.words.specs.Words.{word, words}
+use Rattle.records.specs.declared.Kind.the-variants.{OfComponent, OfSelector, OfModel}
+use Rattle.note_words.specs.Store.{kindOf, logIn}
+use Rattle.noted_events.proofs.EventLaws.{name-fits, told-section}
+use Rattle.noted_events.proofs.events.note_section.Statement.{statement}
+use Rattle.noted_events.proofs.events.note_section.Tie as tie
+
+argument-in-requires : tie.Need-argument-in-requires
+argument-in-requires c κs = (c .before .before .before .pre .text .starts, c .before .before .before .pre .text .fits)
+
+first-in-requires : tie.Need-first-in-requires
+first-in-requires c κs = (c .argument-in .ensures .ends, c .before .before .before .before .pre .text .fits)
+
+enum-told : tie.Need-enum-told
+enum-told c = search needs
+
+section-note-requires : tie.Need-section-note-requires
+section-note-requires c κs =
+    let r = c .before .before .before .before .before .before .before .pre in
+    let w = r .within in
+    let e : c .before .before .before .before .before .before .before .args .p .end ≤ 65536 = omega (arith, r .text .fits, r .small) in
+    (omega arith, omega (arith, r .text .lines, r .text .starts, e), omega (arith, c .before .before .before .argument-in .ensures .ends, e), omega (arith, e), omega (arith, w .pins), omega arith, omega (arith, r .text .goes .placed .within, r .small), omega (arith, w .components, w .selectors, w .models))
+
+put-section-requires : tie.Need-put-section-requires
+put-section-requires c κs =
+    let a = c .before .before .before .before .before .before .before .before .before .args in
+    name-fits (now (a .src)) (now (a .notes)) (a .l) (a .t) (a .p) (c .before .before .before .before .before .before .before .before .before .pre)
+
+count-name-requires : tie.Need-count-name-requires
+count-name-requires c κs = c .before .before .before .before .before .before .before .before .before .before .before .before .pre .within
+
+enum-told-2 : tie.Need-enum-told-2
+enum-told-2 c = search needs
+
+section-note-requires-2 : tie.Need-section-note-requires-2
+section-note-requires-2 c κs =
+    let r = c .before .before .before .before .before .before .before .pre in
+    let w = r .within in
+    let x = c .before .before .first-in .ensures in
+    let e : c .before .before .before .before .before .before .before .args .p .end ≤ 65536 = omega (arith, r .text .fits, r .small) in
+    (omega arith, omega (arith, r .text .lines, r .text .starts, e), omega (arith, x .starts, x .ends, e), omega (arith, x .ends, e), omega (arith, w .choices), omega arith, omega (arith, r .text .goes .placed .within, r .small), omega (arith, w .components, w .selectors, w .models))
+
+put-section-requires-2 : tie.Need-put-section-requires-2
+put-section-requires-2 c κs =
+    let a = c .before .before .before .before .before .before .before .before .before .args in
+    name-fits (now (a .src)) (now (a .notes)) (a .l) (a .t) (a .p) (c .before .before .before .before .before .before .before .before .before .pre)
+
+count-name-requires-2 : tie.Need-count-name-requires-2
+count-name-requires-2 c κs = c .before .before .before .before .before .before .before .before .before .before .before .before .pre .within
+
+enum-told-3 : tie.Need-enum-told-3
+enum-told-3 c = search needs
+
+section-note-requires-3 : tie.Need-section-note-requires-3
+section-note-requires-3 c κs =
+    let r = c .before .before .before .before .before .before .before .pre in
+    let w = r .within in
+    let x = c .before .before .first-in .ensures in
+    let e : c .before .before .before .before .before .before .before .args .p .end ≤ 65536 = omega (arith, r .text .fits, r .small) in
+    (omega arith, omega (arith, r .text .lines, r .text .starts, e), omega (arith, x .starts, x .ends, e), omega (arith, x .ends, e), omega (arith, w .waveforms), omega (arith, r .rows, r .text .starts, e), omega (arith, r .text .goes .placed .within, r .small), omega (arith, w .components, w .selectors, w .models))
+
+put-section-requires-3 : tie.Need-put-section-requires-3
+put-section-requires-3 c κs =
+    let a = c .before .before .before .before .before .before .before .before .before .args in
+    name-fits (now (a .src)) (now (a .notes)) (a .l) (a .t) (a .p) (c .before .before .before .before .before .before .before .before .before .pre)
+
+count-name-requires-3 : tie.Need-count-name-requires-3
+count-name-requires-3 c κs = c .before .before .before .before .before .before .before .before .before .before .before .before .pre .within
+
+same-length : tie.Need-same-length
+same-length c = search needs
+
+returns : tie.Need-returns
+unfolding kindOf logIn
+returns c =
+    let a = c .before .before .before .before .before .before .before .before .before .before .before .before .before .args in
+    let s = now (a .src) in
+    let p = a .p in
+    let argument = c .before .before .before .before .before .before .before .before .before .argument-in in
+    (rw (c .before .before .before .before .before .before .enum-told .given .1) (told-section s (now (a .notes)) (a .l) (a .t) p (c .before .before .before .before .before .before .before .before .before .before .before .before .before .pre) OfComponent 0 (argument .result) (p .end) (a .t .counts .pins) 0 _ (c .before .before .before .before .before .section-note .ensures) refl refl (argument .ensures .text) (c .before .before .before .put-section .ensures) (c .count-name .ensures .0)), c .count-name .ensures .1)
+
+same-length-2 : tie.Need-same-length-2
+same-length-2 c = search needs
+
+returns-2 : tie.Need-returns-2
+unfolding kindOf logIn
+returns-2 c =
+    let a = c .before .before .before .before .before .before .before .before .before .before .before .before .before .args in
+    let s = now (a .src) in
+    let p = a .p in
+    let argument = c .before .before .before .before .before .before .before .before .before .argument-in in
+    let w = c .before .before .before .before .before .before .before .before .first-in in
+    (rw (c .before .before .before .before .before .before .enum-told2 .given .1) (told-section s (now (a .notes)) (a .l) (a .t) p (c .before .before .before .before .before .before .before .before .before .before .before .before .before .pre) OfSelector 2 (w .result .start) (w .result .end) (a .t .counts .choices) 0 _ (c .before .before .before .before .before .section-note2 .ensures) refl refl (w .ensures .text ∙ ap (λ (v : List ℕ). word 0 (words v)) (argument .ensures .text)) (c .before .before .before .put-section2 .ensures) (c .count-name2 .ensures .0)), c .count-name2 .ensures .1)
+
+same-length-3 : tie.Need-same-length-3
+same-length-3 c = search needs
+
+returns-3 : tie.Need-returns-3
+unfolding kindOf logIn
+returns-3 c =
+    let a = c .before .before .before .before .before .before .before .before .before .before .before .before .before .args in
+    let s = now (a .src) in
+    let p = a .p in
+    let argument = c .before .before .before .before .before .before .before .before .before .argument-in in
+    let w = c .before .before .before .before .before .before .before .before .first-in in
+    (rw (c .before .before .before .before .before .before .enum-told3 .given .1) (told-section s (now (a .notes)) (a .l) (a .t) p (c .before .before .before .before .before .before .before .before .before .before .before .before .before .pre) OfModel 4 (w .result .start) (w .result .end) (a .t .counts .waveforms) (a .t .counts .rows) _ (c .before .before .before .before .before .section-note3 .ensures) refl refl (w .ensures .text ∙ ap (λ (v : List ℕ). word 0 (words v)) (argument .ensures .text)) (c .before .before .before .put-section3 .ensures) (c .count-name3 .ensures .0)), c .count-name3 .ensures .1)
+
+pub note-section-spec : {M : Type 1} → statement M
+note-section-spec =
+    tie.close
+    (tie.spec
+    argument-in-requires
+    first-in-requires
+    enum-told
+    section-note-requires
+    put-section-requires
+    count-name-requires
+    enum-told-2
+    section-note-requires-2
+    put-section-requires-2
+    count-name-requires-2
+    enum-told-3
+    section-note-requires-3
+    put-section-requires-3
+    count-name-requires-3
+    same-length
+    returns
+    same-length-2
+    returns-2
+    same-length-3
+    returns-3)

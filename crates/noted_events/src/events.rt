@@ -1,0 +1,229 @@
+// What a line adds to the file is noted.
+ghost use mathlib.Core.Path.{_≡_};
+ghost use Prim.Native.Nat.{_+_, _<_, _^_};
+ghost use Rattle.rules.specs.declared.Event.the-variants.{Opened, PinRow, ChoiceRow, WaveformOpened, TableRow, Ended};
+ghost use Rattle.noted_events.specs.Events.{toldIs, loggedAt, counted, sectionIn, rowIn, Within, KeptBy, Ready};
+use crate::Spot;
+use crate::Tally;
+use crate::Told;
+use crate::places::argument_in;
+use crate::places::first_in;
+use crate::room::bound_of;
+use crate::room::one_more;
+use crate::room::used_of;
+use crate::room::waveform_bound;
+use keywords::Section;
+use note_words::OF_CHOICE;
+use note_words::OF_COMPONENT;
+use note_words::OF_MODEL;
+use note_words::OF_PIN;
+use note_words::OF_SELECTOR;
+use note_words::RowNote;
+use note_words::SectionNote;
+use note_words::put_row;
+use note_words::put_section;
+use note_words::put_wave;
+use records::Counts;
+use records::Kind;
+use records::Lengths;
+use rules::Event;
+use words::Word;
+
+// Counts a name that is noted, if its table has room.
+fn count_name(l: Lengths, t: Tally, k: Kind) -> Told
+    requires { ⌜ Within t ⌝ }
+    ensures { λ r. ⌜ r ≡ counted l t k ⌝ }
+    ensures { λ r. ⌜ KeptBy t r ⌝ }
+{
+    let counts = t.counts;
+    let names = t.names;
+    if bound_of(l, k) <= used_of(counts, k) {
+        return Told::Full(
+            17,
+            Tally {
+                names: names + 1,
+                counts: counts,
+            },
+        );
+    }
+    Told::Going(Tally {
+        names: names + 1,
+        counts: one_more(counts, k),
+    })
+}
+
+// The note of a section whose name lies from a to e; start and row are the places of what is its own in other tables.
+fn section_note(
+    kind: usize,
+    p: Spot,
+    a: usize,
+    e: usize,
+    c: Counts,
+    start: usize,
+    row: usize,
+) -> SectionNote
+    requires { ⌜ (kind < 2 ^ 32) × (p .line < 2 ^ 32) × (a < 2 ^ 32) × (e < 2 ^ 32) × (start < 2 ^ 32) × (row < 2 ^ 32) × (p .next .at < 2 ^ 32) × (c .components + c .selectors + c .models < 2 ^ 32) ⌝ }
+    ensures { λ r. ⌜ r ≡ sectionIn kind p a e c start row ⌝ }
+{
+    let next = p.next;
+    SectionNote {
+        kind: kind as u32,
+        line: p.line as u32,
+        name: a as u32,
+        name_end: e as u32,
+        start: start as u32,
+        row: row as u32,
+        behind: next.at as u32,
+        comment: next.comment as u32,
+        section: (c.components + c.selectors + c.models) as u32,
+    }
+}
+
+// The note of a row with its name and the model it names.
+fn row_note(kind: usize, p: Spot, name: Word, model: Word) -> RowNote
+    requires { ⌜ (kind < 2 ^ 32) × (p .line < 2 ^ 32) × (p .start < 2 ^ 32) × (p .end < 2 ^ 32) × (name .start < 2 ^ 32) × (name .end < 2 ^ 32) × (model .start < 2 ^ 32) × (model .end < 2 ^ 32) ⌝ }
+    ensures { λ r. ⌜ r ≡ rowIn kind p name model ⌝ }
+{
+    RowNote {
+        kind: kind as u32,
+        line: p.line as u32,
+        name: name.start as u32,
+        name_end: name.end as u32,
+        model: model.start as u32,
+        model_end: model.end as u32,
+        text: p.start as u32,
+        text_end: p.end as u32,
+    }
+}
+
+// Notes a section, then asks for room in its table.
+fn note_section(notes: &mut [u32], src: &[u8], l: Lengths, t: Tally, p: Spot, o: Section) -> Told
+    requires { ⌜ Ready (now src) (now notes) t p ⌝ }
+    ensures { λ r. ⌜ loggedAt l (now (src .entry)) (now (notes .entry)) t p (Opened o) ≡ toldIs (now (src .entry)) (now (notes .exit)) (p .line) r ⌝ }
+    ensures { λ r. ⌜ KeptBy t r ⌝ }
+{
+    let c = t.counts;
+    let i = t.names;
+    let a = argument_in(src, p.start, p.end);
+    let w = first_in(src, a, p.end);
+    match o {
+        Section::Component => {
+            let x = section_note(OF_COMPONENT, p, a, p.end, c, c.pins, 0);
+            put_section(notes, i, x);
+            count_name(l, t, Kind::OfComponent)
+        }
+        Section::Selector => {
+            let x = section_note(OF_SELECTOR, p, w.start, w.end, c, c.choices, 0);
+            put_section(notes, i, x);
+            count_name(l, t, Kind::OfSelector)
+        }
+        Section::Model => {
+            let x = section_note(OF_MODEL, p, w.start, w.end, c, c.waveforms, c.rows);
+            put_section(notes, i, x);
+            count_name(l, t, Kind::OfModel)
+        }
+    }
+}
+
+// Notes a pin, then asks for room in the table of pins.
+fn note_pin(notes: &mut [u32], src: &[u8], l: Lengths, t: Tally, p: Spot) -> Told
+    requires { ⌜ Ready (now src) (now notes) t p ⌝ }
+    ensures { λ r. ⌜ loggedAt l (now (src .entry)) (now (notes .entry)) t p PinRow ≡ toldIs (now (src .entry)) (now (notes .exit)) (p .line) r ⌝ }
+    ensures { λ r. ⌜ KeptBy t r ⌝ }
+{
+    let name = first_in(src, p.start, p.end);
+    let signal = first_in(src, name.end, p.end);
+    let model = first_in(src, signal.end, p.end);
+    let x = row_note(OF_PIN, p, name, model);
+    put_row(notes, t.names, x);
+    count_name(l, t, Kind::OfPin)
+}
+
+// Notes a selector's row, then asks for room in their table.
+fn note_choice(notes: &mut [u32], src: &[u8], l: Lengths, t: Tally, p: Spot) -> Told
+    requires { ⌜ Ready (now src) (now notes) t p ⌝ }
+    ensures { λ r. ⌜ loggedAt l (now (src .entry)) (now (notes .entry)) t p ChoiceRow ≡ toldIs (now (src .entry)) (now (notes .exit)) (p .line) r ⌝ }
+    ensures { λ r. ⌜ KeptBy t r ⌝ }
+{
+    let name = first_in(src, p.start, p.end);
+    let x = row_note(OF_CHOICE, p, name, name);
+    put_row(notes, t.names, x);
+    count_name(l, t, Kind::OfChoice)
+}
+
+fn note_waveform(notes: &mut [u32], src: &[u8], l: Lengths, t: Tally, p: Spot) -> Told
+    requires { ⌜ Ready (now src) (now notes) t p ⌝ }
+    ensures { λ r. ⌜ loggedAt l (now (src .entry)) (now (notes .entry)) t p WaveformOpened ≡ toldIs (now (src .entry)) (now (notes .exit)) (p .line) r ⌝ }
+    ensures { λ r. ⌜ KeptBy t r ⌝ }
+{
+    let c = t.counts;
+    let j = c.waveforms;
+    if waveform_bound(l) <= j {
+        return Told::Full(17, t);
+    }
+    let next = p.next;
+    put_wave(
+        notes,
+        j,
+        p.start as u32,
+        p.line as u32,
+        next.comment as u32,
+        c.rows as u32,
+    );
+    let mut d = c;
+    d.waveforms = j + 1;
+    Told::Going(Tally {
+        names: t.names,
+        counts: d,
+    })
+}
+
+fn count_row(src: &[u8], notes: &[u32], l: Lengths, t: Tally, p: Spot) -> Told
+    requires { ⌜ Ready (now src) (now notes) t p ⌝ }
+    ensures { λ r. ⌜ loggedAt l (now (src .entry)) (now (notes .entry)) t p TableRow ≡ toldIs (now (src .entry)) (now (notes .entry)) (p .line) r ⌝ }
+    ensures { λ r. ⌜ KeptBy t r ⌝ }
+{
+    let c = t.counts;
+    if l.rows <= c.rows {
+        return Told::Full(18, t);
+    }
+    let mut d = c;
+    d.rows = c.rows + 1;
+    Told::Going(Tally {
+        names: t.names,
+        counts: d,
+    })
+}
+
+// [End], standing alone or not: a file has a component.
+fn end_file(src: &[u8], notes: &[u32], l: Lengths, t: Tally, p: Spot, alone: bool) -> Told
+    requires { ⌜ Ready (now src) (now notes) t p ⌝ }
+    ensures { λ r. ⌜ loggedAt l (now (src .entry)) (now (notes .entry)) t p (Ended alone) ≡ toldIs (now (src .entry)) (now (notes .entry)) (p .line) r ⌝ }
+    ensures { λ r. ⌜ KeptBy t r ⌝ }
+{
+    let c = t.counts;
+    if c.components == 0 {
+        return Told::Full(9, t);
+    }
+    if alone {
+        return Told::Going(t);
+    }
+    Told::Full(10, t)
+}
+
+// Notes what a line's event adds.
+pub fn note_event(notes: &mut [u32], src: &[u8], l: Lengths, t: Tally, p: Spot, e: Event) -> Told
+    requires { ⌜ Ready (now src) (now notes) t p ⌝ }
+    ensures { λ r. ⌜ loggedAt l (now (src .entry)) (now (notes .entry)) t p e ≡ toldIs (now (src .entry)) (now (notes .exit)) (p .line) r ⌝ }
+    ensures { λ r. ⌜ KeptBy t r ⌝ }
+{
+    match e {
+        Event::Quiet => Told::Going(t),
+        Event::Opened(o) => note_section(notes, src, l, t, p, o),
+        Event::PinRow => note_pin(notes, src, l, t, p),
+        Event::ChoiceRow => note_choice(notes, src, l, t, p),
+        Event::WaveformOpened => note_waveform(notes, src, l, t, p),
+        Event::TableRow => count_row(src, notes, l, t, p),
+        Event::Ended(alone) => end_file(src, notes, l, t, p, alone),
+    }
+}

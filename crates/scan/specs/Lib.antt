@@ -1,4 +1,0 @@
--- What the answers of the code say of the lines read.
-pub mod Places
-pub mod Events
-pub mod Scans
