@@ -354,6 +354,18 @@ static bool takes_thresholds(const struct model *model)
     return strncmp(type, "Input", 5) == 0 || strncmp(type, "I/O", 3) == 0;
 }
 
+/* Each threshold where absent; document 02, section 2: Input_ECL and I/O_ECL have defaults of their own. */
+static void fill_thresholds(struct model *model)
+{
+    static const struct cell plain[] = { { .whole = 8, .power = -1, .given = true }, { .whole = 2, .power = 0, .given = true } };
+    static const struct cell ecl[] = { { .whole = -1475, .power = -3, .given = true }, { .whole = -1165, .power = -3, .given = true } };
+    const struct cell *defaults = model->type == INPUT_ECL || model->type == IO_ECL ? ecl : plain;
+    if (!model->levels[VINL].given)
+        model->levels[VINL] = defaults[0];
+    if (!model->levels[VINH].given)
+        model->levels[VINH] = defaults[1];
+}
+
 static enum fault close_model(struct model *model)
 {
     bool without_ramp = model->type == INPUT || model->type == INPUT_ECL || model->type == TERMINATOR;
@@ -362,10 +374,7 @@ static enum fault close_model(struct model *model)
         return PART_MISSING;
     if (!takes_thresholds(model))
         return NO_FAULT;
-    if (!model->levels[VINL].given)
-        model->levels[VINL] = (struct cell){ .whole = 8, .power = -1, .given = true };
-    if (!model->levels[VINH].given)
-        model->levels[VINH] = (struct cell){ .whole = 2, .power = 0, .given = true };
+    fill_thresholds(model);
     return compare(&model->levels[VINL], &model->levels[VINH]) < 0 ? NO_FAULT : THRESHOLDS_CROSSED;
 }
 

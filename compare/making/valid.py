@@ -8,6 +8,12 @@ TABLES = ['Pulldown', 'Pullup', 'GND Clamp', 'POWER Clamp']
 TYPES = ['Input', 'Output', 'I/O', '3-state', 'Open_drain', 'I/O_open_drain', 'Open_sink', 'I/O_open_sink', 'Open_source',
          'I/O_open_source', 'Input_ECL', 'Output_ECL', 'I/O_ECL', '3-state_ECL', 'Terminator']
 RAMPLESS = ['Input', 'Input_ECL', 'Terminator']
+ECL_INPUTS = ['Input_ECL', 'I/O_ECL']
+# The thresholds where absent, and numbers at them and beside them.
+DEFAULTS = {'Vinl': (8, -1), 'Vinh': (2, 0)}
+NEAR = [(800000000000001, -15), (199999999999999, -14), (8, -1), (2, 0)]
+ECL_DEFAULTS = {'Vinl': (-1475, -3), 'Vinh': (-1165, -3)}
+ECL_NEAR = [(-147499999999999, -14), (-116500000000001, -14), (-1475, -3), (-1165, -3)]
 FREE_NUMBERS = ['Vmeas', 'Cref', 'Rref', 'Vref']
 FIXTURES = ['V_fixture_min', 'V_fixture_max', 'C_fixture', 'L_fixture', 'R_dut', 'L_dut', 'C_dut']
 SHORT_HEADING = ['signal_name', 'model_name']
@@ -144,7 +150,7 @@ def model(pen, plan, name):
     first += [pen.line(['Polarity', word]) for word in dice.some(['Inverting', 'Non-Inverting'], share)[:1]]
     first += [pen.line(['Enable', word]) for word in dice.some(['Active-High', 'Active-Low'], share)[:1]]
     first += [pen.equation(name, pen.number(100)) for name in dice.some(FREE_NUMBERS, share)]
-    first += thresholds(pen, kind.startswith(('Input', 'I/O')), share)
+    first += thresholds(pen, kind, share)
     parts = [[Line('voltage range', pen.keyword('Voltage Range', pen.line(pen.cells()).strip()))]]
     if dice.chance(share):
         parts.append([Line('temperature range', pen.keyword('Temperature Range', pen.line(pen.cells()).strip()))])
@@ -156,18 +162,18 @@ def model(pen, plan, name):
     return lines + [line for part in dice.shuffled(parts) for line in part]
 
 
-def thresholds(pen, ordered, share):
+def thresholds(pen, kind, share):
     """Vinl and Vinh, both, one or none; where they must be in order, often as near to each other as digits allow."""
     dice = pen.dice
-    values = {'Vinl': (8, -1), 'Vinh': (2, 0)}
+    values, near = (dict(ECL_DEFAULTS), ECL_NEAR) if kind in ECL_INPUTS else (dict(DEFAULTS), NEAR)
     given = dice.some(values, share)
     for name in given:
         values[name] = some_number(dice)
         if dice.chance(30):
             values[name] = (digits_of(dice, 15) // 10 * 10 + 9, -14)
         if dice.chance(30):
-            values[name] = dice.pick([(800000000000001, -15), (199999999999999, -14), (8, -1), (2, 0)])
-    if ordered and exact(values['Vinl']) >= exact(values['Vinh']):
+            values[name] = dice.pick(near)
+    if kind.startswith(('Input', 'I/O')) and exact(values['Vinl']) >= exact(values['Vinh']):
         given = []
     return [pen.equation(name, pen.spelled(normal(*values[name]), 100)) for name in given]
 

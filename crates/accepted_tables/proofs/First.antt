@@ -3,22 +3,16 @@ use Prim.Native.Nat.{ℕ}
 use mathlib.Core.Path.{_≡_, refl, sym, ap, subst, _∙_}
 use mathlib.Core.List.{List, [], _∷_}
 use mathlib.Core.Bool.{Bool, true, false, cond, not, _&&_, _||_}
-use mathlib.Core.Option.{Option, none, some}
 use native.Mathlib.Omega.{arith}
-use lib.ListN.{length, drop}
-use lib.Dec.{eqb}
-use borrow.Author.Tests.{eqb-true, not-false}
+use borrow.Author.Tests.{not-false}
 use Rattle.laws.specs.Bytes.{bytes, isBlank}
-use Rattle.laws.specs.Lists.{eqs, front, all}
-use Rattle.laws.specs.Said.{says, fault, faultIn, orFault}
-use Rattle.laws.proofs.Tests.{by-test, cond-yes, cond-no, cond-same, and-first, and-second, impossible}
-use Rattle.laws.proofs.Same.{eqs-eq}
-use Rattle.decimal.specs.Decimal.{lessThan}
+use Rattle.laws.specs.Lists.{eqs, front}
+use Rattle.laws.specs.Said.{faultIn}
+use Rattle.laws.proofs.Tests.{by-test, cond-yes, cond-no, cond-same, and-first, and-second}
 use Rattle.decimal.specs.declared.Cell.{Cell}
 use Rattle.decimal.specs.declared.Cell.the-variants.{Missing}
-use Rattle.words.specs.Words.{word, words, grown, ontoWord}
-use Rattle.name_table.specs.Names.{Naming, meaning, placeFrom}
-use Rattle.name_table.specs.Places.{namesOf}
+use Rattle.words.specs.Words.{words, grown, ontoWord}
+use Rattle.name_table.specs.Names.{placeFrom}
 use Rattle.name_table.specs.declared.Found.the-variants.{At}
 use Rattle.keywords.specs.declared.ModelPart.{ModelPart}
 use Rattle.keywords.specs.declared.ModelPart.the-variants.{VoltageRange, TemperatureRange, Current, Ramp, Waveform}
@@ -27,68 +21,23 @@ use Rattle.records.specs.Stored.{noCells}
 use Rattle.records.specs.declared.Triple.{Triple}
 use Rattle.records.specs.declared.ModelType.{ModelType}
 use Rattle.records.specs.declared.ModelType.the-variants.{Terminator}
-use Rattle.line_rules.specs.Fields.{isBracketed, exactly, nameOf, lineAt, wordIn, behindName, wordLine, cellsLine, numberLine, takes, lineSays}
+use Rattle.line_rules.specs.Fields.{isBracketed, lineAt, wordLine, cellsLine, numberLine, takes, lineSays}
 use Rattle.line_rules.specs.Tables.{modelLines, modelTypes}
 use Rattle.line_rules.proofs.Places.{named-at}
 use Rattle.given.specs.Given.{has, with, gave}
-use Rattle.rules.specs.Model.{newModel, firstFault, isInput, isDriven, typeIs, withFirst, isNumber, modelPlace, modelOpens, defaultVinl, defaultVinh, numberOr, modelDone}
+use Rattle.rules.specs.Types.{isInput, isDriven, thresholds, isBelow}
+use Rattle.rules.specs.Model.{newModel, firstFault, withFirst, isNumber, modelPlace, modelOpens, modelDone}
+use Rattle.rules.specs.declared.Thresholds.{Thresholds}
 use Rattle.rules.specs.Reading.{under, isWithin}
 use Rattle.rules.specs.declared.ModelList.{ModelList}
 use Rattle.rules.specs.declared.ModelList.the-variants.{ModelFirst, ModelShut, CurrentRows, RampLines, WaveformRows}
 use Rattle.rules.specs.declared.ModelState.{ModelState}
 use Rattle.rules.specs.declared.Stage.the-variants.{InModel}
 use Rattle.layout_by_notes.proofs.Ahead.{under-key, under-line, under-change}
-use Rattle.accepted_tables.specs.Facts.{typeName}
 use Rattle.accepted_tables.proofs.Checks.{Passes}
-use Rattle.accepted_tables.proofs.Faults.{said, cells-line-sure, word-line-sure}
-use Rattle.accepted_tables.proofs.Named.{gave-none, gave-other, takes-other, takes-own, taken-on}
+use Rattle.accepted_tables.proofs.Faults.{said, cells-line-sure}
+use Rattle.accepted_tables.proofs.Named.{gave-none, taken-on}
 use Rattle.accepted_tables.proofs.ModelSteps.{ModelLine, firstLine, currentRow, rampLine, fixtureLine, waveformRow, ModelKey, single, waveform, by-texts}
-
--- ---- a word of the table of types is its type's name
-
-abbrev isSpelled : Naming ModelType → Bool
-isSpelled e = eqs (e .name) (typeName (e .means))
-
-types-spelled : all isSpelled modelTypes ≡ true
-unfolding modelTypes all eqs typeName namesOf
-types-spelled = refl
-
-some-is : {A : Type 0} (a b : A) → some a ≡ some b → a ≡ b
-some-is a b e = cc
-
-none-some : {A : Type 0} {X : Type 0} (a : A) → none ≡ some a → X
-none-some a e = let z : _≡_ {A = ℕ} 0 1 = cc in impossible z
-
-meaning-spelled : (es : List (Naming ModelType)) → all isSpelled es ≡ true → (w : List ℕ) (t : ModelType) → meaning w es ≡ some t → w ≡ typeName t
-unfolding all meaning
-meaning-spelled [] h w t e = none-some t e
-meaning-spelled (x ∷ es) h w t e =
-    by-test (eqs w (x .name))
-    (λ q.
-    let means : x .means ≡ t = some-is _ _ (sym (cond-yes _ _ q) ∙ e) in
-    eqs-eq w (x .name) q ∙ eqs-eq (x .name) _ (and-first (isSpelled x) (all isSpelled es) h) ∙ ap typeName means)
-    (λ q. meaning-spelled es (and-second (isSpelled x) (all isSpelled es) h) w t (sym (cond-no _ _ q) ∙ e))
-
-or-says : {A : Type 0} (x : Option A) (a : A) → orFault 10 x ≡ says a → x ≡ some a
-or-says none a e = let z : _≡_ {A = ℕ} 0 1 = cc in impossible z
-or-says (some b) a e = cc
-
-fault-says : {A : Type 0} {X : Type 0} (n : ℕ) (a : A) → fault n ≡ says a → X
-fault-says n a e = let z : _≡_ {A = ℕ} 0 1 = cc in impossible z
-
--- a test of the type's word is one of its name
-type-is : (p : List ℕ → Bool) (w : List ℕ) (t : ModelType) → wordLine modelTypes w ≡ says t → typeIs p w ≡ says (p (typeName t))
-unfolding wordLine wordIn typeIs behindName exactly
-type-is p w t e =
-    let ws : List (List ℕ) = drop 1 (words w) in
-    by-test (eqs (nameOf w) (word 0 (words w)))
-    (λ a.
-    by-test (eqb (length ws) 1)
-    (λ b.
-    let known : meaning (word 0 ws) modelTypes ≡ some t = or-says _ t (sym (cond-yes _ _ b) ∙ sym (cond-yes _ _ a) ∙ e) in
-    cond-yes _ _ a ∙ cond-yes _ _ b ∙ ap (λ (x : List ℕ). says (p x)) (meaning-spelled modelTypes types-spelled (word 0 ws) t known))
-    (λ b. fault-says 10 t (sym (cond-no _ _ b) ∙ sym (cond-yes _ _ a) ∙ e)))
-    (λ a. fault-says 10 t (sym (cond-no _ _ a) ∙ e))
 
 -- ---- places of the first lines, and the fault of a line at its place
 
@@ -125,12 +74,15 @@ module _ (w : List ℕ) where
 
 -- ---- what closing a model says
 
+abbrev isOrdered : Thresholds → Bool
+isOrdered t = isBelow (t .vinl) (t .vinh)
+
 pub record Done (m : ModelState) : Type 0 where
   pub type : gave (m .first) modelLines "Model_type" ≡ true
   pub comp : gave (m .first) modelLines "C_comp" ≡ true
   pub voltage : has (m .parts) (modelPlace VoltageRange) ≡ true
-  pub ramp : (not (m .driven) || has (m .parts) (modelPlace Ramp)) ≡ true
-  pub below : m .input ≡ true → lessThan (numberOr defaultVinl (m .vinl)) (numberOr defaultVinh (m .vinh)) ≡ true
+  pub ramp : (not (isDriven (m .kind)) || has (m .parts) (modelPlace Ramp)) ≡ true
+  pub below : isInput (m .kind) ≡ true → isOrdered (thresholds (m .kind) (m .vinl) (m .vinh)) ≡ true
 
 below-if : (input less : Bool) → (input && not less) ≡ false → input ≡ true → less ≡ true
 below-if true less h q = not-false less h
@@ -142,13 +94,13 @@ done m h =
     let a : Bool = gave (m .first) modelLines "Model_type" in
     let b : Bool = gave (m .first) modelLines "C_comp" in
     let c : Bool = has (m .parts) (modelPlace VoltageRange) in
-    let d : Bool = not (m .driven) || has (m .parts) (modelPlace Ramp) in
-    let less : Bool = lessThan (numberOr defaultVinl (m .vinl)) (numberOr defaultVinh (m .vinh)) in
+    let d : Bool = not (isDriven (m .kind)) || has (m .parts) (modelPlace Ramp) in
+    let less : Bool = isOrdered (thresholds (m .kind) (m .vinl) (m .vinh)) in
     by-test (a && (b && (c && d)))
     (λ t.
     let u : (b && (c && d)) ≡ true = and-second a (b && (c && d)) t in
     let v : (c && d) ≡ true = and-second b (c && d) u in
-    by-test (m .input && not less)
+    by-test (isInput (m .kind) && not less)
     (λ n. let z : 20 ≡ 0 = sym (cond-yes 20 0 n) ∙ sym (cond-yes _ 9 t) ∙ h in absurd (omega arith))
     (λ n.
     record {
@@ -156,7 +108,7 @@ done m h =
       comp = and-first b (c && d) u;
       voltage = and-first c d v;
       ramp = and-second c d v;
-      below = below-if (m .input) less n;
+      below = below-if (isInput (m .kind)) less n;
     }))
     (λ t. let z : 9 ≡ 0 = sym (cond-no _ 9 t) ∙ h in absurd (omega arith))
 
@@ -172,67 +124,32 @@ isFirst (WaveformRows o g r) = false
 abbrev pub firstLines : ModelState → List Text → List (List ℕ)
 firstLines m ts = cond (isFirst (m .list)) (under ts) []
 
--- the type of the model, and the tests of it that are remembered
-record Typed (a b : Bool) (kind : ModelType) : Type 0 where
-  input : a ≡ isInput (typeName kind)
-  driven : b ≡ isDriven (typeName kind)
-
--- what the first lines ls say: a, b, low and high are what was remembered before them, kind and cells what was read
-pub record FirstRead (a b : Bool) (low high : Cell) (kind : ModelType) (cells : Triple) (ls : List (List ℕ)) : Type 0 where
+-- what the first lines ls say: kind, low and high are what was remembered before them, cells what was read
+pub record FirstRead (kind : ModelType) (low high : Cell) (cells : Triple) (ls : List (List ℕ)) : Type 0 where
   pub comp : isNumber (lineSays "C_comp" cellsLine cells ls .typ) ≡ true
-  pub input : lineSays "Model_type" (typeIs isInput) a ls ≡ isInput (typeName (lineSays "Model_type" (wordLine modelTypes) kind ls))
-  pub driven : lineSays "Model_type" (typeIs isDriven) b ls ≡ isDriven (typeName (lineSays "Model_type" (wordLine modelTypes) kind ls))
-  pub below : lineSays "Model_type" (typeIs isInput) a ls ≡ true
-      → lessThan (numberOr defaultVinl (lineSays "Vinl" numberLine low ls)) (numberOr defaultVinh (lineSays "Vinh" numberLine high ls)) ≡ true
+  pub below : isInput (lineSays "Model_type" (wordLine modelTypes) kind ls) ≡ true
+      → isOrdered (thresholds (lineSays "Model_type" (wordLine modelTypes) kind ls) (lineSays "Vinl" numberLine low ls) (lineSays "Vinh" numberLine high ls)) ≡ true
 
 abbrev FirstFrom : ModelState → List (List ℕ) → Type 0
 FirstFrom m ls =
-    (kind : ModelType) (comp : Triple)
-    → (gave (m .first) modelLines "C_comp" ≡ true → isNumber (comp .typ) ≡ true)
-    → (gave (m .first) modelLines "Model_type" ≡ true → Typed (m .input) (m .driven) kind)
-    → FirstRead (m .input) (m .driven) (m .vinl) (m .vinh) kind comp ls
+    (comp : Triple) → (gave (m .first) modelLines "C_comp" ≡ true → isNumber (comp .typ) ≡ true) → FirstRead (m .kind) (m .vinl) (m .vinh) comp ls
 
 -- ---- from text to text
 
 read-none : (m : ModelState) → Done m → FirstFrom m []
 unfolding lineSays
-read-none m d kind comp c t =
-    let typed : Typed (m .input) (m .driven) kind = t (d .type) in
-    record { comp = c (d .comp); input = typed .input; driven = typed .driven; below = d .below }
+read-none m d comp c = record { comp = c (d .comp); below = d .below }
 
 read-line : (m : ModelState) (w : List ℕ) (i : ℕ) (ls : List (List ℕ)) → lineAt modelLines w ≡ At i → firstFault w ≡ 0
     → FirstFrom (withFirst m w (with (m .first) i)) ls → FirstFrom m (w ∷ ls)
 unfolding lineSays withFirst
-read-line m w i ls at ok so kind comp c t =
-    let r = so (takes "Model_type" (wordLine modelTypes) kind w) (takes "C_comp" cellsLine comp w)
+read-line m w i ls at ok so comp c =
+    let r = so (takes "C_comp" cellsLine comp w)
     (taken-on modelLines "C_comp" 3 comp-place cellsLine comp w i at (λ (x : Triple). isNumber (x .typ) ≡ true) (m .first)
     (λ e. said (cellsLine w) (cells-line-sure w) (sym (comp-fault w (at ∙ ap At e)) ∙ ok))
     c)
-    typed
     in
-    record { comp = r .comp; input = r .input; driven = r .driven; below = r .below }
-  where
-    typed : gave (with (m .first) i) modelLines "Model_type" ≡ true
-        → Typed (takes "Model_type" (typeIs isInput) (m .input) w) (takes "Model_type" (typeIs isDriven) (m .driven) w) (takes "Model_type" (wordLine modelTypes) kind w)
-    typed h =
-        by-test (eqb i 0)
-        (λ q.
-        let v = said (wordLine modelTypes w) (word-line-sure modelTypes w) (sym (type-fault w (at ∙ ap At (eqb-true i 0 q))) ∙ ok) in
-        let own : (p : List ℕ → Bool) (b : Bool) → takes "Model_type" (typeIs p) b w ≡ p (typeName (takes "Model_type" (wordLine modelTypes) kind w)) =
-        λ p b.
-        takes-own modelLines "Model_type" 0 type-place (typeIs p) b w i at q (type-is p w (v .0) (v .1))
-        ∙ ap (λ (x : ModelType). p (typeName x)) (sym (takes-own modelLines "Model_type" 0 type-place (wordLine modelTypes) kind w i at q (v .1)))
-        in
-        record { input = own isInput (m .input); driven = own isDriven (m .driven) })
-        (λ q.
-        let old : Typed (m .input) (m .driven) kind = t (sym (gave-other modelLines "Model_type" 0 type-place (m .first) i q) ∙ h) in
-        let kept : (p : List ℕ → Bool) (b : Bool) → b ≡ p (typeName kind) → takes "Model_type" (typeIs p) b w ≡ p (typeName (takes "Model_type" (wordLine modelTypes) kind w)) =
-        λ p b e.
-        takes-other modelLines "Model_type" 0 type-place (typeIs p) b w i at q
-        ∙ e
-        ∙ ap (λ (x : ModelType). p (typeName x)) (sym (takes-other modelLines "Model_type" 0 type-place (wordLine modelTypes) kind w i at q))
-        in
-        record { input = kept isInput (m .input) (old .input); driven = kept isDriven (m .driven) (old .driven) })
+    record { comp = r .comp; below = r .below }
 
 -- ---- all texts of the model
 
@@ -285,8 +202,5 @@ first-from =
     lining
     (λ m n k w p ts b q s y so. keying m n k w _ p ts b y so)
 
-pub first-read : (k : ℕ) (ts : List Text) → Passes (InModel (newModel k)) ts → FirstRead false false Missing Missing Terminator noCells (under (front isWithin ts))
-first-read k ts h =
-    first-from ts (newModel k) h Terminator noCells
-    (gave-none modelLines "C_comp" 3 comp-place)
-    (gave-none modelLines "Model_type" 0 type-place)
+pub first-read : (k : ℕ) (ts : List Text) → Passes (InModel (newModel k)) ts → FirstRead Terminator Missing Missing noCells (under (front isWithin ts))
+first-read k ts h = first-from ts (newModel k) h noCells (gave-none modelLines "C_comp" 3 comp-place)

@@ -1,16 +1,13 @@
 -- The record of a model whose section passes: what its first lines and its parts say, and where its tables lie.
 use Prim.Native.Nat.{ℕ}
-use mathlib.Core.Path.{_≡_, refl, sym, subst, _∙_}
+use mathlib.Core.Path.{_≡_, refl, sym, subst}
 use mathlib.Core.List.{List, _++_, flatMap}
-use mathlib.Core.Bool.{Bool, true, false}
+use mathlib.Core.Bool.{true, false}
 use native.Mathlib.Omega.{arith}
 use lib.ListN.{length, length-append}
 use Rattle.laws.specs.Bytes.{bytes, isBlank}
 use Rattle.laws.specs.Lists.{eqs}
 use Rattle.laws.proofs.Tests.{impossible, never}
-use Rattle.decimal.specs.Decimal.{lessThan}
-use Rattle.decimal.specs.declared.Decimal.{Decimal}
-use Rattle.decimal.specs.declared.Cell.{Cell}
 use Rattle.decimal.specs.declared.Cell.the-variants.{Missing}
 use Rattle.words.specs.Words.{words, grown, ontoWord}
 use Rattle.cut_lines.specs.Texts.{Text}
@@ -23,23 +20,16 @@ use Rattle.line_rules.specs.Fields.{oneOf}
 use Rattle.line_rules.specs.Tables.{waveformKeywords}
 use Rattle.given.specs.Given.{noneGiven, has}
 use Rattle.given.proofs.Laws.{has-none}
-use Rattle.rules.specs.Model.{newModel, numberOr}
-use Rattle.rules.specs.Reading.{under, numberSaid, threshold, noRange, noRamp, modelIn, tablesIn, model}
+use Rattle.rules.specs.Model.{newModel}
+use Rattle.rules.specs.Reading.{under, numberSaid, noRange, noRamp, modelIn, tablesIn, model}
 use Rattle.rules.specs.declared.Stage.the-variants.{InModel}
 use Rattle.layout.specs.Laid.{behind, rowsOf, tableAt, waveformsLaid}
-use Rattle.accepted_tables.specs.Facts.{Every, isBelow, ModelFacts, WaveformFacts}
+use Rattle.accepted_tables.specs.Facts.{Every, ModelFacts, WaveformFacts}
 use Rattle.accepted_tables.proofs.Checks.{Passes, runs-pass}
 use Rattle.accepted_tables.proofs.First.{FirstRead, first-read}
 use Rattle.accepted_tables.proofs.Parts.{Parts, parts-read}
 use Rattle.accepted_tables.proofs.Sections.{SectionPasses}
 use Rattle.accepted_tables.proofs.Spans.{table-facts, waves-facts, waves-length}
-
--- where the thresholds are taken, they are numbers
-threshold-below : (input : Bool) (d e : Decimal) (a b : Cell) → input ≡ true → lessThan (numberOr d a) (numberOr e b) ≡ true
-    → isBelow (threshold input d a) (threshold input e b) ≡ true
-unfolding threshold
-threshold-below true d e a b q h = h
-threshold-below false d e a b q h = cc
 
 pub not-given : {X : Type 0} (k : ℕ) → has noneGiven k ≡ true → X
 not-given k h = absurd (never (has noneGiven k) h (has-none k))
@@ -55,8 +45,8 @@ module _ (l : Lengths) (w : List ℕ) (ts : List Text) (p : SectionPasses l (mod
   passing : Passes (InModel (newModel (p .0))) (p .1 .more)
   passing = runs-pass l (p .1 .more) (p .1 .held) (InModel (newModel (p .0))) (p .1 .runs)
 
-  first : FirstRead false false Missing Missing Terminator noCells (under ts)
-  first = subst (λ (us : List Text). FirstRead false false Missing Missing Terminator noCells (under us)) (sym (p .1 .own)) (first-read (p .0) (p .1 .more) passing)
+  first : FirstRead Terminator Missing Missing noCells (under ts)
+  first = subst (λ (us : List Text). FirstRead Terminator Missing Missing noCells (under us)) (sym (p .1 .own)) (first-read (p .0) (p .1 .more) passing)
 
   parts : Parts (newModel (p .0)) ts
   parts = subst (Parts (newModel (p .0))) (sym (p .1 .own)) (parts-read (p .1 .more) (newModel (p .0)) passing)
@@ -71,8 +61,8 @@ module _ (l : Lengths) (w : List ℕ) (ts : List Text) (p : SectionPasses l (mod
         comp = first .comp;
         voltage = parts .voltage noRange (not-given 0);
         temperature = parts .temperature noRange (λ g. cc);
-        thresholds = λ q. let input = first .input ∙ q in threshold-below _ _ _ _ _ input (first .below input);
-        ramp = λ q. parts .needed noRamp (not-given 6) (first .driven ∙ q);
+        thresholds = first .below;
+        ramp = parts .needed noRamp (not-given 6);
         rise = λ g. parts .slopes noRamp (λ z. impossible (cc)) g .0;
         fall = λ g. parts .slopes noRamp (λ z. impossible (cc)) g .1;
         pulldown = table-facts before (tablesIn ts) "pulldown" (no-waveform .0) (parts .tables);

@@ -26,13 +26,15 @@ use Rattle.records.specs.Stored.{noCells, noSlopes}
 use Rattle.records.specs.declared.Triple.{Triple}
 use Rattle.records.specs.declared.Range.{Range}
 use Rattle.records.specs.declared.RampTable.{RampTable}
+use Rattle.records.specs.declared.ModelType.{ModelType}
 use Rattle.records.specs.declared.Edge.the-variants.{Rising, Falling}
-use Rattle.line_rules.specs.Fields.{isBracketed, oneOf, threeCells, lineSays}
-use Rattle.line_rules.specs.Tables.{rampLines, fixtures, tableKeywords, waveformKeywords}
+use Rattle.line_rules.specs.Fields.{isBracketed, oneOf, threeCells, wordLine, lineSays}
+use Rattle.line_rules.specs.Tables.{modelTypes, rampLines, fixtures, tableKeywords, waveformKeywords}
 use Rattle.given.specs.Given.{has, with}
 use Rattle.given.specs.declared.Given.{Given}
 use Rattle.given.proofs.Laws.{has-other}
-use Rattle.rules.specs.Model.{isDriven, typeIs, withFirst, modelPlace, modelFault, modelOpens, modelDone}
+use Rattle.rules.specs.Types.{isDriven}
+use Rattle.rules.specs.Model.{withFirst, modelPlace, modelFault, modelOpens, modelDone}
 use Rattle.rules.specs.Reading.{keyName, under, keySays, rangeIn, rampIn, numberSaid, TableIs, tablesIn, rowsIn, isWithin}
 use Rattle.rules.specs.Keys.{keyAt}
 use Rattle.rules.proofs.Keys.{key-named, says-skip, says-key}
@@ -78,6 +80,10 @@ abbrev pub wavesIn : List TableIs → ℕ
 wavesIn [] = 0
 wavesIn (t ∷ ts) = cond (isWaveform t) 1 0 + wavesIn ts
 
+-- whether the type that the first lines say asks for a ramp
+abbrev wantsRamp : ModelType → List (List ℕ) → Bool
+wantsRamp kind ls = isDriven (lineSays "Model_type" (wordLine modelTypes) kind ls)
+
 -- from here on; x is what was read of a keyword before
 pub record Parts (m : ModelState) (ts : List Text) : Type 0 where
   pub list : ListReads (m .list) (under ts)
@@ -87,7 +93,7 @@ pub record Parts (m : ModelState) (ts : List Text) : Type 0 where
   pub slopes : (x : RampTable) → RampReads x → RampReads (keySays "ramp" rampIn x ts)
   pub atMost : m .waveforms ≤ 16 → m .waveforms + wavesIn (tablesIn ts) ≤ 16
   pub needed : (x : RampTable) → (has (m .parts) 6 ≡ true → x .given ≡ true)
-      → lineSays "Model_type" (typeIs isDriven) (m .driven) (firstLines m ts) ≡ true → keySays "ramp" rampIn x ts .given ≡ true
+      → wantsRamp (m .kind) (firstLines m ts) ≡ true → keySays "ramp" rampIn x ts .given ≡ true
 
 -- ---- the section ends
 
@@ -106,7 +112,7 @@ parts-done m s d =
       temperature = λ x q. q;
       slopes = λ x q. q;
       atMost = λ h. omega arith;
-      needed = λ x q n. q (needs (m .driven) (has (m .parts) 6) (end .ramp) (sym (ap (lineSays "Model_type" (typeIs isDriven) (m .driven)) (nothing-first m under-none)) ∙ n));
+      needed = λ x q n. q (needs (isDriven (m .kind)) (has (m .parts) 6) (end .ramp) (sym (ap (wantsRamp (m .kind)) (nothing-first m under-none)) ∙ n));
     }
 
 -- ---- a text without a keyword
@@ -118,7 +124,7 @@ tables-skip t ts e =
 
 unkeyed : (m n : ModelState) (t : Text) (ts : List Text) → keyAt t ≡ none → keyName t ≡ [] → m .parts ≡ n .parts → m .waveforms ≡ n .waveforms
     → ListReads (m .list) (under (t ∷ ts))
-    → lineSays "Model_type" (typeIs isDriven) (m .driven) (firstLines m (t ∷ ts)) ≡ lineSays "Model_type" (typeIs isDriven) (n .driven) (firstLines n ts)
+    → wantsRamp (m .kind) (firstLines m (t ∷ ts)) ≡ wantsRamp (n .kind) (firstLines n ts)
     → Parts n ts → Parts m (t ∷ ts)
 unkeyed m n t ts e name same waves list driven so =
     record {
@@ -155,16 +161,16 @@ same-waves m n w (waveformRow o g r y q e h) = refl
 
 -- whether the type asks for a ramp
 driven-line : (m n : ModelState) (k : ℕ) (w : List ℕ) (ts : List Text) → isBracketed w ≡ false → ModelLine m w n
-    → lineSays "Model_type" (typeIs isDriven) (m .driven) (firstLines m (plain k w ∷ ts)) ≡ lineSays "Model_type" (typeIs isDriven) (n .driven) (firstLines n ts)
+    → wantsRamp (m .kind) (firstLines m (plain k w ∷ ts)) ≡ wantsRamp (n .kind) (firstLines n ts)
 unfolding withFirst lineSays
 driven-line m n k w ts b (firstLine i q at h ok) =
     let first : isFirst (m .list) ≡ true = ap isFirst q in
-    ap (lineSays "Model_type" (typeIs isDriven) (m .driven)) (cond-yes (under (plain k w ∷ ts)) [] first ∙ under-line k w ts b)
-    ∙ sym (ap (lineSays "Model_type" (typeIs isDriven) (withFirst m w (with (m .first) i) .driven)) (cond-yes (under ts) [] first))
-driven-line m n k w ts b (currentRow o r y q e h) = ap (lineSays "Model_type" (typeIs isDriven) (m .driven)) (other-first m _ (ap isFirst q))
-driven-line m n k w ts b (rampLine o g i q at h ok) = ap (lineSays "Model_type" (typeIs isDriven) (m .driven)) (other-first m _ (ap isFirst q))
-driven-line m n k w ts b (fixtureLine o g r i q l at h ok) = ap (lineSays "Model_type" (typeIs isDriven) (m .driven)) (other-first m _ (ap isFirst q))
-driven-line m n k w ts b (waveformRow o g r y q e h) = ap (lineSays "Model_type" (typeIs isDriven) (m .driven)) (other-first m _ (ap isFirst q))
+    ap (wantsRamp (m .kind)) (cond-yes (under (plain k w ∷ ts)) [] first ∙ under-line k w ts b)
+    ∙ sym (ap (wantsRamp (withFirst m w (with (m .first) i) .kind)) (cond-yes (under ts) [] first))
+driven-line m n k w ts b (currentRow o r y q e h) = ap (wantsRamp (m .kind)) (other-first m _ (ap isFirst q))
+driven-line m n k w ts b (rampLine o g i q at h ok) = ap (wantsRamp (m .kind)) (other-first m _ (ap isFirst q))
+driven-line m n k w ts b (fixtureLine o g r i q l at h ok) = ap (wantsRamp (m .kind)) (other-first m _ (ap isFirst q))
+driven-line m n k w ts b (waveformRow o g r y q e h) = ap (wantsRamp (m .kind)) (other-first m _ (ap isFirst q))
 
 parts-line : (m n : ModelState) (k : ℕ) (w : List ℕ) (ts : List Text) → isBracketed w ≡ false → ModelLine m w n → Parts n ts → Parts m (plain k w ∷ ts)
 parts-line m n k w ts b y so =
@@ -177,7 +183,7 @@ parts-change : (m : ModelState) (k n : ℕ) (ts : List Text) → Parts m ts → 
 parts-change m k n ts so =
     unkeyed m m (change k n) ts refl refl refl refl
     (subst (ListReads (m .list)) (sym (under-change k n ts)) (so .list))
-    (ap (λ (ls : List (List ℕ)). lineSays "Model_type" (typeIs isDriven) (m .driven) (cond (isFirst (m .list)) ls [])) (under-change k n ts))
+    (ap (λ (ls : List (List ℕ)). wantsRamp (m .kind) (cond (isFirst (m .list)) ls [])) (under-change k n ts))
     so
 
 -- ---- a keyword: its name by its place
@@ -303,11 +309,11 @@ tables-key k w ts p e =
 
 module _ (m : ModelState) (k : ℕ) (w : List ℕ) (ts : List Text) (b : isBracketed w ≡ true) (s : Shuts (m .list)) where
   -- the type is read before any keyword
-  driven-key : (n : ModelState) → m .driven ≡ n .driven → isFirst (n .list) ≡ false
-      → lineSays "Model_type" (typeIs isDriven) (m .driven) (firstLines m (plain k w ∷ ts)) ≡ lineSays "Model_type" (typeIs isDriven) (n .driven) (firstLines n ts)
+  driven-key : (n : ModelState) → m .kind ≡ n .kind → isFirst (n .list) ≡ false
+      → wantsRamp (m .kind) (firstLines m (plain k w ∷ ts)) ≡ wantsRamp (n .kind) (firstLines n ts)
   driven-key n e h =
-      ap (lineSays "Model_type" (typeIs isDriven) (m .driven)) (nothing-first m (under-key k w ts b) ∙ sym (other-first n (under ts) h))
-      ∙ ap (λ (d : Bool). lineSays "Model_type" (typeIs isDriven) d (firstLines n ts)) e
+      ap (wantsRamp (m .kind)) (nothing-first m (under-key k w ts b) ∙ sym (other-first n (under ts) h))
+      ∙ ap (λ (kind : ModelType). wantsRamp kind (firstLines n ts)) e
 
   list-key : ListReads (m .list) (under (plain k w ∷ ts))
   list-key = subst (ListReads (m .list)) (sym (under-key k w ts b)) (list-shuts (m .list) s)

@@ -4,22 +4,19 @@ use mathlib.Core.Path.{_≡_}
 use mathlib.Core.List.{List, [], _∷_, map}
 use mathlib.Core.Logic.{_⊎_}
 use mathlib.Core.Bool.{Bool, true, false, _&&_}
-use lib.ListN.{length, getD, take, drop}
+use lib.ListN.{length, take, drop}
 use Rattle.laws.specs.Bytes.{bytes}
 use Rattle.decimal.specs.Decimal.{lessThan, aboveZero}
 use Rattle.decimal.specs.declared.Decimal.{Decimal}
 use Rattle.decimal.specs.declared.Cell.{Cell}
-use Rattle.decimal.specs.declared.Cell.the-variants.{Number, Missing}
-use Rattle.name_table.specs.Places.{namesOf}
+use Rattle.decimal.specs.declared.Cell.the-variants.{Missing}
 use Rattle.line_rules.specs.Fields.{isUpward}
-use Rattle.line_rules.specs.Tables.{modelTypes}
-use Rattle.rules.specs.Model.{isNumber, isInput, isDriven}
+use Rattle.rules.specs.Types.{isInput, isDriven, isBelow}
+use Rattle.rules.specs.Model.{isNumber}
 use Rattle.layout.specs.Laid.{Laid, countsOf}
 use Rattle.records.specs.Stored.{nameLaid}
-use Rattle.records.specs.Types.{typeNumber}
 use Rattle.records.specs.declared.Name.{Name}
 use Rattle.records.specs.declared.Lengths.{Lengths}
-use Rattle.records.specs.declared.ModelType.{ModelType}
 use Rattle.records.specs.declared.Row.{Row}
 use Rattle.records.specs.declared.RampCell.{RampCell}
 use Rattle.records.specs.declared.RampCell.the-variants.{Ratio, Absent}
@@ -48,20 +45,10 @@ abbrev pub Unique : {A : Type 0} → List A → Type 0
 Unique [] = Unit {0}
 Unique (a ∷ l) = (Among a l → ⊥) × Unique l
 
--- a number below a number
-abbrev pub isBelow : Cell → Cell → Bool
-isBelow (Number d) (Number e) = lessThan d e
-isBelow (Number d) Missing = false
-isBelow Missing b = false
-
 -- two numbers, "the second above zero"
 abbrev pub isSlope : RampCell → Bool
 isSlope (Ratio d e) = aboveZero e
 isSlope Absent = false
-
--- a model type as document 01 spells it
-unfoldable pub typeName : ModelType → List ℕ
-typeName t = getD (namesOf modelTypes) (typeNumber t) []
 
 -- ---- a ramp's cells
 
@@ -123,9 +110,9 @@ pub record ModelFacts (store : List Row) (waveforms : List Waveform) (m : Model)
   pub voltage : isNumber (m .voltage .typ) ≡ true
   pub temperature : m .temperature .given ≡ true → isNumber (m .temperature .cells .typ) ≡ true
   -- "Types that begin Input or I/O .. need Vinl below Vinh"
-  pub thresholds : isInput (typeName (m .kind)) ≡ true → isBelow (m .vinl) (m .vinh) ≡ true
+  pub thresholds : isInput (m .kind) ≡ true → isBelow (m .vinl) (m .vinh) ≡ true
   -- [Ramp] is "Required unless Input, Input_ECL or Terminator"
-  pub ramp : isDriven (typeName (m .kind)) ≡ true → m .ramp .given ≡ true
+  pub ramp : isDriven (m .kind) ≡ true → m .ramp .given ≡ true
   pub rise : m .ramp .given ≡ true → Slopes (m .ramp .rise)
   pub fall : m .ramp .given ≡ true → Slopes (m .ramp .fall)
   pub pulldown : m .pulldown .given ≡ true → TableFacts 100 (m .pulldown .rows) store

@@ -48,7 +48,7 @@ modelListAt f (WaveformRows o g r) = WaveformRows (f o) g r
 
 abbrev pub modelAt : (ℕ → ℕ) → ModelState → ModelState
 modelAt f m =
-    record { line = f (m .line); first = m .first; input = m .input; driven = m .driven; vinl = m .vinl; vinh = m .vinh; parts = m .parts; waveforms = m .waveforms; list = modelListAt f (m .list) }
+    record { line = f (m .line); first = m .first; kind = m .kind; vinl = m .vinl; vinh = m .vinh; parts = m .parts; waveforms = m .waveforms; list = modelListAt f (m .list) }
 
 abbrev pub stageAt : (ℕ → ℕ) → Stage → Stage
 stageAt f BeforeVersion = BeforeVersion

@@ -18,7 +18,7 @@ use Rattle.records.specs.declared.RampTable.{RampTable}
 use Rattle.records.specs.declared.RampTriple.{RampTriple}
 use Rattle.records.specs.declared.Table.{Table}
 use Rattle.records.specs.declared.Waveform.{Waveform}
-use Rattle.type_text.specs.Types.{typeText}
+use Rattle.line_rules.specs.Tables.{typeName}
 use Rattle.text_buffer.specs.Lines.{countText, nextCell}
 use Rattle.text_buffer.specs.Numerals.{decimalText}
 use Rattle.dump_text.specs.Labelled.{cellLine, tripleLine, countLine, sectionLine, rangeLine}
@@ -26,7 +26,7 @@ use Rattle.dump_text.specs.Labelled.{cellLine, tripleLine, countLine, sectionLi
 -- ---- a model's own lines
 
 unfoldable pub typeLine : ModelType → List ℕ
-typeLine k = bytes "MODEL_TYPE " ++ typeText k ++ bytes "\n"
+typeLine k = bytes "MODEL_TYPE " ++ typeName k ++ bytes "\n"
 
 -- "`-`: not given"
 abbrev pub polarityLine : Polarity → List ℕ

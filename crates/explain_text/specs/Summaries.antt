@@ -15,7 +15,7 @@ use Rattle.records.specs.declared.Name.{Name}
 use Rattle.records.specs.declared.Pin.{Pin}
 use Rattle.text_buffer.specs.Lines.{nameText, wordsText}
 use Rattle.text_buffer.specs.Numerals.{numeralOf, plainText}
-use Rattle.type_text.specs.Types.{typeText}
+use Rattle.line_rules.specs.Tables.{typeName}
 use Rattle.questions.specs.Named.{sameName}
 use Rattle.explain_text.specs.declared.summaries.Widths.{Widths}
 
@@ -69,7 +69,7 @@ selectorText p m = cond (sameName (m .name) (p .model)) [] (bytes "  by selector
 -- a pin with the model chosen for it
 unfoldable pub pinText : Widths → Pin → Model → List ℕ
 pinText w p m =
-    pinColumns w p (m .name) ++ column 15 (typeText (m .kind)) ++ column 8 (levelText (m .vinl)) ++ levelText (m .vinh) ++ selectorText p m ++ bytes "\n"
+    pinColumns w p (m .name) ++ column 15 (typeName (m .kind)) ++ column 8 (levelText (m .vinl)) ++ levelText (m .vinh) ++ selectorText p m ++ bytes "\n"
 
 -- a pin that needs no model
 unfoldable pub bareText : Widths → Pin → List ℕ

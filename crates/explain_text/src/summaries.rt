@@ -3,7 +3,7 @@ ghost use mathlib.Core.Path.{_≡_};
 ghost use Prim.Native.Nat.{_-_};
 ghost use Rattle.text_buffer.specs.Lines.{nameText};
 ghost use Rattle.text_buffer.specs.Put.{Put};
-ghost use Rattle.type_text.specs.Types.{typeText};
+ghost use Rattle.line_rules.specs.Tables.{typeName};
 ghost use Rattle.explain_text.specs.Summaries.{headerText, labelledText, countsText, gapText, column, levelText, componentText, headingText, pinColumns, selectorText, pinText, bareText};
 use decimal::Cell;
 use records::Component;
@@ -92,7 +92,7 @@ fn put_name_column(out: &mut [u8], at: usize, name: Name, width: usize) -> usize
 }
 
 fn put_type_column(out: &mut [u8], at: usize, kind: ModelType) -> usize
-    ensures { λ r. ⌜ Put (now (out .entry)) (now (out .exit)) at (column 15 (typeText kind)) r ⌝ }
+    ensures { λ r. ⌜ Put (now (out .entry)) (now (out .exit)) at (column 15 (typeName kind)) r ⌝ }
 {
     let end = type_text::put_type(out, at, kind);
     put_gap(out, end, at, 15)

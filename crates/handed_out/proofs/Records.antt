@@ -3,7 +3,6 @@ use Prim.Native.Nat.{ℕ, _-_, _≤_, _<_}
 use Prim.Native.String.{String}
 use mathlib.Core.Path.{_≡_}
 use mathlib.Core.List.{List, [], _∷_, _++_}
-use mathlib.Core.Bool.{Bool}
 use native.Mathlib.Omega.{arith}
 use lib.ListN.{length, take, drop, replicate, length-append, length-take, length-replicate}
 use lib.Dec.{eqb}
@@ -11,8 +10,7 @@ use Rattle.laws.specs.Bytes.{isBlank, isSmall, capital}
 use Rattle.laws.specs.Lists.{after}
 use Rattle.laws.specs.Said.{says}
 use Rattle.laws.proofs.Tests.{cond-all}
-use Rattle.decimal.specs.Fine.{Fine, FineCell}
-use Rattle.decimal.specs.declared.Decimal.{Decimal}
+use Rattle.decimal.specs.Fine.{FineCell}
 use Rattle.decimal.specs.declared.Cell.{Cell}
 use Rattle.decimal.specs.declared.Cell.the-variants.{Number, Missing}
 use Rattle.words.specs.Words.{word, words}
@@ -23,10 +21,12 @@ use Rattle.records.specs.declared.Table.{Table}
 use Rattle.records.specs.declared.Range.{Range}
 use Rattle.records.specs.declared.RampTable.{RampTable}
 use Rattle.records.specs.declared.Edge.{Edge}
+use Rattle.records.specs.declared.ModelType.{ModelType}
 use Rattle.line_rules.specs.Fields.{needsNoModel, threeCells, cellsLine, slopesLine, numberLine, lineSays}
 use Rattle.rules.specs.Component.{keptModel, pinCells, pinIn}
-use Rattle.rules.specs.Model.{numberOr, defaultVinl, defaultVinh}
-use Rattle.rules.specs.Reading.{under, linesUnder, keySays, pinsIn, componentIn, choiceIn, choicesIn, numberSaid, threshold, rangeIn, noRange, rampIn, noRamp, modelIn, waveformIn}
+use Rattle.rules.specs.Types.{isInput, isEcl, eclThresholds, inputThresholds, noThresholds, defaults, filled}
+use Rattle.rules.specs.declared.Thresholds.{Thresholds}
+use Rattle.rules.specs.Reading.{under, linesUnder, keySays, pinsIn, componentIn, choiceIn, choicesIn, numberSaid, rangeIn, noRange, rampIn, noRamp, modelIn, waveformIn}
 use Rattle.table_records.specs.Fine.{AreBytes, FineName, FineWords, FineTriple, FineSlopes, FineComponent, FinePin, FineChoice, FineModel, FineWaveform}
 use Rattle.handed_out.specs.FineTables.{Each}
 use Rattle.handed_out.proofs.Parts.{each-take, each-drop, each-after, each-both, each-same, each-map}
@@ -146,13 +146,19 @@ choices-fine ts h = each-map FineChoice (Each IsByte) choiceIn choice-fine (unde
 
 -- ---- [Model]
 
-number-or : (d : Decimal) (c : Cell) → Fine d → FineCell c → Fine (numberOr d c)
-number-or d (Number e) h k = k
-number-or d Missing h k = h
+abbrev FineThresholds : Thresholds → Type 0
+FineThresholds t = FineCell (t .vinl) × FineCell (t .vinh)
 
-threshold-fine : (input : Bool) (d : Decimal) (c : Cell) → Fine d → FineCell c → FineCell (threshold input d c)
-unfolding threshold
-threshold-fine input d c h k = cond-all FineCell input (Number (numberOr d c)) c (λ e. number-or d c h k) (λ e. k)
+filled-fine : (d c : Cell) → FineCell d → FineCell c → FineCell (filled d c)
+filled-fine d (Number e) h k = k
+filled-fine d Missing h k = h
+
+-- the numbers of either kind of thresholds, or none
+defaults-fine : (t : ModelType) → FineThresholds (defaults t)
+unfolding defaults
+defaults-fine t =
+    cond-all FineThresholds (isEcl t) eclThresholds _ (λ e. (record { digits = omega arith; power = omega arith }, record { digits = omega arith; power = omega arith }))
+    (λ e. cond-all FineThresholds (isInput t) inputThresholds noThresholds (λ e. (record { digits = omega arith; power = omega arith }, record { digits = omega arith; power = omega arith })) (λ e. (tt, tt)))
 
 abbrev FineRamp : RampTable → Type 0
 FineRamp r = FineSlopes (r .rise) × FineSlopes (r .fall) × FineCell (r .load)
@@ -173,8 +179,8 @@ module _ (ts : List Text) (h : Each (TextHas IsByte) ts) where
       record {
         name = name-fine name k;
         comp = cells-said "C_comp" _;
-        vinl = threshold-fine _ defaultVinl (numberSaid "Vinl" (under ts)) (record { digits = omega arith; power = omega arith }) (number-said "Vinl" _);
-        vinh = threshold-fine _ defaultVinh (numberSaid "Vinh" (under ts)) (record { digits = omega arith; power = omega arith }) (number-said "Vinh" _);
+        vinl = filled-fine _ (numberSaid "Vinl" (under ts)) (defaults-fine _ .0) (number-said "Vinl" _);
+        vinh = filled-fine _ (numberSaid "Vinh" (under ts)) (defaults-fine _ .1) (number-said "Vinh" _);
         vmeas = number-said "Vmeas" _;
         cref = number-said "Cref" _;
         rref = number-said "Rref" _;

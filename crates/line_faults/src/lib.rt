@@ -1,13 +1,13 @@
 // What is wrong with what stands on a line: the faults of named lines and of keywords' arguments.
 ghost use mathlib.Core.Path.{_≡_};
-ghost use Rattle.laws.specs.Said.{faultIn, orElse};
+ghost use Rattle.laws.specs.Said.{faultIn};
 ghost use Rattle.line_rules.specs.Fields.{wordLine, cellsLine, slopesLine};
 ghost use Rattle.line_rules.specs.Answers.{tripleRead, rampRead};
 ghost use Rattle.line_rules.specs.Tables.{locations, modelTypes, polarities, enables};
 ghost use Rattle.rules.specs.Component.{componentFault};
 ghost use Rattle.line_faults.specs.Arguments.{aloneFault};
 ghost use Rattle.line_faults.specs.Places.{firstAt, rampAt};
-ghost use Rattle.rules.specs.Model.{isInput, isDriven, typeIs, modelFault};
+ghost use Rattle.rules.specs.Model.{modelFault};
 use keywords::ComponentPart;
 use keywords::ModelPart;
 use line_cells::HeadingRead;
@@ -16,7 +16,6 @@ use line_rules::RampRead;
 use line_rules::TripleRead;
 use named_lines::LocationRead;
 use named_lines::TypeRead;
-use named_lines::WordRead;
 use records::Enable;
 use records::Polarity;
 
@@ -105,55 +104,6 @@ pub fn ramp_line_fault(n: usize, w: &[u8]) -> u8
         return line_cells::cell_fault(named_lines::number_line(w));
     }
     line_cells::ramp_fault(slopes_line(w))
-}
-
-// The type begins Input or I/O.
-fn begins_input(t: &[u8]) -> bool
-    ensures { λ r. ⌜ r ≡ isInput (now (t .entry)) ⌝ }
-{
-    let n = t.len();
-    if n < 3 {
-        return false;
-    }
-    if words::same(&t[..3], b"I/O") {
-        return true;
-    }
-    if n < 5 {
-        return false;
-    }
-    words::same(&t[..5], b"Input")
-}
-
-// The same of the word behind Model_type; where there is none, what was known before.
-pub fn is_input(w: &[u8], before: bool) -> bool
-    ensures { λ r. ⌜ r ≡ orElse before (typeIs isInput (now (w .entry))) ⌝ }
-{
-    match named_lines::named_word(w) {
-        WordRead::One { start, end } => begins_input(&w[start..end]),
-        WordRead::NoWord => before,
-    }
-}
-
-// The type wants a ramp.
-fn wants_ramp(t: &[u8]) -> bool
-    ensures { λ r. ⌜ r ≡ isDriven (now (t .entry)) ⌝ }
-{
-    if words::same(t, b"Input") {
-        return false;
-    }
-    if words::same(t, b"Input_ECL") {
-        return false;
-    }
-    !words::same(t, b"Terminator")
-}
-
-pub fn is_driven(w: &[u8], before: bool) -> bool
-    ensures { λ r. ⌜ r ≡ orElse before (typeIs isDriven (now (w .entry))) ⌝ }
-{
-    match named_lines::named_word(w) {
-        WordRead::One { start, end } => wants_ramp(&w[start..end]),
-        WordRead::NoWord => before,
-    }
 }
 
 // ---- keywords' arguments

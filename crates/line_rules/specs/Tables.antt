@@ -1,7 +1,11 @@
 -- The names and words that document 01 lists, in its order. Letter case counts.
+use Prim.Native.Nat.{ℕ}
 use Prim.Native.String.{String}
 use mathlib.Core.List.{List, [], _∷_}
+use lib.ListN.{getD}
 use Rattle.name_table.specs.Names.{Naming, naming}
+use Rattle.name_table.specs.Places.{namesOf}
+use Rattle.records.specs.Types.{typeNumber}
 use Rattle.records.specs.declared.Location.{Location}
 use Rattle.records.specs.declared.Location.the-variants.{AtPin, AtDie}
 use Rattle.records.specs.declared.Polarity.{Polarity}
@@ -50,6 +54,10 @@ modelTypes =
     ∷ naming "Input_ECL" InputEcl ∷ naming "Output_ECL" OutputEcl ∷ naming "I/O_ECL" InputOutputEcl ∷ naming "3-state_ECL" ThreeStateEcl
     ∷ naming "Terminator" Terminator
     ∷ []
+
+-- a model type as document 01 spells it
+unfoldable pub typeName : ModelType → List ℕ
+typeName t = getD (namesOf modelTypes) (typeNumber t) []
 
 unfoldable pub polarities : List (Naming Polarity)
 polarities = naming "Inverting" Inverting ∷ naming "Non-Inverting" NonInverting ∷ []

@@ -12,11 +12,6 @@ use Rattle.name_table.specs.declared.Found.the-variants.{Nothing}
 use Rattle.line_rules.specs.Fields.{lineAt, wordLine, cellsLine, numberLine, lineSays}
 use Rattle.line_rules.specs.Tables.{modelLines, modelTypes, polarities, enables}
 use Rattle.line_rules.proofs.Places.{takes-nothing}
-use Rattle.rules.specs.Model.{isInput, typeIs}
-use Rattle.records.specs.declared.ModelType.{ModelType}
-use Rattle.named_lines.specs.Views.{typeRead}
-use Rattle.named_lines.specs.declared.TypeRead.{TypeRead}
-use Rattle.named_lines.specs.declared.TypeRead.the-variants.{OfType, NoType}
 use Rattle.lines_under.proofs.Folds.{Folds}
 use Rattle.model_record.specs.Firsts.{firstLine, firstsOn}
 use Rattle.model_record.specs.declared.FirstLines.{FirstLines}
@@ -30,7 +25,6 @@ unfolding placeFrom words grown ontoWord isBlank eqs
 first-nothing f w e =
     rw (
       takes-nothing "Model_type" (wordLine modelTypes) (f .kind) w modelLines 0 e refl,
-      takes-nothing "Model_type" (typeIs isInput) (f .input) w modelLines 0 e refl,
       takes-nothing "Polarity" (wordLine polarities) (f .polarity) w modelLines 1 e refl,
       takes-nothing "Enable" (wordLine enables) (f .enable) w modelLines 2 e refl,
       takes-nothing "C_comp" cellsLine (f .comp) w modelLines 3 e refl,
@@ -41,26 +35,6 @@ first-nothing f w e =
       takes-nothing "Rref" numberLine (f .rref) w modelLines 8 e refl,
       takes-nothing "Vref" numberLine (f .vref) w modelLines 9 e refl,
     )
-
--- ---- what the code answers of a type
-
-abbrev typeOr : ModelType → TypeRead → ModelType
-typeOr before (OfType t) = t
-typeOr before NoType = before
-
-type-or : (before : ModelType) (x : Said ModelType) → typeOr before (typeRead x) ≡ orElse before x
-type-or before (says t) = refl
-type-or before (fault n) = refl
-
-module _ (before : ModelType) {read : TypeRead} (w : List ℕ) (e : read ≡ typeRead (wordLine modelTypes w)) where
-  type-is : typeOr before read ≡ orElse before (wordLine modelTypes w)
-  type-is = ap (typeOr before) e ∙ type-or before (wordLine modelTypes w)
-
-  pub type-some : {t : ModelType} → read ≡ OfType t → t ≡ orElse before (wordLine modelTypes w)
-  type-some q = sym (ap (typeOr before) q) ∙ type-is
-
-  pub type-none : read ≡ NoType → before ≡ orElse before (wordLine modelTypes w)
-  type-none q = sym (ap (typeOr before) q) ∙ type-is
 
 -- ---- of a word whose absence is a value of its own: told is its fault
 

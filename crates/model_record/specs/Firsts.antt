@@ -2,14 +2,13 @@
 use Prim.Native.Nat.{ℕ}
 use mathlib.Core.Path.{_≡_}
 use mathlib.Core.List.{List}
-use mathlib.Core.Bool.{false}
 use Rattle.decimal.specs.declared.Cell.the-variants.{Missing}
 use Rattle.cut_lines.specs.Cursors.{rest}
 use Rattle.cut_lines.specs.declared.Cursor.{Cursor}
 use Rattle.line_rules.specs.Fields.{wordLine, cellsLine, numberLine, takes, lineSays}
 use Rattle.line_rules.specs.Tables.{modelTypes, polarities, enables}
-use Rattle.rules.specs.Model.{isInput, typeIs, defaultVinl, defaultVinh}
-use Rattle.rules.specs.Reading.{under, threshold}
+use Rattle.rules.specs.Types.{thresholds}
+use Rattle.rules.specs.Reading.{under}
 use Rattle.records.specs.Stored.{noCells}
 use Rattle.records.specs.declared.ModelType.the-variants.{Terminator}
 use Rattle.records.specs.declared.Polarity.the-variants.{NoPolarity}
@@ -23,7 +22,6 @@ abbrev pub bareLines : FirstLines
 bareLines =
     record {
       kind = Terminator;
-      input = false;
       polarity = NoPolarity;
       enable = NoEnable;
       comp = noCells;
@@ -40,7 +38,6 @@ abbrev pub firstLine : FirstLines → List ℕ → FirstLines
 firstLine f w =
     record {
       kind = takes "Model_type" (wordLine modelTypes) (f .kind) w;
-      input = takes "Model_type" (typeIs isInput) (f .input) w;
       polarity = takes "Polarity" (wordLine polarities) (f .polarity) w;
       enable = takes "Enable" (wordLine enables) (f .enable) w;
       comp = takes "C_comp" cellsLine (f .comp) w;
@@ -56,7 +53,6 @@ unfoldable pub firstsOn : FirstLines → List (List ℕ) → FirstLines
 firstsOn f ls =
     record {
       kind = lineSays "Model_type" (wordLine modelTypes) (f .kind) ls;
-      input = lineSays "Model_type" (typeIs isInput) (f .input) ls;
       polarity = lineSays "Polarity" (wordLine polarities) (f .polarity) ls;
       enable = lineSays "Enable" (wordLine enables) (f .enable) ls;
       comp = lineSays "C_comp" cellsLine (f .comp) ls;
@@ -68,17 +64,17 @@ firstsOn f ls =
       vref = lineSays "Vref" numberLine (f .vref) ls;
     }
 
--- with the thresholds that an input takes where they are absent
+-- with the thresholds that the type takes where they are absent
 abbrev pub defaulted : FirstLines → FirstLines
 defaulted f =
+    let t = thresholds (f .kind) (f .vinl) (f .vinh) in
     record {
       kind = f .kind;
-      input = f .input;
       polarity = f .polarity;
       enable = f .enable;
       comp = f .comp;
-      vinl = threshold (f .input) defaultVinl (f .vinl);
-      vinh = threshold (f .input) defaultVinh (f .vinh);
+      vinl = t .vinl;
+      vinh = t .vinh;
       vmeas = f .vmeas;
       cref = f .cref;
       rref = f .rref;

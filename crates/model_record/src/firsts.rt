@@ -4,48 +4,24 @@ ghost use mathlib.Core.Path.{_≡_};
 ghost use lib.Dec.{eqb};
 ghost use Rattle.laws.specs.Said.{orElse};
 ghost use Rattle.cut_lines.specs.Cursors.{Placed};
-ghost use Rattle.line_rules.specs.Fields.{wordLine, cellsLine, numberLine};
-ghost use Rattle.line_rules.specs.Tables.{modelTypes, polarities, enables};
-ghost use Rattle.rules.specs.Model.{isInput, typeIs};
-ghost use Rattle.rules.specs.Reading.{threshold};
+ghost use Rattle.line_rules.specs.Fields.{wordLine, cellsLine};
+ghost use Rattle.line_rules.specs.Tables.{polarities, enables};
 ghost use Rattle.model_record.specs.Firsts.{bareLines, firstLine, defaulted, FirstReadIs};
 use crate::FirstLines;
 use crate::FirstRead;
 use cut_lines::Cursor;
 use decimal::Cell;
-use decimal::CellRead;
-use decimal::Decimal;
 use line_rules::TripleRead;
 use lines_under::LineNext;
 use name_table::Found;
-use named_lines::TypeRead;
+use named_lines::fields::number_after;
+use named_lines::fields::type_after;
 use records::Enable;
 use records::ModelType;
 use records::Polarity;
 use records::Triple;
 
 // ---- one field after the line at place n
-
-fn kind_after(n: usize, w: &[u8], before: ModelType) -> ModelType
-    ensures { λ r. ⌜ r ≡ cond (eqb n 0) (orElse before (wordLine modelTypes (now (w .entry)))) before ⌝ }
-{
-    if n != 0 {
-        return before;
-    }
-    match named_lines::type_of(w) {
-        TypeRead::OfType(kind) => kind,
-        TypeRead::NoType => before,
-    }
-}
-
-fn input_after(n: usize, w: &[u8], before: bool) -> bool
-    ensures { λ r. ⌜ r ≡ cond (eqb n 0) (orElse before (typeIs isInput (now (w .entry)))) before ⌝ }
-{
-    if n == 0 {
-        return line_faults::is_input(w, before);
-    }
-    before
-}
 
 fn polarity_after(n: usize, w: &[u8], before: Polarity) -> Polarity
     ensures { λ r. ⌜ r ≡ cond (eqb n 1) (orElse before (wordLine polarities (now (w .entry)))) before ⌝ }
@@ -85,19 +61,6 @@ fn comp_after(n: usize, w: &[u8], before: Triple) -> Triple
     }
 }
 
-// A number whose own line stands at `place`.
-pub(crate) fn number_after(place: usize, n: usize, w: &[u8], before: Cell) -> Cell
-    ensures { λ r. ⌜ r ≡ cond (eqb n place) (orElse before (numberLine (now (w .entry)))) before ⌝ }
-{
-    if n != place {
-        return before;
-    }
-    match named_lines::number_line(w) {
-        CellRead::Read(number) => number,
-        CellRead::Bad(_) => before,
-    }
-}
-
 // ---- the lines
 
 fn bare_lines() -> FirstLines
@@ -105,7 +68,6 @@ fn bare_lines() -> FirstLines
 {
     FirstLines {
         kind: ModelType::Terminator,
-        input: false,
         polarity: Polarity::NoPolarity,
         enable: Enable::NoEnable,
         comp: records::no_cells(),
@@ -137,8 +99,7 @@ fn with_first_line(f: FirstLines, w: &[u8]) -> FirstLines
     let rref = f.rref;
     let vref = f.vref;
     FirstLines {
-        kind: kind_after(n, w, kind),
-        input: input_after(n, w, f.input),
+        kind: type_after(n, w, kind),
         polarity: polarity_after(n, w, polarity),
         enable: enable_after(n, w, enable),
         comp: comp_after(n, w, comp),
@@ -176,20 +137,7 @@ pub(crate) fn first_lines(src: &[u8], c: Cursor) -> FirstRead
 
 // ---- thresholds
 
-// A threshold, or its default on an input.
-fn threshold(input: bool, given: Cell, standard: Decimal) -> Cell
-    ensures { λ r. ⌜ r ≡ threshold input standard given ⌝ }
-{
-    if !input {
-        return given;
-    }
-    match given {
-        Cell::Number(d) => Cell::Number(d),
-        Cell::Missing => Cell::Number(standard),
-    }
-}
-
-// Vinl 0.8 and Vinh 2.0, each where absent, on inputs.
+// The thresholds of its type, each where absent.
 pub(crate) fn with_defaults(f: FirstLines) -> FirstLines
     ensures { λ r. ⌜ r ≡ defaulted f ⌝ }
 {
@@ -203,24 +151,16 @@ pub(crate) fn with_defaults(f: FirstLines) -> FirstLines
     let cref = f.cref;
     let rref = f.rref;
     let vref = f.vref;
-    let low = Decimal {
-        negative: false,
-        digits: 8,
-        power: 39,
-    };
-    let high = Decimal {
-        negative: false,
-        digits: 2,
-        power: 40,
-    };
+    let t = rules::types::thresholds(kind, vinl, vinh);
+    let low = t.vinl;
+    let high = t.vinh;
     FirstLines {
         kind: kind,
-        input: f.input,
         polarity: polarity,
         enable: enable,
         comp: comp,
-        vinl: threshold(f.input, vinl, low),
-        vinh: threshold(f.input, vinh, high),
+        vinl: low,
+        vinh: high,
         vmeas: vmeas,
         cref: cref,
         rref: rref,

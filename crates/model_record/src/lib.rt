@@ -16,10 +16,9 @@ pub mod record; // record.rt: the whole record
 
 pub use record::model_of;
 
-// What the first lines say. input: the type begins Input or I/O.
+// What the first lines say.
 pub struct FirstLines {
     pub kind: ModelType,
-    pub input: bool,
     pub polarity: Polarity,
     pub enable: Enable,
     pub comp: Triple,

@@ -1,25 +1,23 @@
 // A line of a model that is no keyword line, by the list or table that is open.
-ghost use mathlib.Core.Bool.{cond};
 ghost use mathlib.Core.Path.{_≡_};
-ghost use lib.Dec.{eqb};
-ghost use Rattle.laws.specs.Said.{faultIn, orElse};
+ghost use Rattle.laws.specs.Said.{faultIn};
 ghost use Rattle.words.specs.Words.{word, words};
 ghost use Rattle.name_table.specs.declared.Found.the-variants.{At};
 ghost use Rattle.line_rules.specs.Fields.{lineAt, numberLine, rowOf};
 ghost use Rattle.line_rules.specs.Tables.{modelLines, fixtures};
 ghost use Rattle.given.specs.Given.{with};
 ghost use Rattle.rules.specs.Going.{namedLine};
-ghost use Rattle.rules.specs.Model.{isInput, isDriven, typeIs, withFirst, withModelList, rowLine, beginsLetter, waveformLine, modelLine};
+ghost use Rattle.rules.specs.Model.{withFirst, withModelList, rowLine, beginsLetter, waveformLine, modelLine};
 ghost use Rattle.rules.specs.declared.ModelList.the-variants.{ModelFirst, CurrentRows, RampLines, WaveformRows};
 ghost use Rattle.rules.specs.declared.Stage.the-variants.{InModel};
 use crate::RowStep;
 use crate::rows::row_step;
 use crate::state::quiet;
 use crate::state::with_list;
-use decimal::Cell;
-use decimal::CellRead;
 use given::Given;
 use name_table::Found;
+use named_lines::fields::number_after;
+use named_lines::fields::type_after;
 use rules::Event;
 use rules::ModelList;
 use rules::ModelState;
@@ -29,43 +27,13 @@ use rules::Went;
 
 // ---- the first lines
 
-// A threshold's cell after the line at place n: its own line stands at `place`.
-fn threshold(place: usize, n: usize, w: &[u8], before: Cell) -> Cell
-    ensures { λ c. ⌜ c ≡ cond (eqb n place) (orElse before (numberLine (now (w .entry)))) before ⌝ }
-{
-    if n != place {
-        return before;
-    }
-    match named_lines::number_line(w) {
-        CellRead::Read(c) => c,
-        CellRead::Bad(_) => before,
-    }
-}
-
-fn input_after(n: usize, w: &[u8], before: bool) -> bool
-    ensures { λ t. ⌜ t ≡ cond (eqb n 0) (orElse before (typeIs isInput (now (w .entry)))) before ⌝ }
-{
-    if n == 0 {
-        return line_faults::is_input(w, before);
-    }
-    before
-}
-
-fn driven_after(n: usize, w: &[u8], before: bool) -> bool
-    ensures { λ t. ⌜ t ≡ cond (eqb n 0) (orElse before (typeIs isDriven (now (w .entry)))) before ⌝ }
-{
-    if n == 0 {
-        return line_faults::is_driven(w, before);
-    }
-    before
-}
-
 // The line at place n is given too; the type, Vinl and Vinh are remembered for the close.
 fn with_first(m: ModelState, n: usize, w: &[u8]) -> ModelState
     requires { ⌜ lineAt modelLines (now w) ≡ At n ⌝ }
     ensures { λ r. ⌜ r ≡ withFirst m (now (w .entry)) (with (m .first) n) ⌝ }
 {
     let first = m.first;
+    let kind = m.kind;
     let vinl = m.vinl;
     let vinh = m.vinh;
     let parts = m.parts;
@@ -73,10 +41,9 @@ fn with_first(m: ModelState, n: usize, w: &[u8]) -> ModelState
     ModelState {
         line: m.line,
         first: given::also(first, n),
-        input: input_after(n, w, m.input),
-        driven: driven_after(n, w, m.driven),
-        vinl: threshold(4, n, w, vinl),
-        vinh: threshold(5, n, w, vinh),
+        kind: type_after(n, w, kind),
+        vinl: number_after(4, n, w, vinl),
+        vinh: number_after(5, n, w, vinh),
         parts: parts,
         waveforms: m.waveforms,
         list: list,

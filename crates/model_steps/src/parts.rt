@@ -1,14 +1,12 @@
 // The keywords of a model, and what is checked where a list, a table or the model closes.
 ghost use mathlib.Core.Path.{_≡_};
 ghost use Rattle.rules.specs.Going.{unless};
-ghost use Rattle.rules.specs.Model.{modelPlace, modelOpens, singlePart, waveformPart, modelPart, tableFault, closed, modelShut, defaultVinl, defaultVinh, numberOr, modelDone};
+ghost use Rattle.rules.specs.Model.{modelPlace, modelOpens, singlePart, waveformPart, modelPart, tableFault, closed, modelShut, modelDone};
 ghost use Rattle.model_steps.specs.Closes.{bothGiven, isWhole, isCrossed};
 use crate::rows::no_rows;
 use crate::rows::table_fault;
 use crate::state::quiet;
 use crate::state::with_list;
-use decimal::Cell;
-use decimal::Decimal;
 use given::Given;
 use keywords::CurrentTable;
 use keywords::ModelPart;
@@ -18,6 +16,7 @@ use rules::ModelState;
 use rules::RowsSeen;
 use rules::Stage;
 use rules::Went;
+use rules::types;
 
 // ---- keywords
 
@@ -172,37 +171,6 @@ pub fn model_shut(m: ModelState) -> Went
 
 // ---- the close of a model
 
-fn number_or(default: Decimal, c: Cell) -> Decimal
-    ensures { λ r. ⌜ r ≡ numberOr default c ⌝ }
-{
-    match c {
-        Cell::Number(d) => d,
-        Cell::Missing => default,
-    }
-}
-
-// 0.8 volts.
-fn default_low() -> Decimal
-    ensures { λ r. ⌜ r ≡ defaultVinl ⌝ }
-{
-    Decimal {
-        negative: false,
-        digits: 8,
-        power: 39,
-    }
-}
-
-// 2 volts.
-fn default_high() -> Decimal
-    ensures { λ r. ⌜ r ≡ defaultVinh ⌝ }
-{
-    Decimal {
-        negative: false,
-        digits: 2,
-        power: 40,
-    }
-}
-
 // All that is required of a model was given.
 fn is_whole(m: ModelState) -> bool
     ensures { λ t. ⌜ t ≡ isWhole m ⌝ }
@@ -218,7 +186,8 @@ fn is_whole(m: ModelState) -> bool
     if !given::is_given(parts, 0) {
         return false;
     }
-    if !m.driven {
+    let kind = m.kind;
+    if !types::is_driven(kind) {
         return true;
     }
     given::is_given(parts, 6)
@@ -228,14 +197,16 @@ fn is_whole(m: ModelState) -> bool
 fn is_crossed(m: ModelState) -> bool
     ensures { λ t. ⌜ t ≡ isCrossed m ⌝ }
 {
-    if !m.input {
+    let kind = m.kind;
+    if !types::is_input(kind) {
         return false;
     }
     let vinl = m.vinl;
     let vinh = m.vinh;
-    let low = number_or(default_low(), vinl);
-    let high = number_or(default_high(), vinh);
-    !decimal::less(low, high)
+    let t = types::thresholds(kind, vinl, vinh);
+    let low = t.vinl;
+    let high = t.vinh;
+    !types::is_below(low, high)
 }
 
 // The fault of a whole model, 0 for none.

@@ -4,6 +4,7 @@ ghost use Rattle.rules.specs.Going.{quietly};
 ghost use Rattle.rules.specs.Model.{newModel, withModelList};
 ghost use Rattle.rules.specs.declared.Stage.the-variants.{InModel};
 use decimal::Cell;
+use records::ModelType;
 use rules::Event;
 use rules::ModelList;
 use rules::ModelState;
@@ -18,8 +19,7 @@ pub fn new_model(k: u64) -> ModelState
     ModelState {
         line: k,
         first: none,
-        input: false,
-        driven: false,
+        kind: ModelType::Terminator,
         vinl: Cell::Missing,
         vinh: Cell::Missing,
         parts: none,
@@ -32,14 +32,14 @@ pub(crate) fn with_list(m: ModelState, list: ModelList) -> ModelState
     ensures { λ r. ⌜ r ≡ withModelList m list ⌝ }
 {
     let first = m.first;
+    let kind = m.kind;
     let vinl = m.vinl;
     let vinh = m.vinh;
     let parts = m.parts;
     ModelState {
         line: m.line,
         first: first,
-        input: m.input,
-        driven: m.driven,
+        kind: kind,
         vinl: vinl,
         vinh: vinh,
         parts: parts,

@@ -3,3 +3,4 @@
 pub mod LineLaws
 pub mod FormLaws
 pub mod TableLaws
+pub mod TypeLaws

@@ -5,6 +5,7 @@ use records::ModelType;
 pub mod lines; // lines.rt: a line's words, its name, and the word or number behind it
 pub mod forms; // forms.rt: the forms of names
 pub mod lookups; // lookups.rt: a name or a word looked up in document 01's lists
+pub mod fields; // fields.rt: a field of a list after a line of it
 
 pub use forms::bracketed;
 pub use forms::file_name;

@@ -1,4 +1,5 @@
 -- Document 01 from "Sections" on, as definitions, in its order and words.
+pub mod Types
 pub mod Going
 pub mod Header
 pub mod Component

@@ -1,11 +1,10 @@
 -- Document 01, "Sections": [Model] with its first lines, its ranges, current tables, ramp and waveforms.
-use Prim.Native.Nat.{ℕ, _+_, _-_, min}
+use Prim.Native.Nat.{ℕ, _+_, min}
 use mathlib.Core.List.{List, [], _∷_}
 use mathlib.Core.Bool.{Bool, true, false, cond, not, _&&_, _||_}
-use lib.ListN.{length, take}
+use lib.ListN.{length}
 use lib.Dec.{eqb, leb}
-use Rattle.laws.specs.Bytes.{bytes, isLetter}
-use Rattle.laws.specs.Lists.{eqs}
+use Rattle.laws.specs.Bytes.{isLetter}
 use Rattle.laws.specs.Said.{Said, says, fault, faultIn}
 use Rattle.decimal.specs.Decimal.{lessThan, offset}
 use Rattle.decimal.specs.declared.Decimal.{Decimal}
@@ -17,10 +16,12 @@ use Rattle.keywords.specs.declared.ModelPart.the-variants.{VoltageRange, Temper
 use Rattle.keywords.specs.declared.CurrentTable.the-variants.{Pulldown, Pullup, GndClamp, PowerClamp}
 use Rattle.records.specs.declared.Row.{Row}
 use Rattle.records.specs.declared.Edge.the-variants.{Rising}
-use Rattle.line_rules.specs.Fields.{oneOf, exactly, isNamed, lineAt, behindName, wordLine, cellsLine, slopesLine, numberLine, takes, threeCells, rowOf}
+use Rattle.records.specs.declared.ModelType.the-variants.{Terminator}
+use Rattle.line_rules.specs.Fields.{isNamed, lineAt, wordLine, cellsLine, slopesLine, numberLine, takes, threeCells, rowOf}
 use Rattle.line_rules.specs.Tables.{modelLines, modelTypes, polarities, enables, rampLines, fixtures}
 use Rattle.given.specs.Given.{noneGiven, has, gave}
 use Rattle.given.specs.declared.Given.{Given}
+use Rattle.rules.specs.Types.{isInput, isDriven, thresholds, isBelow}
 use Rattle.rules.specs.Going.{stop, unless, refuse, quietly, once, namedLine}
 use Rattle.rules.specs.declared.RowsSeen.{RowsSeen}
 use Rattle.rules.specs.declared.ModelList.{ModelList}
@@ -33,12 +34,12 @@ use Rattle.rules.specs.declared.Went.the-variants.{On}
 
 abbrev pub newModel : ℕ → ModelState
 newModel k =
-    record { line = k; first = noneGiven; input = false; driven = false; vinl = Missing; vinh = Missing; parts = noneGiven; waveforms = 0; list = ModelFirst }
+    record { line = k; first = noneGiven; kind = Terminator; vinl = Missing; vinh = Missing; parts = noneGiven; waveforms = 0; list = ModelFirst }
 
 -- the same with another list open, and what was given of its parts
 abbrev pub withParts : ModelState → Given → ℕ → ModelList → ModelState
 withParts m g n l =
-    record { line = m .line; first = m .first; input = m .input; driven = m .driven; vinl = m .vinl; vinh = m .vinh; parts = g; waveforms = n; list = l }
+    record { line = m .line; first = m .first; kind = m .kind; vinl = m .vinl; vinh = m .vinh; parts = g; waveforms = n; list = l }
 
 abbrev pub withModelList : ModelState → ModelList → ModelState
 withModelList m l = withParts m (m .parts) (m .waveforms) l
@@ -54,26 +55,13 @@ firstFault w =
     (cond (isNamed "C_comp" w) (faultIn (cellsLine w))
     (faultIn (numberLine w)))))
 
--- "Types that begin Input or I/O"
-unfoldable pub isInput : List ℕ → Bool
-isInput t = eqs (take 5 t) (bytes "Input") || eqs (take 3 t) (bytes "I/O")
-
--- [Ramp] is "Required unless Input, Input_ECL or Terminator"
-unfoldable pub isDriven : List ℕ → Bool
-isDriven t = not (oneOf t (bytes "Input" ∷ bytes "Input_ECL" ∷ bytes "Terminator" ∷ []))
-
--- a test of the word that stands behind Model_type
-unfoldable pub typeIs : (List ℕ → Bool) → List ℕ → Said Bool
-typeIs p w = behindName (exactly 1 (λ ws. says (p (word 0 ws)))) w
-
 -- the type, Vinl and Vinh are remembered for the close
 unfoldable pub withFirst : ModelState → List ℕ → Given → ModelState
 withFirst m w g =
     record {
       line = m .line;
       first = g;
-      input = takes "Model_type" (typeIs isInput) (m .input) w;
-      driven = takes "Model_type" (typeIs isDriven) (m .driven) w;
+      kind = takes "Model_type" (wordLine modelTypes) (m .kind) w;
       vinl = takes "Vinl" numberLine (m .vinl) w;
       vinh = takes "Vinh" numberLine (m .vinh) w;
       parts = m .parts;
@@ -190,20 +178,10 @@ modelShut m (RampLines o g) = refuse (not (gave g rampLines "dV/dt_r" && gave g 
 modelShut m (WaveformRows o g r) =
     refuse (not (gave g fixtures "R_fixture" && gave g fixtures "V_fixture")) 9 o (unless (tableFault 1000 r) o (closed m))
 
--- "take Vinl 0.8 and Vinh 2.0, each where absent, and need Vinl below Vinh"
-abbrev pub defaultVinl : Decimal
-defaultVinl = record { negative = false; digits = 8; power = offset - 1 }
-
-abbrev pub defaultVinh : Decimal
-defaultVinh = record { negative = false; digits = 2; power = offset }
-
-abbrev pub numberOr : Decimal → Cell → Decimal
-numberOr e (Number d) = d
-numberOr e Missing = e
-
 -- Model_type, C_comp, [Voltage Range] and [Ramp] as required, else 9; then 20
 unfoldable pub modelDone : ModelState → ℕ
 modelDone m =
-    cond (gave (m .first) modelLines "Model_type" && (gave (m .first) modelLines "C_comp" && (has (m .parts) (modelPlace VoltageRange) && (not (m .driven) || has (m .parts) (modelPlace Ramp)))))
-    (cond (m .input && not (lessThan (numberOr defaultVinl (m .vinl)) (numberOr defaultVinh (m .vinh)))) 20 0)
+    let t = thresholds (m .kind) (m .vinl) (m .vinh) in
+    cond (gave (m .first) modelLines "Model_type" && (gave (m .first) modelLines "C_comp" && (has (m .parts) (modelPlace VoltageRange) && (not (isDriven (m .kind)) || has (m .parts) (modelPlace Ramp)))))
+    (cond (isInput (m .kind) && not (isBelow (t .vinl) (t .vinh))) 20 0)
     9

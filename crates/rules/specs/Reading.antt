@@ -7,14 +7,12 @@ use lib.ListN.{length, drop}
 use Rattle.laws.specs.Bytes.{bytes, isBlank}
 use Rattle.laws.specs.Lists.{front, after, eqs}
 use Rattle.laws.specs.Said.{Said, says, fault, orElse}
-use Rattle.decimal.specs.declared.Decimal.{Decimal}
 use Rattle.decimal.specs.declared.Cell.{Cell}
-use Rattle.decimal.specs.declared.Cell.the-variants.{Number, Missing}
+use Rattle.decimal.specs.declared.Cell.the-variants.{Missing}
 use Rattle.words.specs.Words.{word, words}
 use Rattle.keywords.specs.Form.{inside, isFormed, spelled, argument}
 use Rattle.cut_lines.specs.Texts.{Text, plain, change}
 use Rattle.records.specs.Stored.{nameLaid, wordsLaid, noCells, noSlopes}
-use Rattle.records.specs.declared.Triple.{Triple}
 use Rattle.records.specs.declared.Row.{Row}
 use Rattle.records.specs.declared.Span.{Span}
 use Rattle.records.specs.declared.Table.{Table}
@@ -34,7 +32,7 @@ use Rattle.records.specs.declared.ModelType.the-variants.{Terminator}
 use Rattle.line_rules.specs.Fields.{isBracketed, oneOf, threeCells, rowOf, wordLine, cellsLine, slopesLine, numberLine, lineSays}
 use Rattle.line_rules.specs.Tables.{locations, modelTypes, polarities, enables, tableKeywords}
 use Rattle.rules.specs.Component.{pinIn}
-use Rattle.rules.specs.Model.{isInput, typeIs, numberOr, defaultVinl, defaultVinh}
+use Rattle.rules.specs.Types.{thresholds}
 
 -- ---- keyword lines
 
@@ -100,10 +98,6 @@ choicesIn ts = map choiceIn (under ts)
 unfoldable pub numberSaid : String → List (List ℕ) → Cell
 numberSaid name ls = lineSays name numberLine Missing ls
 
--- "each where absent"; "Others keep what is given, or missing"
-unfoldable pub threshold : Bool → Decimal → Cell → Cell
-threshold input standard c = cond input (Number (numberOr standard c)) c
-
 -- three cells on the keyword's line
 abbrev pub rangeIn : List ℕ → List (List ℕ) → Range
 rangeIn w ls = record { given = true; cells = orElse noCells (threeCells (words w)) }
@@ -121,16 +115,17 @@ noRamp = record { given = false; rise = noSlopes; fall = noSlopes; load = Missin
 unfoldable pub modelIn : ℕ → (String → Table) → Span → List ℕ → List Text → Model
 modelIn n table waveforms name ts =
     let first = under ts in
-    let input = lineSays "Model_type" (typeIs isInput) false first in
+    let kind = lineSays "Model_type" (wordLine modelTypes) Terminator first in
+    let t = thresholds kind (numberSaid "Vinl" first) (numberSaid "Vinh" first) in
     record {
       section = n;
       name = nameLaid name;
-      kind = lineSays "Model_type" (wordLine modelTypes) Terminator first;
+      kind = kind;
       polarity = lineSays "Polarity" (wordLine polarities) NoPolarity first;
       enable = lineSays "Enable" (wordLine enables) NoEnable first;
       comp = lineSays "C_comp" cellsLine noCells first;
-      vinl = threshold input defaultVinl (numberSaid "Vinl" first);
-      vinh = threshold input defaultVinh (numberSaid "Vinh" first);
+      vinl = t .vinl;
+      vinh = t .vinh;
       vmeas = numberSaid "Vmeas" first;
       cref = numberSaid "Cref" first;
       rref = numberSaid "Rref" first;

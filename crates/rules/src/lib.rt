@@ -6,6 +6,15 @@ use decimal::Decimal;
 use given::Given;
 use keywords::Section;
 use records::Fault;
+use records::ModelType;
+
+pub mod types; // types.rt: what a model's type asks of it
+
+// Vinl and Vinh of a model.
+pub struct Thresholds {
+    pub vinl: Cell,
+    pub vinh: Cell,
+}
 
 pub struct HeaderState {
     pub line: u64,
@@ -60,12 +69,11 @@ pub enum ModelList {
     },
 }
 
-// input and driven: the type begins Input or I/O, and wants a ramp. Vinl and Vinh are kept for the check at the close.
+// The type, Vinl and Vinh are kept for the checks at the close.
 pub struct ModelState {
     pub line: u64,
     pub first: Given,
-    pub input: bool,
-    pub driven: bool,
+    pub kind: ModelType,
     pub vinl: Cell,
     pub vinh: Cell,
     pub parts: Given,

@@ -10,7 +10,7 @@ use Rattle.name_table.specs.Places.{namesOf}
 use Rattle.line_rules.specs.Tables.{modelTypes}
 use Rattle.text_buffer.specs.Parts.{parts}
 use Rattle.text_buffer.proofs.Laws.{put-as}
-use Rattle.type_text.specs.Types.{typeText}
+use Rattle.line_rules.specs.Tables.{typeName}
 use Rattle.type_text.proofs.put_type.Statement.{statement}
 use Rattle.type_text.proofs.put_type.Tie as tie
 
@@ -24,7 +24,7 @@ same-length : tie.Need-same-length
 same-length c = search needs
 
 returns : tie.Need-returns
-unfolding parts ontoWord other namesOf modelTypes typeText
+unfolding parts ontoWord other namesOf modelTypes typeName
 returns c = put-as (ap (λ (n : ℕ). getD (namesOf modelTypes) n []) (c .before .before .before .type-number .ensures)) (c .before .before .put-part .ensures)
 
 pub put-type-spec : {M : Type 1} → statement M

@@ -9,7 +9,6 @@ use Rattle.name_table.specs.Names.{placeFrom}
 use Rattle.line_rules.specs.Fields.{wordLine, cellsLine, numberLine}
 use Rattle.line_rules.specs.Tables.{modelLines, modelTypes, polarities, enables}
 use Rattle.line_rules.proofs.Places.{takes-place}
-use Rattle.rules.specs.Model.{isInput, typeIs}
 use Rattle.model_record.proofs.FirstLaws.{first-nothing}
 use Rattle.model_record.proofs.firsts.with_first_line.Statement.{statement}
 use Rattle.model_record.proofs.firsts.with_first_line.Tie as tie
@@ -26,11 +25,8 @@ enum-told c = search needs
 returns : tie.Need-returns
 returns c = first-nothing (c .before .before .before .before .args .f) (now (c .before .before .before .before .args .w)) (sym (c .before .before .model-line .ensures) ∙ c .enum-told .given .1)
 
-kind-after-requires : tie.Need-kind-after-requires
-kind-after-requires c κs = tt
-
-input-after-requires : tie.Need-input-after-requires
-input-after-requires c κs = tt
+type-after-requires : tie.Need-type-after-requires
+type-after-requires c κs = tt
 
 polarity-after-requires : tie.Need-polarity-after-requires
 polarity-after-requires c κs = tt
@@ -62,12 +58,11 @@ number-after-requires-6 c κs = tt
 returns-2 : tie.Need-returns-2
 unfolding placeFrom words grown ontoWord isBlank eqs
 returns-2 c =
-    let f = c .before .before .before .before .before .before .before .before .before .before .before .before .before .before .before .before .before .args .f in
-    let w = now (c .before .before .before .before .before .before .before .before .before .before .before .before .before .before .before .before .before .args .w) in
-    let e = sym (c .before .before .before .before .before .before .before .before .before .before .before .before .before .before .before .model-line .ensures) ∙ c .before .before .before .before .before .before .before .before .before .before .before .before .before .found .given .1 in
+    let f = c .before .before .before .before .before .before .before .before .before .before .before .before .before .before .before .before .args .f in
+    let w = now (c .before .before .before .before .before .before .before .before .before .before .before .before .before .before .before .before .args .w) in
+    let e = sym (c .before .before .before .before .before .before .before .before .before .before .before .before .before .before .model-line .ensures) ∙ c .before .before .before .before .before .before .before .before .before .before .before .before .found .given .1 in
     rw (
       takes-place "Model_type" (wordLine modelTypes) (f .kind) w modelLines _ 0 e refl,
-      takes-place "Model_type" (typeIs isInput) (f .input) w modelLines _ 0 e refl,
       takes-place "Polarity" (wordLine polarities) (f .polarity) w modelLines _ 1 e refl,
       takes-place "Enable" (wordLine enables) (f .enable) w modelLines _ 2 e refl,
       takes-place "C_comp" cellsLine (f .comp) w modelLines _ 3 e refl,
@@ -77,8 +72,7 @@ returns-2 c =
       takes-place "Cref" numberLine (f .cref) w modelLines _ 7 e refl,
       takes-place "Rref" numberLine (f .rref) w modelLines _ 8 e refl,
       takes-place "Vref" numberLine (f .vref) w modelLines _ 9 e refl,
-      c .before .before .before .before .before .before .before .before .before .before .kind-after .ensures,
-      c .before .before .before .before .before .before .before .before .before .input-after .ensures,
+      c .before .before .before .before .before .before .before .before .before .type-after .ensures,
       c .before .before .before .before .before .before .before .before .polarity-after .ensures,
       c .before .before .before .before .before .before .before .enable-after .ensures,
       c .before .before .before .before .before .before .comp-after .ensures,
@@ -98,8 +92,7 @@ with-first-line-spec =
     enum-known-found
     enum-told
     returns
-    kind-after-requires
-    input-after-requires
+    type-after-requires
     polarity-after-requires
     enable-after-requires
     comp-after-requires

@@ -1,47 +1,28 @@
 -- Only an input has thresholds to compare; each that is absent has its default.
-use mathlib.Core.Path.{ap, _∙_}
+use mathlib.Core.Path.{sym, ap, _∙_}
 use mathlib.Core.Bool.{not}
 use borrow.Author.Tests.{not-true, not-false}
-use Rattle.decimal.specs.Decimal.{lessThan}
-use Rattle.decimal.specs.declared.Decimal.{Decimal}
-use Rattle.rules.specs.Model.{numberOr, defaultVinl}
+use Rattle.rules.specs.Types.{isBelow}
+use Rattle.rules.specs.declared.Thresholds.{Thresholds}
 use Rattle.model_steps.proofs.parts.is_crossed.Statement.{statement}
 use Rattle.model_steps.proofs.parts.is_crossed.Tie as tie
 
+is-input-requires : tie.Need-is-input-requires
+is-input-requires c κs = tt
+
 returns : tie.Need-returns
-returns c = rw (not-true (c .before .before .args .m .input) (c .if1 .taken))
+returns c = rw (sym (c .before .is-input .ensures) ∙ not-true (c .before .is-input .result) (c .if1 .taken))
 
-default-low-requires : tie.Need-default-low-requires
-default-low-requires c κs = tt
+thresholds-requires : tie.Need-thresholds-requires
+thresholds-requires c κs = tt
 
-number-or-requires : tie.Need-number-or-requires
-number-or-requires c κs = tt
-
-default-high-requires : tie.Need-default-high-requires
-default-high-requires c κs = tt
-
-number-or-requires-2 : tie.Need-number-or-requires-2
-number-or-requires-2 c κs = tt
-
-less-requires : tie.Need-less-requires
-less-requires c κs = tt
+is-below-requires : tie.Need-is-below-requires
+is-below-requires c κs = tt
 
 returns-2 : tie.Need-returns-2
 returns-2 c =
-    let m = c .before .before .before .before .before .before .before .args .m in
-    let low = c .before .before .before .number-or .ensures ∙ ap (λ (d : Decimal). numberOr d (m .vinl)) (c .before .before .before .before .default-low .ensures) in
-    let high = c .before .number-or2 .ensures ∙ ap (λ (d : Decimal). numberOr d (m .vinh)) (c .before .before .default-high .ensures) in
-    rw (not-false (m .input) (c .before .before .before .before .before .if1 .left))
-    (ap not (c .less .ensures ∙ ap (λ (d : Decimal). lessThan d (c .before .number-or2 .result)) low ∙ ap (lessThan (numberOr defaultVinl (m .vinl))) high))
+    rw (sym (c .before .before .before .is-input .ensures) ∙ not-false (c .before .before .before .is-input .result) (c .before .before .if1 .left))
+    (ap not (c .is-below .ensures ∙ ap (λ (t : Thresholds). isBelow (t .vinl) (t .vinh)) (c .before .thresholds .ensures)))
 
 pub is-crossed-spec : {M : Type 1} → statement M
-is-crossed-spec =
-    tie.close
-    (tie.spec
-    returns
-    default-low-requires
-    number-or-requires
-    default-high-requires
-    number-or-requires-2
-    less-requires
-    returns-2)
+is-crossed-spec = tie.close (tie.spec is-input-requires returns thresholds-requires is-below-requires returns-2)

@@ -31,13 +31,16 @@ returns-3 c =
       sym (c .before .is-given3 .ensures) ∙ not-true (c .before .is-given3 .result) (c .if3 .taken),
     )
 
+is-driven-requires : tie.Need-is-driven-requires
+is-driven-requires c κs = tt
+
 returns-4 : tie.Need-returns-4
 returns-4 c =
     rw (
       sym (c .before .before .before .before .before .before .before .is-given .ensures) ∙ not-false (c .before .before .before .before .before .before .before .is-given .result) (c .before .before .before .before .before .before .if1 .left),
       sym (c .before .before .before .before .before .is-given2 .ensures) ∙ not-false (c .before .before .before .before .before .is-given2 .result) (c .before .before .before .before .if2 .left),
       sym (c .before .before .before .is-given3 .ensures) ∙ not-false (c .before .before .before .is-given3 .result) (c .before .before .if3 .left),
-      not-true (c .before .before .before .before .before .before .before .before .before .before .args .m .driven) (c .if4 .taken),
+      sym (c .before .is-driven .ensures) ∙ not-true (c .before .is-driven .result) (c .if4 .taken),
     )
 
 is-given-requires-4 : tie.Need-is-given-requires-4
@@ -49,7 +52,7 @@ returns-5 c =
       sym (c .before .before .before .before .before .before .before .before .is-given .ensures) ∙ not-false (c .before .before .before .before .before .before .before .before .is-given .result) (c .before .before .before .before .before .before .before .if1 .left),
       sym (c .before .before .before .before .before .before .is-given2 .ensures) ∙ not-false (c .before .before .before .before .before .before .is-given2 .result) (c .before .before .before .before .before .if2 .left),
       sym (c .before .before .before .before .is-given3 .ensures) ∙ not-false (c .before .before .before .before .is-given3 .result) (c .before .before .before .if3 .left),
-      not-false (c .before .before .before .before .before .before .before .before .before .before .before .args .m .driven) (c .before .if4 .left),
+      sym (c .before .before .is-driven .ensures) ∙ not-false (c .before .before .is-driven .result) (c .before .if4 .left),
     ) (c .is-given4 .ensures)
 
 pub is-whole-spec : {M : Type 1} → statement M
@@ -62,6 +65,7 @@ is-whole-spec =
     returns-2
     is-given-requires-3
     returns-3
+    is-driven-requires
     returns-4
     is-given-requires-4
     returns-5)

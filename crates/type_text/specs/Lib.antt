@@ -1,2 +1,0 @@
--- The text of a model type.
-pub mod Types
