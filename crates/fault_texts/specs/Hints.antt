@@ -27,7 +27,7 @@ hints =
     ∷ bytes "At most 8 components, 512 pins, 32 selectors, 256 selector rows, 64 models, 16 waveforms a model, 1,024 in all."
     ∷ bytes "The program lends a number of rows for all tables: lend more, or thin the tables out."
     ∷ bytes "The file is cut off, or its last keyword is missing."
-    ∷ bytes "Look at Vinl and Vinh of this model. Where one is absent, Vinl is 0.8 and Vinh 2.0."
+    ∷ bytes "Look at Vinl and Vinh of this model. Where one is absent, Vinl is 0.8 and Vinh 2.0; in Input_ECL and I/O_ECL, Vinl is -1.475 and Vinh -1.165."
     ∷ []
 
 unfoldable pub hintOf : ℕ → List ℕ
