@@ -1,4 +1,7 @@
 // The summary of an accepted file on standard output: the file, and each component with its pins in columns as wide as their names.
+ghost use mathlib.Core.Bool.{cond};
+ghost use mathlib.Core.Path.{_≡_};
+ghost use lib.Dec.{ltb};
 use explain_text::Widths;
 use name_table::Found;
 use program_output::flushed;
@@ -23,7 +26,10 @@ use table_records::tables::pin_in;
 
 // ---- how wide the columns are: as their headings, or as the longest name
 
-fn wider(width: usize, name: Name) -> usize {
+// As wide as before, or as the name where that is longer.
+fn wider(width: usize, name: Name) -> usize
+    ensures { λ r. ⌜ r ≡ cond (ltb width (name .len)) (name .len) width ⌝ }
+{
     let n = name.len as usize;
     if width < n { n } else { width }
 }
