@@ -7,3 +7,4 @@ pub mod Lists
 pub mod Fronts
 pub mod Trims
 pub mod Same
+pub mod Eights

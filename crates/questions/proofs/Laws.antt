@@ -1,46 +1,33 @@
 -- Laws of what is asked: a name's bytes, places of a span, and a search from the top.
 use Prim.Native.Nat.{ℕ, zero, suc, _+_, _-_, _<_, _≤_, min}
 use mathlib.Core.Path.{_≡_, refl, sym, ap, _∙_}
-use mathlib.Core.List.{List, [], _∷_, map}
+use mathlib.Core.List.{List}
 use mathlib.Core.Bool.{Bool, true, false, not, cond, _&&_}
-use native.Mathlib.Nat.{min-eq-left, min-eq-right, le-of-lt}
-use native.Mathlib.Numerals.{add-one}
 use native.Mathlib.Omega.{arith}
 use lib.Dec.{ltb}
-use lib.ListN.{length, take}
-use lib.Seq.{take-all, length-take-le}
+use lib.ListN.{length, getD}
 use borrow.Author.Tests.{lt-ltb, le-ltb}
 use Rattle.laws.proofs.Tests.{by-order}
-use Rattle.laws.proofs.Same.{map-same, eqs-apart}
+use Rattle.laws.specs.Eights.{bytesFrom}
+use Rattle.laws.specs.Lists.{eqs}
+use Rattle.laws.proofs.Same.{eqs-apart}
 use Rattle.name_table.specs.declared.Found.{Found}
 use Rattle.name_table.specs.declared.Found.the-variants.{At, Nothing}
-use Rattle.records.specs.declared.Name.{Name}
 use Rattle.table_records.specs.Records.{nameFrom}
-use Rattle.table_records.proofs.Bytes.{bytes-length}
+use Rattle.laws.proofs.Eights.{bytes-length, bytes-take}
 use Rattle.questions.specs.Named.{nameBytes, isNamed}
 use Rattle.questions.specs.Searched.{firstPlace}
 
--- ---- names
+-- ---- names in words
 
-text-is : (len : ℕ) (bytes : List ℕ) → length bytes ≡ 40 → take (min len 40) bytes ≡ take len bytes
-text-is len bytes h =
-    by-order len 40
-    (λ k. ap (λ (n : ℕ). take n bytes) (min-eq-left k))
-    (λ k.
-    let a : length bytes ≤ len = omega arith in
-    let b : length bytes ≤ 40 = omega arith in
-    ap (λ (n : ℕ). take n bytes) (min-eq-right (le-of-lt k)) ∙ take-all 40 bytes b ∙ sym (take-all len bytes a))
+-- the name is made of its first bytes, so many as its length tells, and never more than 40
+pub named-in : (ws w : List ℕ) (len : ℕ) → min (getD ws 5 0) 40 ≡ len → isNamed (nameFrom ws) w ≡ eqs (bytesFrom ws len) w
+unfolding isNamed nameBytes nameFrom
+named-in ws w len e = ap (λ (l : List ℕ). eqs l w) (bytes-take ws 40 (min (getD ws 5 0) 40) (omega arith) ∙ ap (bytesFrom ws) e)
 
--- the kit says of an array in a record that its elements, each as itself, are so many
-whole : (bytes : List ℕ) → length (map (λ (b : ℕ). b) bytes) ≡ 40 → length bytes ≡ 40
-whole bytes h = sym (ap length (map-same bytes)) ∙ h
-
--- what is asked of a name's first n bytes is asked of the name
-pub text-same : {X : Type 0} (f : List ℕ → X) (n len : ℕ) (bytes : List ℕ) → length (map (λ (b : ℕ). b) bytes) ≡ 40 → n ≡ min len 40 → f (take n bytes) ≡ f (take len bytes)
-text-same f n len bytes h e = ap (λ (k : ℕ). f (take k bytes)) e ∙ ap f (text-is len bytes (whole bytes h))
-
-pub text-within : (n len : ℕ) (bytes : List ℕ) → length (map (λ (b : ℕ). b) bytes) ≡ 40 → n ≡ min len 40 → n ≤ length bytes
-text-within n len bytes h e = omega (arith, whole bytes h, e)
+-- a name of another length is another name
+pub other-length : (ws w : List ℕ) (len : ℕ) → min (getD ws 5 0) 40 ≡ len → (len ≡ length w → ⊥) → isNamed (nameFrom ws) w ≡ false
+other-length ws w len e apart = named-in ws w len e ∙ eqs-apart (bytesFrom ws len) w (λ q. apart (sym (bytes-length ws len) ∙ q))
 
 -- ---- spans
 
@@ -72,14 +59,3 @@ module _ (test : ℕ → Bool) (from n : ℕ) where
   pub seeks-none : (i : ℕ) → n ≤ i → Seeks i → Nothing ≡ firstPlace test from n
   unfolding firstPlace
   seeks-none i h inv = let e : n - i ≡ 0 = omega arith in sym (ap (firstPlace test (from + i)) e) ∙ inv
-
--- ---- what the length of a name decides
-
--- a name's length is that of its bytes, where it has all of them
-pub other-length : (n : Name) (w : List ℕ) → n .len ≤ length (n .bytes) → (n .len ≡ length w → ⊥) → isNamed n w ≡ false
-unfolding isNamed nameBytes
-other-length n w h apart = eqs-apart (take (n .len) (n .bytes)) w (λ e. apart (sym (length-take-le (n .len) (n .bytes) h) ∙ e))
-
-pub name-sized : (ws : List ℕ) → nameFrom ws .len ≤ length (nameFrom ws .bytes)
-unfolding nameFrom
-name-sized ws = omega (arith, bytes-length ws 40)

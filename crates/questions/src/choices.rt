@@ -3,8 +3,8 @@ ghost use mathlib.Core.Path.{_≡_};
 ghost use Rattle.questions.specs.Named.{nameBytes};
 ghost use Rattle.questions.specs.Searched.{modelNamed, selectorNamed};
 ghost use Rattle.questions.specs.Chosen.{firstChoice, selected, nameFor, modelFor, modelOfPin};
+use crate::names::first_bytes;
 use crate::names::needs_no_model;
-use crate::names::text_length;
 use crate::searches::model_named;
 use crate::searches::selector_named;
 use name_table::Found;
@@ -25,17 +25,13 @@ fn first_choice(choices: &[u64], rows: Span) -> Name
 fn selector_of(selectors: &[u64], name: Name) -> Found
     ensures { λ r. ⌜ r ≡ selectorNamed (now (selectors .entry)) (nameBytes name) ⌝ }
 {
-    let n = text_length(name);
-    let bytes = name.bytes;
-    selector_named(selectors, &bytes[..n])
+    selector_named(selectors, first_bytes(&name.bytes, name.len))
 }
 
 fn model_of(models: &[u64], name: Name) -> Found
     ensures { λ r. ⌜ r ≡ modelNamed (now (models .entry)) (nameBytes name) ⌝ }
 {
-    let n = text_length(name);
-    let bytes = name.bytes;
-    model_named(models, &bytes[..n])
+    model_named(models, first_bytes(&name.bytes, name.len))
 }
 
 // A pin's model name after selection; its own, reserved words too, where no selector has that name.

@@ -1,44 +1,42 @@
-// Whether names are the same: by their bytes, and what stands behind a name's length counts for nothing.
+// Whether names are the same: by their bytes, each as it lies in its record or in its words; what stands behind a name's length counts for nothing.
 ghost use mathlib.Core.Path.{_≡_};
-ghost use Prim.Native.Nat.{min};
+ghost use lib.ListN.{take};
 ghost use Rattle.line_rules.specs.Fields.{needsNoModel};
 ghost use Rattle.table_records.specs.Records.{nameFrom};
 ghost use Rattle.questions.specs.Named.{nameBytes, isNamed, sameName};
 use records::Name;
 
-// How many bytes a name holds: never more than its 40.
-pub(crate) fn text_length(n: Name) -> usize
-    ensures { λ r. ⌜ r ≡ min (n .len) 40 ⌝ }
+// The first n bytes of a text; all of them where it has no more.
+pub(crate) fn first_bytes(bytes: &[u8], n: u8) -> &[u8]
+    ensures { λ r. ⌜ now r ≡ take n (now (bytes .entry)) ⌝ }
 {
-    let len = n.len;
-    if 40 < len { 40 } else { len as usize }
+    let most = bytes.len();
+    let len = n as usize;
+    if most < len {
+        return &bytes[..most];
+    }
+    &bytes[..len]
 }
 
 // Whether a name is made of exactly these bytes.
 pub fn is_named(a: Name, w: &[u8]) -> bool
     ensures { λ r. ⌜ r ≡ isNamed a (now (w .entry)) ⌝ }
 {
-    let n = text_length(a);
-    let bytes = a.bytes;
-    words::same(&bytes[..n], w)
+    words::same(first_bytes(&a.bytes, a.len), w)
 }
 
 // Whether two names hold the same bytes.
 pub fn same_name(a: Name, b: Name) -> bool
     ensures { λ r. ⌜ r ≡ sameName a b ⌝ }
 {
-    let n = text_length(b);
-    let bytes = b.bytes;
-    is_named(a, &bytes[..n])
+    is_named(a, first_bytes(&b.bytes, b.len))
 }
 
 // Whether a name is one of the words for a pin that needs no model.
 pub(crate) fn needs_no_model(name: Name) -> bool
     ensures { λ r. ⌜ r ≡ needsNoModel (nameBytes name) ⌝ }
 {
-    let n = text_length(name);
-    let bytes = name.bytes;
-    named_lines::needs_no_model(&bytes[..n])
+    named_lines::needs_no_model(first_bytes(&name.bytes, name.len))
 }
 
 // Whether the name in these words is made of exactly these bytes. Most names differ in length already.
@@ -50,5 +48,12 @@ pub(crate) fn has_name(words: &[u64], name: &[u8]) -> bool
     if len != name.len() {
         return false;
     }
-    is_named(table_records::parts::name_from(words), name)
+    let mut i = 0;
+    while i < name.len() {
+        if table_records::values::byte_in(words, i) != name[i] {
+            return false;
+        }
+        i += 1;
+    }
+    true
 }

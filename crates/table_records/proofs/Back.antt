@@ -21,9 +21,10 @@ use Rattle.records.specs.declared.Edge.{Edge}
 use Rattle.records.specs.declared.Edge.the-variants.{Rising, Falling}
 use Rattle.records.specs.declared.Name.{Name}
 use Rattle.records.specs.declared.Words.{Words}
+use Rattle.laws.specs.Eights.{byteIn, bytesFrom}
 use Rattle.record_words.specs.Values.{eightAt, twoAt, fourAt, flagNumber, locationNumber, polarityNumber, enableNumber, edgeNumber}
 use Rattle.record_words.specs.Records.{nameWords, textWords}
-use Rattle.table_records.specs.Values.{numberAt, byteIn, bytesFrom, flagIn, locationIn, polarityIn, enableIn, edgeIn}
+use Rattle.table_records.specs.Values.{numberAt, flagIn, locationIn, polarityIn, enableIn, edgeIn}
 use Rattle.table_records.specs.Records.{nameFrom, textFrom}
 use Rattle.table_records.specs.Fine.{AreBytes, FineName, FineWords}
 

@@ -1,7 +1,6 @@
 -- Laws of records read back from words.
 pub mod Places
 pub mod Types
-pub mod Bytes
 pub mod Whole
 pub mod Back
 pub mod RecordsBack

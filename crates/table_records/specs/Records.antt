@@ -2,6 +2,7 @@
 use Prim.Native.Nat.{ℕ, min}
 use mathlib.Core.List.{List}
 use lib.ListN.{drop}
+use Rattle.laws.specs.Eights.{bytesFrom}
 use Rattle.decimal.specs.declared.Cell.{Cell}
 use Rattle.decimal.specs.declared.Cell.the-variants.{Number, Missing}
 use Rattle.records.specs.declared.Triple.{Triple}
@@ -20,7 +21,7 @@ use Rattle.records.specs.declared.Model.{Model}
 use Rattle.records.specs.declared.Waveform.{Waveform}
 use Rattle.table_records.specs.declared.StoredRow.{StoredRow}
 use Rattle.table_records.specs.declared.StoredRow.the-variants.{Kept, NoRow}
-use Rattle.table_records.specs.Values.{numberAt, cellAt, bytesFrom, flagIn, locationIn, polarityIn, enableIn, edgeIn, typeIn, slopeIn}
+use Rattle.table_records.specs.Values.{numberAt, cellAt, flagIn, locationIn, polarityIn, enableIn, edgeIn, typeIn, slopeIn}
 
 -- ---- parts of records
 

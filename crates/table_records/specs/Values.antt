@@ -1,7 +1,7 @@
 -- Values read back from the words of a record, from its front on. A word that is not there is 0, a cell that is not there is missing.
-use Prim.Native.Nat.{ℕ, zero, suc, _*_, _^_, _/_, _%_}
+use Prim.Native.Nat.{ℕ, _*_, _/_}
 use mathlib.Core.Bool.{Bool, cond, not}
-use mathlib.Core.List.{List, [], _∷_, _++_}
+use mathlib.Core.List.{List, [], _∷_}
 use lib.Dec.{eqb, ltb}
 use lib.ListN.{length, take, drop, getD}
 use Rattle.decimal.specs.Decimal.{missingWord}
@@ -26,22 +26,13 @@ use Rattle.records.specs.declared.RampCell.the-variants.{Ratio, Absent}
 unfoldable pub recordAt : ℕ → List ℕ → ℕ → List ℕ
 recordAt size table k = cond (ltb k (length table / size)) (take size (drop (k * size) table)) []
 
--- ---- numbers, cells and bytes
+-- ---- numbers and cells
 
 abbrev pub numberAt : List ℕ → ℕ → ℕ
 numberAt ws k = getD ws k 0
 
 unfoldable pub cellAt : List ℕ → ℕ → Cell
 cellAt ws k = cellIn (getD ws k missingWord)
-
--- byte k of a text: eight lie in a word, the first one lowest
-unfoldable pub byteIn : List ℕ → ℕ → ℕ
-byteIn ws k = numberAt ws (k / 8) / 256 ^ (k % 8) % 256
-
--- its first n bytes
-unfoldable pub bytesFrom : List ℕ → ℕ → List ℕ
-bytesFrom ws zero = []
-bytesFrom ws (suc n) = bytesFrom ws n ++ (byteIn ws n ∷ [])
 
 -- ---- the case of a number
 

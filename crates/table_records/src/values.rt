@@ -1,7 +1,8 @@
 // Values in the words of a record. A word that is not there is 0, a cell that is not there is missing.
 ghost use mathlib.Core.Path.{_≡_};
 ghost use lib.ListN.{length, drop, getD};
-ghost use Rattle.table_records.specs.Values.{recordAt, cellAt, byteIn, bytesFrom, flagIn, locationIn, polarityIn, enableIn, edgeIn, typeIn, slopeIn};
+ghost use Rattle.laws.specs.Eights.{byteIn, bytesFrom};
+ghost use Rattle.table_records.specs.Values.{recordAt, cellAt, flagIn, locationIn, polarityIn, enableIn, edgeIn, typeIn, slopeIn};
 use decimal::Cell;
 use records::Edge;
 use records::Enable;
@@ -57,21 +58,10 @@ pub fn cell_at(words: &[u64], k: usize) -> Cell
 }
 
 // Byte k of a text: eight lie in a word, the first one lowest.
-fn byte_in(words: &[u64], k: usize) -> u8
+pub fn byte_in(words: &[u64], k: usize) -> u8
     ensures { λ r. ⌜ r ≡ byteIn (now (words .entry)) k ⌝ }
 {
-    let w = number_at(words, k / 8);
-    let place = k % 8;
-    match place {
-        0 => (w % 256) as u8,
-        1 => (w / 256 % 256) as u8,
-        2 => (w / 65536 % 256) as u8,
-        3 => (w / 16777216 % 256) as u8,
-        4 => (w / 4294967296 % 256) as u8,
-        5 => (w / 1099511627776 % 256) as u8,
-        6 => (w / 281474976710656 % 256) as u8,
-        _ => (w / 72057594037927936 % 256) as u8,
-    }
+    ((number_at(words, k / 8) >> (k % 8 * 8)) % 256) as u8
 }
 
 // The bytes of a text, as many as are lent.

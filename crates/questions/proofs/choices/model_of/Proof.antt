@@ -1,36 +1,22 @@
--- The bytes up to the length are the name's, whatever the length is: `text-same`.
-use Prim.Native.Nat.{_-_}
-use mathlib.Core.Path.{sym, _∙_}
+-- The name sought is made of the record's bytes.
+use mathlib.Core.Path.{ap, _∙_}
 use denote.Ref.{now}
-use lib.Seq.{length-take-le}
 use Rattle.questions.specs.Named.{nameBytes}
 use Rattle.questions.specs.Searched.{modelNamed}
-use Rattle.questions.proofs.Laws.{text-same, text-within}
 use Rattle.questions.proofs.choices.model_of.Statement.{statement}
 use Rattle.questions.proofs.choices.model_of.Tie as tie
 
-text-length-requires : tie.Need-text-length-requires
-text-length-requires c κs = tt
-
-array-share-prefix-bytes : tie.Need-array-share-prefix-bytes
-array-share-prefix-bytes c = text-within _ (c .before .before .before .args .name .len) (c .before .before .before .args .name .bytes) (c .before .before .before .good .1 .0 .1 .1 .0 .1 .0 .1) (c .before .text-length .ensures)
-
-slice-aggregate-model-named : tie.Need-slice-aggregate-model-named
-slice-aggregate-model-named c = sym (length-take-le _ _ (text-within _ (c .before .before .before .before .args .name .len) (c .before .before .before .before .args .name .bytes) (c .before .before .before .before .good .1 .0 .1 .1 .0 .1 .0 .1) (c .before .before .text-length .ensures)))
+first-bytes-requires : tie.Need-first-bytes-requires
+first-bytes-requires c κs = tt
 
 model-named-requires : tie.Need-model-named-requires
 model-named-requires c κs = tt
 
 returns : tie.Need-returns
 unfolding nameBytes
-returns c = c .model-named .ensures ∙ text-same (modelNamed (now (c .before .before .before .before .before .args .models))) _ (c .before .before .before .before .before .args .name .len) (c .before .before .before .before .before .args .name .bytes) (c .before .before .before .before .before .good .1 .0 .1 .1 .0 .1 .0 .1) (c .before .before .before .text-length .ensures)
+returns c =
+    let a = c .before .before .before .before .before .before .args in
+    c .model-named .ensures ∙ ap (modelNamed (now (a .models))) (c .before .first-bytes .ensures)
 
 pub model-of-spec : {M : Type 1} → statement M
-model-of-spec =
-    tie.close
-    (tie.spec
-    text-length-requires
-    array-share-prefix-bytes
-    slice-aggregate-model-named
-    model-named-requires
-    returns)
+model-of-spec = tie.close (tie.spec first-bytes-requires model-named-requires returns)

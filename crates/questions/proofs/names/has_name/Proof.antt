@@ -1,37 +1,109 @@
--- A name of another length is another name.
-use Prim.Native.Nat.{_-_, min}
+-- Equality from i on is equality of all: `same-go` at a turn; the ways out are another length, `same-differ` and `same-end`.
+use Prim.Native.Nat.{ℕ, _-_, _≤_, _<_, min}
 use mathlib.Core.Path.{_≡_, sym, ap, _∙_}
-use mathlib.Core.Logic.{⊎-elim, _⊎_}
-use lib.ListN.{getD}
+use mathlib.Core.List.{List, map}
+use mathlib.Core.Logic.{⊎-elim}
+use lib.ListN.{length, drop, getD}
 use native.Mathlib.Omega.{arith}
 use borrow.Author.Needs.{needs}
+use borrow.Author.Tests.{le-leb}
 use denote.Ref.{now}
-use Rattle.records.specs.declared.Name.{Name}
+use Rattle.laws.specs.Eights.{bytesFrom}
+use Rattle.laws.specs.Lists.{eqs}
+use Rattle.laws.proofs.Eights.{bytes-length, bytes-get}
+use Rattle.laws.proofs.Same.{same-end, same-differ, same-go, map-same}
 use Rattle.table_records.specs.Records.{nameFrom}
 use Rattle.questions.specs.Named.{isNamed}
-use Rattle.questions.proofs.Laws.{other-length, name-sized}
+use Rattle.questions.proofs.Laws.{named-in, other-length}
 use Rattle.questions.proofs.names.has_name.Statement.{statement}
 use Rattle.questions.proofs.names.has_name.Tie as tie
 
-number-at-requires : tie.Need-number-at-requires
-number-at-requires c κs = search needs
+abbrev kept : ℕ → ℕ
+kept b = b
 
-returns : tie.Need-returns
-unfolding nameFrom
+-- the name's bytes, as many as there are of those that it is compared with
+abbrev text : List ℕ → List ℕ → List ℕ
+text words name = bytesFrom words (length name)
+
+abbrev Inv-loop : tie.InvT-loop
+Inv-loop words name held len i₀ i =
+    (i ≤ length name) × (eqs (map kept (drop i (text words name))) (drop i name) ≡ isNamed (nameFrom words) name)
+
+abbrev μ-loop : tie.MeasureT-loop
+μ-loop words name held len i₀ i = length name - i
+
+number-at-requires : tie.Need-number-at-requires Inv-loop μ-loop
+number-at-requires c κs = tt
+
+returns : tie.Need-returns Inv-loop μ-loop
 returns c =
-    let ws = now (c .before .before .before .before .before .args .words) in
-    let same : min (getD ws 5 0) 40 ≡ c .before .if1 .len = ⊎-elim (λ w. omega (arith, c .before .before .number-at .ensures, w .1)) (λ w. omega (arith, c .before .before .number-at .ensures, w .1)) (c .before .if1 .came) in
-    sym (other-length (nameFrom ws) (now (c .before .before .before .before .before .args .name)) (name-sized ws) (λ e. c .if2 .taken (sym same ∙ e)))
+    let a = c .before .before .before .before .before .args in
+    let same : min (getD (now (a .words)) 5 0) 40 ≡ c .before .if1 .len = ⊎-elim (λ w. omega (arith, c .before .before .number-at .ensures, w .1)) (λ w. omega (arith, c .before .before .number-at .ensures, w .1)) (c .before .if1 .came) in
+    sym (other-length (now (a .words)) (now (a .name)) (c .before .if1 .len) same (c .if2 .taken))
 
-name-from-requires : tie.Need-name-from-requires
-name-from-requires c κs = tt
+loop-holds : tie.Need-loop-holds Inv-loop μ-loop
+loop-holds c =
+    let a = c .before .before .before .before .before .args in
+    let same : min (getD (now (a .words)) 5 0) 40 ≡ c .before .if1 .len = ⊎-elim (λ w. omega (arith, c .before .before .number-at .ensures, w .1)) (λ w. omega (arith, c .before .before .number-at .ensures, w .1)) (c .before .if1 .came) in (
+      omega arith,
+      ap (λ (l : List ℕ). eqs l (now (a .name))) (map-same (text (now (a .words)) (now (a .name))))
+          ∙ sym (named-in (now (a .words)) (now (a .name)) (length (now (a .name))) (same ∙ c .if2 .left)),
+    )
 
-is-named-requires : tie.Need-is-named-requires
-is-named-requires c κs = tt
+byte-in-requires : tie.Need-byte-in-requires Inv-loop μ-loop
+byte-in-requires c κs = tt
 
-returns-2 : tie.Need-returns-2
-returns-2 c = c .is-named .ensures ∙ ap (λ (n : Name). isNamed n (now (c .before .before .before .before .before .before .before .args .name))) (c .before .name-from .ensures)
+shared-slice-read-if3 : tie.Need-shared-slice-read-if3 Inv-loop μ-loop
+shared-slice-read-if3 c = search needs
+
+returns-2 : tie.Need-returns-2 Inv-loop μ-loop
+returns-2 c =
+    let a = c .before .before .before .before .before .before .before .before .before .before .args in
+    let l = c .before .before .before .before .loop in
+    let here = c .before .before .before .loop-test .taken in
+    let within : l .i < length (text (now (a .words)) (now (a .name))) = omega (arith, here, bytes-length (now (a .words)) (length (now (a .name)))) in
+    sym (same-differ kept (text (now (a .words)) (now (a .name))) (now (a .name)) (l .i) within here (λ e. c .if3 .taken (c .before .before .byte-in .ensures ∙ sym (bytes-get (now (a .words)) (length (now (a .name))) (l .i) here) ∙ e)))
+    ∙ l .inv .1
+
+add-i : tie.Need-add-i Inv-loop μ-loop
+add-i c = search needs
+
+loop-less : tie.Need-loop-less Inv-loop μ-loop
+loop-less c = search needs
+
+loop-again : tie.Need-loop-again Inv-loop μ-loop
+loop-again c =
+    let a = c .before .before .before .before .before .before .before .before .before .before .args in
+    let l = c .before .before .before .before .loop in
+    let here = c .before .before .before .loop-test .taken in
+    let within : l .i < length (text (now (a .words)) (now (a .name))) = omega (arith, here, bytes-length (now (a .words)) (length (now (a .name)))) in (
+      omega arith,
+      same-go kept (text (now (a .words)) (now (a .name))) (now (a .name)) (l .i) within here (bytes-get (now (a .words)) (length (now (a .name))) (l .i) here ∙ sym (c .before .before .byte-in .ensures) ∙ c .if3 .left)
+          ∙ l .inv .1,
+    )
+
+returns-3 : tie.Need-returns-3 Inv-loop μ-loop
+returns-3 c =
+    let a = c .before .before .before .before .before .before .before .args in
+    let l = c .before .loop in
+    let all : length (text (now (a .words)) (now (a .name))) ≤ l .i = omega (arith, c .loop-test .left, bytes-length (now (a .words)) (length (now (a .name)))) in
+    sym (le-leb (length (now (a .name))) (l .i) (c .loop-test .left))
+    ∙ sym (same-end kept (text (now (a .words)) (now (a .name))) (now (a .name)) (l .i) all)
+    ∙ l .inv .1
 
 pub has-name-spec : {M : Type 1} → statement M
 has-name-spec =
-    tie.close (tie.spec number-at-requires returns name-from-requires is-named-requires returns-2)
+    tie.close
+    (tie.spec
+    Inv-loop
+    μ-loop
+    number-at-requires
+    returns
+    loop-holds
+    byte-in-requires
+    shared-slice-read-if3
+    returns-2
+    add-i
+    loop-less
+    loop-again
+    returns-3)

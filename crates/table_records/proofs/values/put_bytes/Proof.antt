@@ -6,8 +6,8 @@ use lib.Seq.{take-all}
 use native.Mathlib.Omega.{arith}
 use borrow.Author.Needs.{needs}
 use denote.Ref.{now}
-use Rattle.table_records.specs.Values.{bytesFrom}
-use Rattle.table_records.proofs.Bytes.{bytes-turn}
+use Rattle.laws.specs.Eights.{bytesFrom}
+use Rattle.laws.proofs.Eights.{bytes-turn}
 use Rattle.table_records.proofs.values.put_bytes.Statement.{statement}
 use Rattle.table_records.proofs.values.put_bytes.Tie as tie
 
