@@ -1,14 +1,14 @@
 -- The definitions by which document 01 checks and reads a file, named once: a proof that says `unfolding computing` runs them on a file
 -- that is written out.
 use mathlib.Core.List.{flatMap}
-use Rattle.laws.specs.Bytes.{isBlank, isDigit, isCapital, isSmall, isLetter, capital, small}
+use Rattle.laws.specs.Bytes.{isBlank, isDigit, isCapital, isSmall, isLetter, capital, small, spelledByte}
 use Rattle.laws.specs.Lists.{front, after, keep, trim, all, among, other, eqs}
 use Rattle.decimal.specs.Decimal.{isMinus, afterSign, pointPlaces, afterPoint, figures, afterFigures, numeralFrom, numeral, significant, zerosCut, afterE, exponentDigits, plusExponent, minusExponent, letters, scaleUp, scaleDown, ranged, resultOf, unsigned, numberOf, isMissing, givenCell, cellOf, lessThan, aboveZero}
 use Rattle.words.specs.Words.{ontoWord, grown, words, word}
 use Rattle.lines.specs.Lines.{isReturn, ontoLine, linesOf, isAllowed, lineFault, faultFrom, bytesFault, cut}
 use Rattle.name_table.specs.Names.{meaning, placeFrom}
 use Rattle.name_table.specs.Places.{namesOf}
-use Rattle.keywords.specs.Form.{inside, closing, isJoint, inParts, isClosed, isFormed, spelledByte, spelled, argument}
+use Rattle.keywords.specs.Form.{inside, closing, isJoint, inParts, isClosed, isFormed, spelled, argument}
 use Rattle.keywords.specs.Carried.{carried, keyOf}
 use Rattle.cut_lines.specs.Change.{isChange, noneOr, isRemark, changeTo, changeOf}
 use Rattle.cut_lines.specs.Texts.{ontoTexts, textsFrom}

@@ -2,27 +2,26 @@
 use Prim.Native.Nat.{ℕ, _+_, _-_, _≤_, _<_}
 use Prim.Native.Char.{code}
 use mathlib.Core.Path.{_≡_, refl, sym, ap, _∙_}
-use mathlib.Core.List.{List, [], _∷_, _++_, map, map-append}
+use mathlib.Core.List.{List, [], _∷_, map}
 use mathlib.Core.Bool.{Bool, true, false}
-use mathlib.Core.Option.{none}
-use native.Mathlib.Numerals.{add-one}
 use native.Mathlib.Omega.{arith}
-use lib.ListN.{length, take, drop, getD, set, drop-of-length-le, length-take, length-drop, length-map}
-use lib.Seq.{drop-drop, take-suc, take-suc-set}
-use lib.Dec.{leb}
-use borrow.Author.Tests.{leb-true}
-use Rattle.laws.specs.Bytes.{bytes, isBlank}
-use Rattle.laws.specs.Lists.{front, after, all, other, part, eqs}
-use Rattle.laws.proofs.Tests.{by-test, cond-yes, cond-no, and-both, and-left, and-right, and-first, and-second, by-order, never}
+use lib.ListN.{length, drop, getD, drop-of-length-le, length-drop}
+use lib.Seq.{drop-drop}
+use Rattle.laws.specs.Bytes.{isBlank, spelledByte}
+use Rattle.laws.specs.Lists.{front, after, other, part}
+use Rattle.laws.proofs.Tests.{cond-yes, cond-no, and-both, and-left, and-right, by-order, never}
 use Rattle.laws.proofs.Lists.{from-cons}
 use Rattle.laws.proofs.Fronts.{front-at, after-at, front-le}
-use Rattle.laws.proofs.Same.{eqs-eq}
 use Rattle.words.specs.Words.{words, grown, ontoWord}
-use Rattle.name_table.specs.Names.{Naming, meaning, placeFrom}
+use Rattle.words.specs.Spelled.{byteAs}
+use Rattle.words.specs.declared.Spelling.the-variants.{AsKeyword}
+use Rattle.name_table.specs.Names.{meaning, placeFrom}
 use Rattle.name_table.specs.Places.{namesOf, meaningOf}
+use Rattle.name_table.specs.Listed.{namesIn}
 use Rattle.name_table.specs.declared.Found.{Found}
+use Rattle.name_table.specs.declared.NameList.the-variants.{Keywords}
 use Rattle.name_table.proofs.Laws.{meaning-place}
-use Rattle.keywords.specs.Form.{inside, closing, isJoint, inParts, isClosed, isFormed, spelledByte, spelled, argument}
+use Rattle.keywords.specs.Form.{inside, closing, isJoint, inParts, isClosed, isFormed, spelled, argument}
 use Rattle.keywords.specs.Carried.{carried}
 use Rattle.keywords.specs.Answers.{keywordOrNothing, known, keyRead}
 use Rattle.keywords.specs.declared.Named.the-variants.{Nothing}
@@ -51,65 +50,19 @@ pub parts-end : (w : List ℕ) (i : ℕ) (p : Bool) → length w ≤ i → inPar
 unfolding inParts
 parts-end w i p h = rw (drop-of-length-le w h)
 
--- ---- a copy that is spelled one byte at a time
+-- ---- the list in the code
 
-pub spell-more : (w copy : List ℕ) (i v : ℕ) → i < length w → i < length copy → take i copy ≡ spelled (take i w) → v ≡ spelledByte (getD w i 0)
-    → take (i + 1) (set copy i v) ≡ spelled (take (i + 1) w)
-unfolding spelled
-spell-more w copy i v h k e q =
-    ap (λ (n : ℕ). take n (set copy i v)) (add-one i)
-    ∙ take-suc-set copy i v k
-    ∙ ap (λ (l : List ℕ). l ++ (v ∷ [])) e
-    ∙ ap (λ (b : ℕ). map spelledByte (take i w) ++ (b ∷ [])) q
-    ∙ sym (map-append spelledByte (take i w) (getD w i 0 ∷ []))
-    ∙ ap (map spelledByte) (sym (take-suc w i 0 h))
-    ∙ ap (λ (n : ℕ). map spelledByte (take n w)) (sym (add-one i))
-
--- ---- a name longer than all of the table is none of them
-
-pub shorter : {A : Type 0} → ℕ → Naming A → Bool
-shorter n e = leb (length (e .name)) n
-
-pub meaning-long : {A : Type 0} (n : ℕ) (w : List ℕ) (es : List (Naming A)) → all (shorter n) es ≡ true → n < length w → meaning w es ≡ none
-unfolding meaning all shorter
-meaning-long n w [] h k = refl
-meaning-long n w (e ∷ es) h k =
-    let s = leb-true (length (e .name)) n (and-first (leb (length (e .name)) n) (all (shorter n) es) h) in
-    by-test (eqs w (e .name))
-    (λ q. let z = ap length (eqs-eq w (e .name) q) in absurd (omega (arith, s, k, z)))
-    (λ q. rw q (meaning-long n w es (and-second (leb (length (e .name)) n) (all (shorter n) es) h) k))
-
-pub carried-short : all (shorter 32) carried ≡ true
-unfolding all shorter carried
-carried-short = refl
-
--- ---- the table in the code
-
--- the names as the code has them, with a blank between
-abbrev pub table : List ℕ
-table =
-    bytes
-    "ibis_ver file_name file_rev date source notes disclaimer copyright component manufacturer package pin model_selector model voltage_range temperature_range pulldown pullup gnd_clamp power_clamp ramp rising_waveform falling_waveform end"
-
-table-names : words table ≡ namesOf carried
+list-names : namesIn Keywords ≡ namesOf carried
 unfolding words grown ontoWord isBlank carried namesOf
-table-names = refl
-
-pub spelled-length : (w : List ℕ) → length (spelled w) ≡ length w
-unfolding spelled
-spelled-length w = length-map w spelledByte
-
--- a word that is spelled in the first bytes of a copy fits the copy
-pub spelled-fits : (w copy : List ℕ) → take (length w) copy ≡ spelled w → length w ≤ length copy
-spelled-fits w copy e = omega (arith, ap length e, length-take (length w) copy, spelled-length w)
+list-names = refl
 
 -- the place that the code finds stands for the meaning
-pub meaning-found : (w copy : List ℕ) (f : Found) → take (length w) copy ≡ spelled w → f ≡ placeFrom 0 (take (length w) copy) (words table)
+pub meaning-found : (w : List ℕ) (f : Found) → f ≡ placeFrom 0 (map (byteAs AsKeyword) w) (namesIn Keywords)
     → meaning (spelled w) carried ≡ meaningOf carried f
-meaning-found w copy f e q =
-    meaning-place (spelled w) carried
-    ∙ ap (λ (ns : List (List ℕ)). meaningOf carried (placeFrom 0 (spelled w) ns)) (sym table-names)
-    ∙ ap (λ (x : List ℕ). meaningOf carried (placeFrom 0 x (words table))) (sym e)
+unfolding spelled
+meaning-found w f q =
+    meaning-place (map spelledByte w) carried
+    ∙ ap (λ (ns : List (List ℕ)). meaningOf carried (placeFrom 0 (map spelledByte w) ns)) (sym list-names)
     ∙ ap (meaningOf carried) (sym q)
 
 -- a `]` that is there stands within the text

@@ -5,7 +5,7 @@ use mathlib.Core.List.{List, [], _∷_, map}
 use mathlib.Core.Bool.{Bool, true, false, cond, _&&_, _||_}
 use lib.ListN.{drop}
 use lib.Dec.{eqb}
-use Rattle.laws.specs.Bytes.{isBlank, small}
+use Rattle.laws.specs.Bytes.{isBlank, spelledByte}
 use Rattle.laws.specs.Lists.{front, after, other}
 
 -- the text up to the first `]`
@@ -38,9 +38,6 @@ unfoldable pub isFormed : List ℕ → Bool
 isFormed w = inParts false (inside w) && isClosed (closing w)
 
 -- letter case is ignored, and space equals underscore
-unfoldable pub spelledByte : ℕ → ℕ
-spelledByte b = cond (eqb b (code " ")) (code "_") (small b)
-
 unfoldable pub spelled : List ℕ → List ℕ
 spelled w = map spelledByte w
 

@@ -1,16 +1,17 @@
 // Keyword lines: their form, and the keyword by its name, in any letter case, a space equal to an underscore.
 ghost use mathlib.Core.Path.{_≡_};
 ghost use mathlib.Core.Bool.{false};
-ghost use Prim.Native.Nat.{_≤_};
-ghost use lib.ListN.{length, take, drop};
+ghost use lib.ListN.{drop};
 ghost use Rattle.laws.specs.Lists.{eqs};
 ghost use Rattle.name_table.specs.Names.{meaning};
 ghost use Rattle.name_table.specs.Places.{meaningAt};
-ghost use Rattle.keywords.specs.Form.{spelledByte, spelled, isJoint, inParts, isClosed};
+ghost use Rattle.keywords.specs.Form.{spelled, isJoint, inParts, isClosed};
 ghost use Rattle.keywords.specs.Carried.{carried, keyOf};
 ghost use Rattle.keywords.specs.Answers.{keywordSays, keyRead, keywordOrNothing};
 use name_table::Found;
+use name_table::NameList;
 use records::Edge;
+use words::Spelling;
 
 pub enum HeaderText {
     Date,
@@ -76,40 +77,6 @@ pub enum Named {
     Nothing,
 }
 
-// A name in small letters with underscores, in the first bytes.
-struct Spelled {
-    bytes: [u8; 32],
-}
-
-// The small letter of a capital, and an underscore for a space.
-fn lowered(b: u8) -> u8
-    ensures { λ r. ⌜ r ≡ spelledByte b ⌝ }
-{
-    if b == b' ' {
-        return b'_';
-    }
-    if b < b'A' {
-        return b;
-    }
-    if b'Z' < b {
-        return b;
-    }
-    b + 32
-}
-
-fn spell(w: &[u8]) -> Spelled
-    requires { ⌜ length (now w) ≤ 32 ⌝ }
-    ensures { λ r. ⌜ take (length (now (w .entry))) (r .bytes) ≡ spelled (now (w .entry)) ⌝ }
-{
-    let mut copy = [0u8; 32];
-    let mut i = 0;
-    while i < w.len() {
-        copy[i] = lowered(w[i]);
-        i += 1;
-    }
-    Spelled { bytes: copy }
-}
-
 // A space or an underscore.
 fn joint(b: u8) -> bool
     ensures { λ r. ⌜ r ≡ isJoint b ⌝ }
@@ -162,20 +129,10 @@ pub fn closed_at(w: &[u8], at: usize) -> bool
 pub fn same_spelled(w: &[u8], name: &[u8]) -> bool
     ensures { λ r. ⌜ r ≡ eqs (spelled (now (w .entry))) (now (name .entry)) ⌝ }
 {
-    let mut i = 0;
-    while i < w.len() {
-        if name.len() <= i {
-            return false;
-        }
-        if lowered(w[i]) != name[i] {
-            return false;
-        }
-        i += 1;
-    }
-    name.len() <= i
+    words::same_as(Spelling::AsKeyword, w, name)
 }
 
-// The keyword at a place of the table of names.
+// The keyword at a place of the list of their names.
 fn keyword_at(k: usize) -> Named
     ensures { λ r. ⌜ r ≡ keywordOrNothing (meaningAt carried k) ⌝ }
 {
@@ -208,19 +165,11 @@ fn keyword_at(k: usize) -> Named
     }
 }
 
-// A keyword by its name.
+// A keyword by its name, of any length, compared byte by byte as it stands.
 pub fn keyword_named(w: &[u8]) -> Named
     ensures { λ r. ⌜ r ≡ keywordOrNothing (meaning (spelled (now (w .entry))) carried) ⌝ }
 {
-    let n = w.len();
-    if 32 < n {
-        return Named::Nothing;
-    }
-    let copy = spell(w);
-    let bytes = copy.bytes;
-    let names =
-        b"ibis_ver file_name file_rev date source notes disclaimer copyright component manufacturer package pin model_selector model voltage_range temperature_range pulldown pullup gnd_clamp power_clamp ramp rising_waveform falling_waveform end";
-    match name_table::place(&bytes[..n], names) {
+    match name_table::place_as(Spelling::AsKeyword, w, NameList::Keywords) {
         Found::At(k) => keyword_at(k),
         Found::Nothing => Named::Nothing,
     }

@@ -33,3 +33,7 @@ capital b = cond (isSmall b) (b - 32) b
 
 unfoldable pub small : ℕ → ℕ
 small b = cond (isCapital b) (b + 32) b
+
+-- a keyword's byte as the tables spell it: letter case is ignored, and space equals underscore
+unfoldable pub spelledByte : ℕ → ℕ
+spelledByte b = cond (eqb b (code " ")) (code "_") (small b)

@@ -1,33 +1,86 @@
--- Laws of `specs/Names.antt`: a turn of the search, and that the place found stands for the meaning.
-use Prim.Native.Nat.{ℕ, zero, suc, _+_, _-_, _≤_}
+-- Laws of `specs/Names.antt` and `specs/Listed.antt`: a turn of the search, the names of a list by their places, and that the place found stands for the meaning.
+use Prim.Native.Nat.{ℕ, zero, suc, _+_, _-_, _≤_, _<_}
 use mathlib.Core.Path.{_≡_, refl, sym, ap, _∙_}
 use mathlib.Core.List.{List, [], _∷_}
-use mathlib.Core.Bool.{true, false}
+use mathlib.Core.Bool.{Bool, true, false}
 use mathlib.Core.Option.{Option, none}
 use native.Mathlib.Nat.{sub-self}
 use native.Mathlib.Omega.{arith}
-use lib.ListN.{length}
+use lib.ListN.{length, drop, getD, drop-of-length-le}
+use Rattle.laws.specs.Eights.{byteIn}
 use Rattle.laws.specs.Lists.{eqs}
 use Rattle.laws.proofs.Tests.{by-test, cond-yes, cond-no}
+use Rattle.laws.proofs.Lists.{from-cons}
+use Rattle.laws.proofs.Eights.{bytes-length, bytes-get}
+use Rattle.words.specs.Words.{word}
 use Rattle.name_table.specs.Names.{Naming, meaning, placeFrom}
 use Rattle.name_table.specs.Places.{namesOf, meaningAt, meaningOf}
+use Rattle.name_table.specs.Listed.{eightsOf, listedName, namesIn}
+use Rattle.name_table.specs.declared.Listed.{Listed}
+use Rattle.name_table.specs.declared.NameList.{NameList}
 use Rattle.name_table.specs.declared.Found.{Found}
 use Rattle.name_table.specs.declared.Found.the-variants.{At, Nothing}
 
 -- ---- a turn of the search
 
-pub place-none : (k : ℕ) (w : List ℕ) (ns : List (List ℕ)) → ns ≡ [] → placeFrom k w ns ≡ Nothing
+place-none : (k : ℕ) (w : List ℕ) (ns : List (List ℕ)) → ns ≡ [] → placeFrom k w ns ≡ Nothing
 unfolding placeFrom
 place-none k w ns e = ap (placeFrom k w) e
 
-pub place-here : (k : ℕ) (w n : List ℕ) (ns more : List (List ℕ)) → ns ≡ n ∷ more → eqs w n ≡ true → placeFrom k w ns ≡ At k
+place-here : (k : ℕ) (w n : List ℕ) (ns more : List (List ℕ)) → ns ≡ n ∷ more → eqs w n ≡ true → placeFrom k w ns ≡ At k
 unfolding placeFrom
 place-here k w n ns more e h = ap (placeFrom k w) e ∙ cond-yes _ _ h
 
-pub place-later : (k : ℕ) (w n : List ℕ) (ns more : List (List ℕ)) → ns ≡ n ∷ more → eqs w n ≡ false
+place-later : (k : ℕ) (w n : List ℕ) (ns more : List (List ℕ)) → ns ≡ n ∷ more → eqs w n ≡ false
     → placeFrom k w ns ≡ placeFrom (k + 1) w more
 unfolding placeFrom
 place-later k w n ns more e h = ap (placeFrom k w) e ∙ cond-no _ _ h
+
+-- the same by the place of the next name, where a comparison with it gave t
+module _ (w : List ℕ) (ns : List (List ℕ)) (k : ℕ) where
+  pub turn-none : length ns ≤ k → placeFrom k w (drop k ns) ≡ Nothing
+  turn-none h = place-none k w (drop k ns) (drop-of-length-le ns h)
+
+  module _ (h : k < length ns) (n : List ℕ) (e : n ≡ word k ns) (t : Bool) (s : t ≡ eqs w n) where
+    next-name : drop k ns ≡ n ∷ drop (k + 1) ns
+    unfolding word
+    next-name = from-cons ns k [] h ∙ ap (λ (x : List ℕ). x ∷ drop (k + 1) ns) (sym e)
+
+    pub turn-here : t ≡ true → placeFrom k w (drop k ns) ≡ At k
+    turn-here q = place-here k w n (drop k ns) (drop (k + 1) ns) next-name (sym s ∙ q)
+
+    pub turn-later : t ≡ false → placeFrom k w (drop k ns) ≡ placeFrom (k + 1) w (drop (k + 1) ns)
+    turn-later q = place-later k w n (drop k ns) (drop (k + 1) ns) next-name (sym s ∙ q)
+
+-- a name that is the word at a place, by that place's number
+pub at-place : (l : NameList) {n : List ℕ} {k j : ℕ} → k ≡ j → n ≡ word j (namesIn l) → n ≡ word k (namesIn l)
+at-place l e h = h ∙ ap (λ (i : ℕ). word i (namesIn l)) (sym e)
+
+-- the same of another list, which is this one
+pub of-list : (k : ℕ) {m l : NameList} {n : List ℕ} → m ≡ l → n ≡ word k (namesIn l) → n ≡ word k (namesIn m)
+of-list k e h = h ∙ ap (λ (x : NameList). word k (namesIn x)) (sym e)
+
+-- past the last word stands an empty one
+pub word-past : (ns : List (List ℕ)) (k : ℕ) → length ns ≤ k → word k ns ≡ []
+unfolding word
+word-past [] k h = refl
+word-past (n ∷ ns) zero h = absurd (omega arith)
+word-past (n ∷ ns) (suc k) h = word-past ns k (omega arith)
+
+-- a listed name has its bytes, so many, and three numbers for them
+pub listed-length : (name : Listed) → length (listedName name) ≡ name .0
+unfolding listedName
+listed-length name = bytes-length (eightsOf name) (name .0)
+
+pub listed-byte : (name : Listed) (i : ℕ) → i < name .0 → getD (listedName name) i 0 ≡ byteIn (eightsOf name) i
+unfolding listedName
+listed-byte name i h = bytes-get (eightsOf name) (name .0) i h
+
+pub eight-past : (name : Listed) (k : ℕ) → 3 ≤ k → getD (eightsOf name) k 0 ≡ 0
+eight-past name zero h = absurd (omega arith)
+eight-past name (suc zero) h = absurd (omega arith)
+eight-past name (suc (suc zero)) h = absurd (omega arith)
+eight-past name (suc (suc (suc k))) h = refl
 
 -- ---- a table's names and meanings
 

@@ -1,3 +1,4 @@
 -- A name looked up in a table of names.
 pub mod Names
 pub mod Places
+pub mod Listed

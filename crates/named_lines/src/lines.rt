@@ -6,11 +6,13 @@ ghost use Rattle.laws.specs.Lists.{front};
 ghost use Rattle.decimal.specs.Answers.{cellRead};
 ghost use Rattle.words.specs.Words.{words};
 ghost use Rattle.name_table.specs.Names.{placeFrom};
+ghost use Rattle.name_table.specs.Listed.{namesIn};
 ghost use Rattle.line_rules.specs.Fields.{nameOf, numberLine};
 ghost use Rattle.named_lines.specs.Places.{isNameByte, isNameAlone, onlyWord, namedWord, soleNumber, FirstWordIs, NameIs, WordIs};
 use crate::WordRead;
 use decimal::CellRead;
 use name_table::Found;
+use name_table::NameList;
 use words::Word;
 
 // The first word of a line; empty if there is none.
@@ -89,14 +91,14 @@ pub fn name_alone(w: &[u8]) -> bool
     words::find(&w[start..end], 0, b'=') == end - start
 }
 
-// The place of a line's name in a table of names.
-pub fn named_in(w: &[u8], table: &[u8]) -> Found
-    ensures { λ r. ⌜ r ≡ placeFrom 0 (nameOf (now (w .entry))) (words (now (table .entry))) ⌝ }
+// The place of a line's name in a list.
+pub fn named_in(w: &[u8], list: NameList) -> Found
+    ensures { λ r. ⌜ r ≡ placeFrom 0 (nameOf (now (w .entry))) (namesIn list) ⌝ }
 {
     let name = name_of(w);
     let start = name.start;
     let end = name.end;
-    name_table::place(&w[start..end], table)
+    name_table::place(&w[start..end], list)
 }
 
 // The word of a line of two words, the first of them the name alone.

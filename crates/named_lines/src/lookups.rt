@@ -1,6 +1,6 @@
-// A line's name, and the word behind a name, looked up in document 01's lists. A list stands in one byte string, a blank between.
+// A line's name, and the word behind a name, looked up in document 01's lists.
 ghost use mathlib.Core.Path.{_≡_};
-ghost use Rattle.words.specs.Words.{words};
+ghost use Rattle.name_table.specs.Listed.{namesIn};
 ghost use Rattle.name_table.specs.Places.{meaningOf};
 ghost use Rattle.line_rules.specs.Fields.{lineAt, wordLine};
 ghost use Rattle.line_rules.specs.Tables.{componentLines, packageLines, modelLines, rampLines, fixtures, locations, modelTypes, polarities, enables};
@@ -15,6 +15,7 @@ use crate::WordRead;
 use crate::lines::named_in;
 use crate::lines::named_word;
 use name_table::Found;
+use name_table::NameList;
 use records::Enable;
 use records::Location;
 use records::ModelType;
@@ -24,49 +25,43 @@ use records::Polarity;
 pub fn component_line(w: &[u8]) -> Found
     ensures { λ r. ⌜ r ≡ lineAt componentLines (now (w .entry)) ⌝ }
 {
-    named_in(w, b"Si_location Timing_location")
+    named_in(w, NameList::ComponentLines)
 }
 
 // A package's lines.
 pub fn package_line(w: &[u8]) -> Found
     ensures { λ r. ⌜ r ≡ lineAt packageLines (now (w .entry)) ⌝ }
 {
-    named_in(w, b"R_pkg L_pkg C_pkg")
+    named_in(w, NameList::PackageLines)
 }
 
 // A model's first lines.
 pub fn model_line(w: &[u8]) -> Found
     ensures { λ r. ⌜ r ≡ lineAt modelLines (now (w .entry)) ⌝ }
 {
-    named_in(
-        w,
-        b"Model_type Polarity Enable C_comp Vinl Vinh Vmeas Cref Rref Vref",
-    )
+    named_in(w, NameList::ModelLines)
 }
 
 // A ramp's lines.
 pub fn ramp_line(w: &[u8]) -> Found
     ensures { λ r. ⌜ r ≡ lineAt rampLines (now (w .entry)) ⌝ }
 {
-    named_in(w, b"dV/dt_r dV/dt_f R_load")
+    named_in(w, NameList::RampLines)
 }
 
 // A waveform's lines before its rows.
 pub fn fixture_line(w: &[u8]) -> Found
     ensures { λ r. ⌜ r ≡ lineAt fixtures (now (w .entry)) ⌝ }
 {
-    named_in(
-        w,
-        b"R_fixture V_fixture V_fixture_min V_fixture_max C_fixture L_fixture R_dut L_dut C_dut",
-    )
+    named_in(w, NameList::Fixtures)
 }
 
-// The place of the word behind a line's name in a table of words.
-fn word_in(w: &[u8], table: &[u8]) -> Found
-    ensures { λ r. ⌜ r ≡ placeIn (namedWord (now (w .entry))) (words (now (table .entry))) ⌝ }
+// The place of the word behind a line's name in a list.
+fn word_in(w: &[u8], list: NameList) -> Found
+    ensures { λ r. ⌜ r ≡ placeIn (namedWord (now (w .entry))) (namesIn list) ⌝ }
 {
     match named_word(w) {
-        WordRead::One { start, end } => name_table::place(&w[start..end], table),
+        WordRead::One { start, end } => name_table::place(&w[start..end], list),
         WordRead::NoWord => Found::Nothing,
     }
 }
@@ -88,7 +83,7 @@ fn location_at(found: Found) -> LocationRead
 pub fn location_of(w: &[u8]) -> LocationRead
     ensures { λ r. ⌜ r ≡ locationRead (wordLine locations (now (w .entry))) ⌝ }
 {
-    location_at(word_in(w, b"Pin Die"))
+    location_at(word_in(w, NameList::Locations))
 }
 
 fn type_at(found: Found) -> TypeRead
@@ -121,9 +116,7 @@ fn type_at(found: Found) -> TypeRead
 pub fn type_of(w: &[u8]) -> TypeRead
     ensures { λ r. ⌜ r ≡ typeRead (wordLine modelTypes (now (w .entry))) ⌝ }
 {
-    let names =
-        b"Input Output I/O 3-state Open_drain I/O_open_drain Open_sink I/O_open_sink Open_source I/O_open_source Input_ECL Output_ECL I/O_ECL 3-state_ECL Terminator";
-    type_at(word_in(w, names))
+    type_at(word_in(w, NameList::ModelTypes))
 }
 
 fn polarity_at(found: Found) -> Polarity
@@ -143,7 +136,7 @@ fn polarity_at(found: Found) -> Polarity
 pub fn polarity_of(w: &[u8]) -> Polarity
     ensures { λ r. ⌜ r ≡ orElse NoPolarity (wordLine polarities (now (w .entry))) ⌝ }
 {
-    polarity_at(word_in(w, b"Inverting Non-Inverting"))
+    polarity_at(word_in(w, NameList::Polarities))
 }
 
 fn enable_at(found: Found) -> Enable
@@ -163,5 +156,5 @@ fn enable_at(found: Found) -> Enable
 pub fn enable_of(w: &[u8]) -> Enable
     ensures { λ r. ⌜ r ≡ orElse NoEnable (wordLine enables (now (w .entry))) ⌝ }
 {
-    enable_at(word_in(w, b"Active-High Active-Low"))
+    enable_at(word_in(w, NameList::Enables))
 }

@@ -3,14 +3,23 @@ ghost use mathlib.Core.Path.{_≡_};
 ghost use mathlib.Core.List.{map};
 ghost use Prim.Native.Nat.{_+_, _≤_};
 ghost use lib.ListN.{length, drop};
-ghost use Rattle.laws.specs.Bytes.{isBlank, capital};
+ghost use Rattle.laws.specs.Bytes.{isBlank, capital, spelledByte};
 ghost use Rattle.laws.specs.Lists.{front, trim, other, eqs};
 ghost use Rattle.words.specs.Places.{WordAt, isInk};
+ghost use Rattle.words.specs.Spelled.{byteAs};
 
 // A word, from start up to end. Where no word is left, both are the end of the slice.
 pub struct Word {
     pub start: usize,
     pub end: usize,
+}
+
+// How a text is spelled when it is compared with a name: as it stands; small letters as capitals; or as a keyword, capitals as small letters and
+// spaces as underscores.
+pub enum Spelling {
+    AsItStands,
+    InCapitals,
+    AsKeyword,
 }
 
 // Space and tab.
@@ -34,6 +43,33 @@ fn raised(b: u8) -> u8
         return b;
     }
     b - 32
+}
+
+// A capital as its small letter, and a space as an underscore.
+fn lowered(b: u8) -> u8
+    ensures { λ r. ⌜ r ≡ spelledByte b ⌝ }
+{
+    if b == b' ' {
+        return b'_';
+    }
+    if b < b'A' {
+        return b;
+    }
+    if b'Z' < b {
+        return b;
+    }
+    b + 32
+}
+
+// A byte so spelled.
+pub fn byte_as(how: Spelling, b: u8) -> u8
+    ensures { λ r. ⌜ r ≡ byteAs how b ⌝ }
+{
+    match how {
+        Spelling::AsItStands => b,
+        Spelling::InCapitals => raised(b),
+        Spelling::AsKeyword => lowered(b),
+    }
 }
 
 // Where the byte b first stands from at on, or the end.
@@ -112,36 +148,33 @@ pub fn word_at(s: &[u8], at: usize) -> Word
     }
 }
 
-// The same bytes.
-pub fn same(w: &[u8], other: &[u8]) -> bool
-    ensures { λ r. ⌜ r ≡ eqs (now (w .entry)) (now (other .entry)) ⌝ }
-{
-    let mut i = 0;
-    while i < w.len() {
-        if other.len() <= i {
-            return false;
-        }
-        if w[i] != other[i] {
-            return false;
-        }
-        i += 1;
-    }
-    other.len() <= i
-}
-
-// The same bytes, once small letters of w are capitals.
-pub fn same_capitals(w: &[u8], name: &[u8]) -> bool
-    ensures { λ r. ⌜ r ≡ eqs (map capital (now (w .entry))) (now (name .entry)) ⌝ }
+// The same bytes, once w is so spelled: byte by byte, as they stand in w.
+pub fn same_as(how: Spelling, w: &[u8], name: &[u8]) -> bool
+    ensures { λ r. ⌜ r ≡ eqs (map (byteAs how) (now (w .entry))) (now (name .entry)) ⌝ }
 {
     let mut i = 0;
     while i < w.len() {
         if name.len() <= i {
             return false;
         }
-        if raised(w[i]) != name[i] {
+        if byte_as(how, w[i]) != name[i] {
             return false;
         }
         i += 1;
     }
     name.len() <= i
+}
+
+// The same bytes.
+pub fn same(w: &[u8], other: &[u8]) -> bool
+    ensures { λ r. ⌜ r ≡ eqs (now (w .entry)) (now (other .entry)) ⌝ }
+{
+    same_as(Spelling::AsItStands, w, other)
+}
+
+// The same bytes, once small letters of w are capitals.
+pub fn same_capitals(w: &[u8], name: &[u8]) -> bool
+    ensures { λ r. ⌜ r ≡ eqs (map capital (now (w .entry))) (now (name .entry)) ⌝ }
+{
+    same_as(Spelling::InCapitals, w, name)
 }

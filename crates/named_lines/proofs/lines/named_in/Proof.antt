@@ -3,9 +3,8 @@ use Prim.Native.Nat.{ℕ}
 use mathlib.Core.Path.{ap, _∙_}
 use mathlib.Core.List.{List}
 use borrow.Author.Needs.{needs}
-use denote.Ref.{now}
-use Rattle.words.specs.Words.{words}
 use Rattle.name_table.specs.Names.{placeFrom}
+use Rattle.name_table.specs.Listed.{namesIn}
 use Rattle.named_lines.proofs.lines.named_in.Statement.{statement}
 use Rattle.named_lines.proofs.lines.named_in.Tie as tie
 
@@ -25,7 +24,7 @@ place-requires : tie.Need-place-requires
 place-requires c κs = tt
 
 returns : tie.Need-returns
-returns c = c .place .ensures ∙ ap (λ (x : List ℕ). placeFrom 0 x (words (now (c .before .before .before .before .before .args .table)))) (c .before .before .name-of .ensures .text)
+returns c = c .place .ensures ∙ ap (λ (x : List ℕ). placeFrom 0 x (namesIn (c .before .before .before .before .args .list))) (c .before .before .name-of .ensures .text)
 
 pub named-in-spec : {M : Type 1} → statement M
 named-in-spec =

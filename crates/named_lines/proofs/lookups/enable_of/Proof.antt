@@ -1,6 +1,5 @@
--- The words in the code are the table's, by computing both, so the place found stands for the meaning.
+-- The list in the code has the table's words, by computing both, so the place found stands for the meaning.
 use mathlib.Core.Path.{ap, _∙_}
-use borrow.Author.Needs.{needs}
 use denote.Ref.{now}
 use Rattle.laws.specs.Bytes.{isBlank}
 use Rattle.words.specs.Words.{words, grown, ontoWord}
@@ -12,9 +11,6 @@ use Rattle.named_lines.proofs.TableLaws.{word-found}
 use Rattle.named_lines.proofs.lookups.enable_of.Statement.{statement}
 use Rattle.named_lines.proofs.lookups.enable_of.Tie as tie
 
-slice-aggregate-word-in : tie.Need-slice-aggregate-word-in
-slice-aggregate-word-in c = search needs
-
 word-in-requires : tie.Need-word-in-requires
 word-in-requires c κs = tt
 
@@ -23,8 +19,7 @@ enable-at-requires c κs = tt
 
 returns : tie.Need-returns
 unfolding words grown ontoWord isBlank namesOf enables
-returns c = c .enable-at .ensures ∙ ap (orElse NoEnable) (word-found enables (now (c .before .before .before .before .args .w)) _ (c .before .word-in .ensures))
+returns c = c .enable-at .ensures ∙ ap (orElse NoEnable) (word-found enables (now (c .before .before .before .args .w)) _ (c .before .word-in .ensures))
 
 pub enable-of-spec : {M : Type 1} → statement M
-enable-of-spec =
-    tie.close (tie.spec slice-aggregate-word-in word-in-requires enable-at-requires returns)
+enable-of-spec = tie.close (tie.spec word-in-requires enable-at-requires returns)

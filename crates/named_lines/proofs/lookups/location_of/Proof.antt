@@ -1,6 +1,5 @@
--- The words in the code are the table's, by computing both, so the place found stands for the meaning.
+-- The list in the code has the table's words, by computing both, so the place found stands for the meaning.
 use mathlib.Core.Path.{ap, _∙_}
-use borrow.Author.Needs.{needs}
 use denote.Ref.{now}
 use Rattle.laws.specs.Bytes.{isBlank}
 use Rattle.words.specs.Words.{words, grown, ontoWord}
@@ -11,9 +10,6 @@ use Rattle.named_lines.proofs.TableLaws.{word-found}
 use Rattle.named_lines.proofs.lookups.location_of.Statement.{statement}
 use Rattle.named_lines.proofs.lookups.location_of.Tie as tie
 
-slice-aggregate-word-in : tie.Need-slice-aggregate-word-in
-slice-aggregate-word-in c = search needs
-
 word-in-requires : tie.Need-word-in-requires
 word-in-requires c κs = tt
 
@@ -22,8 +18,7 @@ location-at-requires c κs = tt
 
 returns : tie.Need-returns
 unfolding words grown ontoWord isBlank namesOf locations
-returns c = c .location-at .ensures ∙ ap locationRead (word-found locations (now (c .before .before .before .before .args .w)) _ (c .before .word-in .ensures))
+returns c = c .location-at .ensures ∙ ap locationRead (word-found locations (now (c .before .before .before .args .w)) _ (c .before .word-in .ensures))
 
 pub location-of-spec : {M : Type 1} → statement M
-location-of-spec =
-    tie.close (tie.spec slice-aggregate-word-in word-in-requires location-at-requires returns)
+location-of-spec = tie.close (tie.spec word-in-requires location-at-requires returns)

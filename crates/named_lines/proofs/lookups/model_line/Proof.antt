@@ -1,11 +1,7 @@
 -- The names are those of the list.
-use borrow.Author.Needs.{needs}
 use Rattle.line_rules.specs.Fields.{lineAt}
 use Rattle.named_lines.proofs.lookups.model_line.Statement.{statement}
 use Rattle.named_lines.proofs.lookups.model_line.Tie as tie
-
-slice-aggregate-named-in : tie.Need-slice-aggregate-named-in
-slice-aggregate-named-in c = search needs
 
 named-in-requires : tie.Need-named-in-requires
 named-in-requires c κs = tt
@@ -15,4 +11,4 @@ unfolding lineAt
 returns c = c .named-in .ensures
 
 pub model-line-spec : {M : Type 1} → statement M
-model-line-spec = tie.close (tie.spec slice-aggregate-named-in named-in-requires returns)
+model-line-spec = tie.close (tie.spec named-in-requires returns)

@@ -1,4 +1,4 @@
--- The words in the code are the table's, by computing both, so the place found stands for the meaning.
+-- The list in the code has the table's words, by computing both, so the place found stands for the meaning.
 use mathlib.Core.Path.{ap, _∙_}
 use denote.Ref.{now}
 use Rattle.laws.specs.Bytes.{isBlank}
@@ -18,7 +18,7 @@ type-at-requires c κs = tt
 
 returns : tie.Need-returns
 unfolding words grown ontoWord isBlank namesOf modelTypes
-returns c = c .type-at .ensures ∙ ap typeRead (word-found modelTypes (now (c .before .before .before .before .before .args .w)) _ (c .before .word-in .ensures))
+returns c = c .type-at .ensures ∙ ap typeRead (word-found modelTypes (now (c .before .before .before .args .w)) _ (c .before .word-in .ensures))
 
 pub type-of-spec : {M : Type 1} → statement M
 type-of-spec = tie.close (tie.spec word-in-requires type-at-requires returns)

@@ -5,7 +5,7 @@ use mathlib.Core.List.{List}
 use mathlib.Core.Option.{Option}
 use borrow.Author.Needs.{needs}
 use denote.Ref.{now}
-use Rattle.words.specs.Words.{words}
+use Rattle.name_table.specs.Listed.{namesIn}
 use Rattle.named_lines.specs.Views.{placeIn}
 use Rattle.named_lines.proofs.LineLaws.{word-one, word-none}
 use Rattle.named_lines.proofs.lookups.word_in.Statement.{statement}
@@ -35,10 +35,10 @@ enum-told c = search needs
 returns : tie.Need-returns
 returns c =
     c .place .ensures
-    ∙ sym (ap (λ (o : Option (List ℕ)). placeIn o (words (now (c .before .before .before .before .before .before .before .before .args .table)))) (word-one (c .before .before .before .start .given .1) (c .before .before .before .before .before .named-word .ensures) .text))
+    ∙ sym (ap (λ (o : Option (List ℕ)). placeIn o (namesIn (c .before .before .before .before .before .before .before .args .list))) (word-one (c .before .before .before .start .given .1) (c .before .before .before .before .before .named-word .ensures) .text))
 
 returns-2 : tie.Need-returns-2
-returns-2 c = sym (ap (λ (o : Option (List ℕ)). placeIn o (words (now (c .before .before .before .before .before .args .table)))) (word-none (now (c .before .before .before .before .before .args .w)) (c .enum-told .given .1) (c .before .before .named-word .ensures)))
+returns-2 c = sym (ap (λ (o : Option (List ℕ)). placeIn o (namesIn (c .before .before .before .before .args .list))) (word-none (now (c .before .before .before .before .args .w)) (c .enum-told .given .1) (c .before .before .named-word .ensures)))
 
 pub word-in-spec : {M : Type 1} → statement M
 word-in-spec =

@@ -1,10 +1,9 @@
 -- By the tests, in the definition's order.
 use borrow.Author.Needs.{needs}
 use borrow.Author.Tests.{ne-eqb, le-leb, lt-leb}
-use Rattle.laws.specs.Bytes.{small, isCapital}
-use Rattle.keywords.specs.Form.{spelledByte}
-use Rattle.keywords.proofs.lowered.Statement.{statement}
-use Rattle.keywords.proofs.lowered.Tie as tie
+use Rattle.laws.specs.Bytes.{small, isCapital, spelledByte}
+use Rattle.words.proofs.lowered.Statement.{statement}
+use Rattle.words.proofs.lowered.Tie as tie
 
 returns : tie.Need-returns
 unfolding spelledByte
