@@ -55,9 +55,11 @@ def badly_formed_besides(draft):
 
 
 def misspelled(dice, name):
+    """A name that is nearly this one: a letter more or less, its beginning, or a longer one that begins with it, up to a line's length."""
     place = dice.below(len(name) + 1)
+    longer = name + 'x' * (dice.pick([24, 25, 32, 33, 90, 118]) - len(name))
     return dice.pick([dice.pick(UNKNOWN), name[:place] + dice.pick('sx -_1') + name[place:], name[:place - 1] + name[place:],
-                      name + dice.pick(['s', 's', ' x', '_1', ' ' + name])])
+                      name[:place] or 'x', longer, name + dice.pick(['s', 's', ' x', '_1', ' ' + name])])
 
 
 @damage('lines', 8)
