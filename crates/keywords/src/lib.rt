@@ -132,7 +132,7 @@ pub fn same_spelled(w: &[u8], name: &[u8]) -> bool
     words::same_as(Spelling::AsKeyword, w, name)
 }
 
-// The keyword at a place of the list of their names.
+// The keyword at a place of their list.
 fn keyword_at(k: usize) -> Named
     ensures { λ r. ⌜ r ≡ keywordOrNothing (meaningAt carried k) ⌝ }
 {

@@ -6,7 +6,7 @@ use mathlib.Core.Bool.{Bool, true, false}
 use mathlib.Core.Option.{Option, none}
 use native.Mathlib.Nat.{sub-self}
 use native.Mathlib.Omega.{arith}
-use lib.ListN.{length, drop, getD, drop-of-length-le}
+use lib.ListN.{length, drop, getD, List·getD-eq-default, drop-of-length-le}
 use Rattle.laws.specs.Eights.{byteIn}
 use Rattle.laws.specs.Lists.{eqs}
 use Rattle.laws.proofs.Tests.{by-test, cond-yes, cond-no}
@@ -60,14 +60,12 @@ at-place l e h = h ∙ ap (λ (i : ℕ). word i (namesIn l)) (sym e)
 pub of-list : (k : ℕ) {m l : NameList} {n : List ℕ} → m ≡ l → n ≡ word k (namesIn l) → n ≡ word k (namesIn m)
 of-list k e h = h ∙ ap (λ (x : NameList). word k (namesIn x)) (sym e)
 
--- past the last word stands an empty one
-pub word-past : (ns : List (List ℕ)) (k : ℕ) → length ns ≤ k → word k ns ≡ []
+-- past the last name stands an empty one
+pub name-past : (l : NameList) (k : ℕ) → length (namesIn l) ≤ k → [] ≡ word k (namesIn l)
 unfolding word
-word-past [] k h = refl
-word-past (n ∷ ns) zero h = absurd (omega arith)
-word-past (n ∷ ns) (suc k) h = word-past ns k (omega arith)
+name-past l k h = sym (List·getD-eq-default (namesIn l) [] h)
 
--- a listed name has its bytes, so many, and three numbers for them
+-- a listed name has so many bytes, each as its numbers say
 pub listed-length : (name : Listed) → length (listedName name) ≡ name .0
 unfolding listedName
 listed-length name = bytes-length (eightsOf name) (name .0)
@@ -75,12 +73,6 @@ listed-length name = bytes-length (eightsOf name) (name .0)
 pub listed-byte : (name : Listed) (i : ℕ) → i < name .0 → getD (listedName name) i 0 ≡ byteIn (eightsOf name) i
 unfolding listedName
 listed-byte name i h = bytes-get (eightsOf name) (name .0) i h
-
-pub eight-past : (name : Listed) (k : ℕ) → 3 ≤ k → getD (eightsOf name) k 0 ≡ 0
-eight-past name zero h = absurd (omega arith)
-eight-past name (suc zero) h = absurd (omega arith)
-eight-past name (suc (suc zero)) h = absurd (omega arith)
-eight-past name (suc (suc (suc k))) h = refl
 
 -- ---- a table's names and meanings
 

@@ -1,6 +1,7 @@
 // Whether names are the same: by their bytes, each as it lies in its record or in its words; what stands behind a name's length counts for nothing.
 ghost use mathlib.Core.Path.{_≡_};
-ghost use lib.ListN.{take};
+ghost use lib.ListN.{take, getD};
+ghost use Prim.Native.Nat.{min};
 ghost use Rattle.line_rules.specs.Fields.{needsNoModel};
 ghost use Rattle.table_records.specs.Records.{nameFrom};
 ghost use Rattle.questions.specs.Named.{nameBytes, isNamed, sameName};
@@ -39,13 +40,22 @@ pub(crate) fn needs_no_model(name: Name) -> bool
     named_lines::needs_no_model(first_bytes(&name.bytes, name.len))
 }
 
+// How many bytes the name in these words has: never more than its 40.
+fn name_length(words: &[u64]) -> usize
+    ensures { λ r. ⌜ r ≡ min (getD (now (words .entry)) 5 0) 40 ⌝ }
+{
+    let held = table_records::values::number_at(words, 5);
+    if 40 < held {
+        return 40;
+    }
+    held as usize
+}
+
 // Whether the name in these words is made of exactly these bytes. Most names differ in length already.
 pub(crate) fn has_name(words: &[u64], name: &[u8]) -> bool
     ensures { λ r. ⌜ r ≡ isNamed (nameFrom (now (words .entry))) (now (name .entry)) ⌝ }
 {
-    let held = table_records::values::number_at(words, 5);
-    let len = if 40 < held { 40 } else { held as usize };
-    if len != name.len() {
+    if name_length(words) != name.len() {
         return false;
     }
     let mut i = 0;

@@ -1,12 +1,12 @@
 -- Each arm by computing the list and the bytes of its numbers; past the last stands an empty name.
-use mathlib.Core.Path.{refl, sym}
+use mathlib.Core.Path.{refl}
 use Rattle.laws.specs.Bytes.{isBlank}
 use Rattle.laws.specs.Eights.{byteIn, bytesFrom}
 use Rattle.laws.proofs.Numbers.{apart-le}
 use Rattle.words.specs.Words.{words, grown, ontoWord, word}
-use Rattle.name_table.specs.Listed.{listedName, namesIn}
+use Rattle.name_table.specs.Listed.{listedName}
 use Rattle.name_table.specs.declared.NameList.the-variants.{RampLines}
-use Rattle.name_table.proofs.Laws.{word-past, at-place}
+use Rattle.name_table.proofs.Laws.{name-past, at-place}
 use Rattle.name_table.proofs.lists.ramp_line.Statement.{statement}
 use Rattle.name_table.proofs.lists.ramp_line.Tie as tie
 
@@ -14,7 +14,7 @@ past : tie.Need-returns-4
 unfolding words grown ontoWord isBlank bytesFrom listedName
 past c =
     let k = c .before .args .k in
-    sym (word-past (namesIn RampLines) k (apart-le 3 k (c .match .rest)))
+    name-past RampLines k (apart-le 3 k (c .match .rest))
 
 pub ramp-line-spec : {M : Type 1} → statement M
 unfolding words grown ontoWord isBlank word byteIn bytesFrom listedName
