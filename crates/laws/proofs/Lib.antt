@@ -7,4 +7,5 @@ pub mod Lists
 pub mod Fronts
 pub mod Trims
 pub mod Same
+pub mod Order
 pub mod Eights

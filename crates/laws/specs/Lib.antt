@@ -2,4 +2,5 @@
 pub mod Bytes
 pub mod Eights
 pub mod Lists
+pub mod Order
 pub mod Said
