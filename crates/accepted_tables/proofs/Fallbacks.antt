@@ -7,7 +7,7 @@ use mathlib.Core.Bool.{true, false, cond}
 use lib.Dec.{eqb}
 use borrow.Author.Tests.{eqb-true}
 use Rattle.laws.specs.Bytes.{bytes, isBlank}
-use Rattle.laws.specs.Lists.{eqs, front}
+use Rattle.laws.specs.Lists.{eqs, front, oneOf}
 use Rattle.laws.specs.Said.{says}
 use Rattle.laws.proofs.Tests.{by-test, cond-yes}
 use Rattle.words.specs.Words.{words, grown, ontoWord}
@@ -22,7 +22,7 @@ use Rattle.cut_lines.specs.Texts.{Text, plain, change}
 use Rattle.records.specs.declared.Edge.the-variants.{Rising, Falling}
 use Rattle.records.specs.declared.ModelType.{ModelType}
 use Rattle.records.specs.declared.Lengths.{Lengths}
-use Rattle.line_rules.specs.Fields.{isBracketed, oneOf, lineAt, wordLine, takes, lineSays}
+use Rattle.line_rules.specs.Fields.{isBracketed, lineAt, wordLine, takes, lineSays}
 use Rattle.line_rules.specs.Tables.{modelLines, modelTypes, waveformKeywords}
 use Rattle.given.specs.Given.{with, gave}
 use Rattle.given.specs.declared.Given.{Given}

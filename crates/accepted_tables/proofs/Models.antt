@@ -6,7 +6,7 @@ use mathlib.Core.Bool.{true, false}
 use native.Mathlib.Omega.{arith}
 use lib.ListN.{length, length-append}
 use Rattle.laws.specs.Bytes.{bytes, isBlank}
-use Rattle.laws.specs.Lists.{eqs}
+use Rattle.laws.specs.Lists.{eqs, oneOf}
 use Rattle.laws.proofs.Tests.{impossible, never}
 use Rattle.decimal.specs.declared.Cell.the-variants.{Missing}
 use Rattle.words.specs.Words.{words, grown, ontoWord}
@@ -16,7 +16,6 @@ use Rattle.records.specs.declared.Lengths.{Lengths}
 use Rattle.records.specs.declared.Row.{Row}
 use Rattle.records.specs.declared.Waveform as laidWaveform
 use Rattle.records.specs.declared.ModelType.the-variants.{Terminator}
-use Rattle.line_rules.specs.Fields.{oneOf}
 use Rattle.line_rules.specs.Tables.{waveformKeywords}
 use Rattle.given.specs.Given.{noneGiven, has}
 use Rattle.given.proofs.Laws.{has-none}

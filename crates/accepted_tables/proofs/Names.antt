@@ -11,11 +11,11 @@ use lib.Seq.{take-all, take-append-seam}
 use lib.Dec.{eqb}
 use borrow.Author.Tests.{eqb-true}
 use Rattle.laws.specs.Bytes.{bytes, capital}
-use Rattle.laws.specs.Lists.{eqs}
+use Rattle.laws.specs.Lists.{eqs, oneOf}
 use Rattle.laws.proofs.Tests.{by-test, cond-yes, cond-no, and-both, and-first, and-second, never, impossible}
 use Rattle.laws.proofs.Same.{eqs-refl, eqs-eq}
 use Rattle.words.specs.Words.{word, words}
-use Rattle.line_rules.specs.Fields.{oneOf, needsNoModel}
+use Rattle.line_rules.specs.Fields.{needsNoModel}
 use Rattle.records.specs.Stored.{padded, nameLaid}
 use Rattle.records.specs.declared.Name.{Name}
 use Rattle.records.specs.declared.Kind.{Kind}

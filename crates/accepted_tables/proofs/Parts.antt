@@ -9,7 +9,7 @@ use native.Mathlib.Omega.{arith}
 use lib.Dec.{eqb, leb}
 use borrow.Author.Tests.{eqb-true, eqb-false, leb-false}
 use Rattle.laws.specs.Bytes.{bytes, isBlank}
-use Rattle.laws.specs.Lists.{eqs, front}
+use Rattle.laws.specs.Lists.{eqs, front, oneOf}
 use Rattle.laws.specs.Said.{Said, says, faultIn, orElse}
 use Rattle.laws.proofs.Tests.{cond-all, cond-yes}
 use Rattle.decimal.specs.declared.Cell.the-variants.{Missing}
@@ -28,7 +28,7 @@ use Rattle.records.specs.declared.Range.{Range}
 use Rattle.records.specs.declared.RampTable.{RampTable}
 use Rattle.records.specs.declared.ModelType.{ModelType}
 use Rattle.records.specs.declared.Edge.the-variants.{Rising, Falling}
-use Rattle.line_rules.specs.Fields.{isBracketed, oneOf, threeCells, wordLine, lineSays}
+use Rattle.line_rules.specs.Fields.{isBracketed, threeCells, wordLine, lineSays}
 use Rattle.line_rules.specs.Tables.{modelTypes, rampLines, fixtures, tableKeywords, waveformKeywords}
 use Rattle.given.specs.Given.{has, with}
 use Rattle.given.specs.declared.Given.{Given}

@@ -8,7 +8,7 @@ use native.Mathlib.Omega.{arith}
 use lib.ListN.{length, take, drop, length-append, length-drop}
 use lib.Seq.{take-append-seam, drop-append-seam, take-append-le, drop-append-le}
 use Rattle.laws.specs.Bytes.{bytes}
-use Rattle.laws.specs.Lists.{eqs}
+use Rattle.laws.specs.Lists.{eqs, oneOf}
 use Rattle.laws.proofs.Tests.{by-test, cond-map, cond-all, cond-yes, cond-no, impossible}
 use Rattle.laws.proofs.Same.{eqs-eq}
 use Rattle.words.specs.Words.{words}
@@ -16,7 +16,6 @@ use Rattle.records.specs.declared.Row.{Row}
 use Rattle.records.specs.declared.Span.{Span}
 use Rattle.records.specs.declared.Table.{Table}
 use Rattle.records.specs.declared.Waveform as laidWaveform
-use Rattle.line_rules.specs.Fields.{oneOf}
 use Rattle.line_rules.specs.Tables.{waveformKeywords}
 use Rattle.rules.specs.Reading.{TableIs, rowsIn, edgeOf, waveformIn}
 use Rattle.layout.specs.Laid.{rowsOf, tableAt, waveformsLaid}

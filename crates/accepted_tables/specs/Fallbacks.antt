@@ -7,12 +7,13 @@ use mathlib.Core.Logic.{_⊎_}
 use mathlib.Core.Bool.{Bool, true, false}
 use lib.ListN.{length}
 use Rattle.laws.specs.Bytes.{bytes}
+use Rattle.laws.specs.Lists.{oneOf}
 use Rattle.laws.specs.Said.{says, faultIn}
 use Rattle.words.specs.Words.{word, words}
 use Rattle.cut_lines.specs.Texts.{Text}
 use Rattle.records.specs.declared.ModelType.{ModelType}
 use Rattle.records.specs.declared.Row.{Row}
-use Rattle.line_rules.specs.Fields.{isSized, isModelName, isFileName, oneWord, oneOf, wordLine, cellsLine, numberLine, rowOf, lineSays}
+use Rattle.line_rules.specs.Fields.{isSized, isModelName, isFileName, oneWord, wordLine, cellsLine, numberLine, rowOf, lineSays}
 use Rattle.line_rules.specs.Tables.{locations, modelTypes, waveformKeywords}
 use Rattle.rules.specs.Component.{pinFault}
 use Rattle.rules.specs.Model.{firstFault, rampFault, beginsLetter}

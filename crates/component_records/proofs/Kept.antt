@@ -4,9 +4,9 @@ use mathlib.Core.Path.{_≡_}
 use mathlib.Core.List.{List, map}
 use mathlib.Core.Bool.{true, false}
 use Rattle.laws.specs.Bytes.{bytes, capital}
-use Rattle.laws.specs.Lists.{eqs}
+use Rattle.laws.specs.Lists.{eqs, oneOf}
 use Rattle.laws.proofs.Same.{eqs-eq}
-use Rattle.line_rules.specs.Fields.{needsNoModel, oneOf}
+use Rattle.line_rules.specs.Fields.{needsNoModel}
 use Rattle.rules.specs.Component.{keptModel}
 
 module _ (w : List ℕ) where

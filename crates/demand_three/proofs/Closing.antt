@@ -7,20 +7,20 @@ use lib.ListN.{length}
 use lib.Dec.{eqb}
 use borrow.Author.Tests.{not-false}
 use Rattle.laws.specs.Bytes.{bytes, isBlank}
-use Rattle.laws.specs.Lists.{eqs}
+use Rattle.laws.specs.Lists.{eqs, oneOf}
 use Rattle.laws.specs.Said.{Said, says, fault, orFault}
 use Rattle.laws.proofs.Tests.{by-test, cond-yes, cond-map, and-second}
 use Rattle.laws.proofs.Same.{eqs-eq}
 use Rattle.words.specs.Words.{words, grown, ontoWord}
 use Rattle.name_table.specs.Names.{meaning}
 use Rattle.keywords.specs.Form.{inside, isFormed, spelled, argument}
-use Rattle.keywords.specs.Carried.{carried, keyOf}
+use Rattle.keywords.specs.Carried.{carried, gapOrSlip, keyOf}
 use Rattle.keywords.specs.declared.Keyword.{Keyword}
 use Rattle.keywords.specs.declared.Keyword.the-variants as key
 use Rattle.keywords.specs.declared.Section.the-variants.{Model}
 use Rattle.keywords.proofs.Spelling.{spelling-known}
 use Rattle.cut_lines.specs.Texts.{Text, plain}
-use Rattle.line_rules.specs.Fields.{isBracketed, isModelName, oneOf, oneWord}
+use Rattle.line_rules.specs.Fields.{isBracketed, isModelName, oneWord}
 use Rattle.rules.specs.Going.{stop, unless, refuse, andThen}
 use Rattle.rules.specs.Component.{componentShut}
 use Rattle.rules.specs.Selector.{selectorShut}
@@ -71,8 +71,8 @@ model-key k w h =
     by-test (isBracketed w && isFormed w)
     (λ t.
     cond-yes _ _ (and-second (isBracketed w) (isFormed w) t)
-    ∙ ap (λ (x : List ℕ). orFault 6 (meaning x carried)) (eqs-eq (spelled (inside w)) (bytes "model") (rw t at h))
-    ∙ ap (orFault 6) (spelling-known (key.Opens Model)))
+    ∙ ap (λ (x : List ℕ). orFault (gapOrSlip x) (meaning x carried)) (eqs-eq (spelled (inside w)) (bytes "model") (rw t at h))
+    ∙ ap (orFault (gapOrSlip (bytes "model"))) (spelling-known (key.Opens Model)))
     (λ t. let z : false ≡ true = rw t at h in cc)
 
 -- ---- what it closes: the open table or list, and then the section

@@ -2,7 +2,7 @@
 -- that is written out.
 use mathlib.Core.List.{flatMap}
 use Rattle.laws.specs.Bytes.{isBlank, isDigit, isCapital, isSmall, isLetter, capital, small, spelledByte}
-use Rattle.laws.specs.Lists.{front, after, keep, trim, all, among, other, eqs}
+use Rattle.laws.specs.Lists.{front, after, keep, trim, all, among, other, eqs, oneOf}
 use Rattle.decimal.specs.Decimal.{isMinus, afterSign, pointPlaces, afterPoint, figures, afterFigures, numeralFrom, numeral, significant, zerosCut, afterE, exponentDigits, plusExponent, minusExponent, letters, scaleUp, scaleDown, ranged, resultOf, unsigned, numberOf, isMissing, givenCell, cellOf, lessThan, aboveZero}
 use Rattle.words.specs.Words.{ontoWord, grown, words, word}
 use Rattle.lines.specs.Lines.{isReturn, ontoLine, linesOf, isAllowed, lineFault, faultFrom, bytesFault, cut}
@@ -12,7 +12,7 @@ use Rattle.keywords.specs.Form.{inside, closing, isJoint, inParts, isClosed, is
 use Rattle.keywords.specs.Carried.{carried, keyOf}
 use Rattle.cut_lines.specs.Change.{isChange, noneOr, isRemark, changeTo, changeOf}
 use Rattle.cut_lines.specs.Texts.{ontoTexts, textsFrom}
-use Rattle.line_rules.specs.Fields.{isSized, isBracketed, oneOf, needsNoModel, isNoModel, isModelName, isPinModel, isPinName, oneWord, isFileByte, isFileName, exactly, wordIn, cellsBy, threeCells, rowOf, slopeFrom, slopeOf, slopeOrMissing, upward, threeSlopes, nameOf, isNamed, lineAt, behindName, wordLine, cellsLine, slopesLine, behindEquals, numberLine, takes, lineSays, sameWords, heading}
+use Rattle.line_rules.specs.Fields.{isSized, isBracketed, needsNoModel, isNoModel, isModelName, isPinModel, isPinName, oneWord, isFileByte, isFileName, exactly, wordIn, cellsBy, threeCells, rowOf, slopeFrom, slopeOf, slopeOrMissing, upward, threeSlopes, nameOf, isNamed, lineAt, behindName, wordLine, cellsLine, slopesLine, behindEquals, numberLine, takes, lineSays, sameWords, heading}
 use Rattle.line_rules.specs.Tables.{locations, modelTypes, typeName, polarities, enables}
 use Rattle.given.specs.Given.{has, with, gave}
 use Rattle.rules.specs.Going.{unless, refuse}

@@ -53,7 +53,8 @@ fn line_edge(w: &[u8]) -> Edge
     }
     match keywords::key_of(w) {
         KeyRead::Known { keyword, argument } => key_edge(keyword),
-        KeyRead::Unknown => Edge::Rising,
+        KeyRead::Gap => Edge::Rising,
+        KeyRead::Slip => Edge::Rising,
         KeyRead::Malformed => Edge::Rising,
     }
 }

@@ -3,10 +3,11 @@ use Prim.Native.Nat.{ℕ, _+_}
 use mathlib.Core.List.{List, [], _∷_, flatMap}
 use lib.ListN.{length}
 use Rattle.laws.specs.Bytes.{bytes}
+use Rattle.laws.specs.Lists.{oneOf}
 use Rattle.laws.specs.Said.{Said, says, fault}
 use Rattle.words.specs.Words.{words}
 use Rattle.records.specs.declared.Row.{Row}
-use Rattle.line_rules.specs.Fields.{oneOf, rowOf}
+use Rattle.line_rules.specs.Fields.{rowOf}
 use Rattle.line_rules.specs.Tables.{waveformKeywords}
 use Rattle.rules.specs.Whole.{textsOf}
 use Rattle.rules.specs.Reading.{pinsIn, choicesIn, TableIs, tablesIn, ontoRows, rowsIn, edgeOf, SectionIs, component, selector, model, fileIn}

@@ -3,15 +3,17 @@ use Prim.Native.Nat.{ℕ, _+_, _-_, _≤_}
 use Prim.Native.Char.{code}
 use mathlib.Core.Path.{_≡_, refl, sym, ap, _∙_}
 use mathlib.Core.List.{List}
+use mathlib.Core.Bool.{Bool, true, false}
 use native.Mathlib.Omega.{arith}
 use lib.ListN.{length, drop, length-drop, drop-of-length-le}
 use lib.Seq.{drop-drop}
 use Rattle.laws.specs.Bytes.{isBlank}
-use Rattle.laws.specs.Lists.{front, after, other, part}
+use Rattle.laws.specs.Lists.{front, after, other, part, oneOf}
 use Rattle.laws.proofs.Tests.{by-test, by-order, cond-yes, cond-no}
 use Rattle.laws.proofs.Lists.{part-rest}
 use Rattle.laws.proofs.Fronts.{after-at}
 use Rattle.name_table.specs.Names.{meaning}
+use Rattle.hierarchy.specs.Hierarchy.{hierarchy}
 use Rattle.keywords.specs.Form.{closing, isFormed, spelled, inside, argument}
 use Rattle.keywords.specs.Carried.{carried}
 use Rattle.keywords.specs.Answers.{known, keywordOrNothing, keyRead}
@@ -19,7 +21,7 @@ use Rattle.keywords.specs.declared.Keyword.{Keyword}
 use Rattle.keywords.specs.declared.Named.{Named}
 use Rattle.keywords.specs.declared.Named.the-variants.{Is, Nothing}
 use Rattle.keywords.specs.declared.KeyRead.{KeyRead}
-use Rattle.keywords.specs.declared.KeyRead.the-variants.{Known, Unknown, Malformed}
+use Rattle.keywords.specs.declared.KeyRead.the-variants.{Known, Gap, Slip, Malformed}
 use Rattle.keywords.proofs.Laws.{closing-at}
 
 -- a rest, by its length
@@ -47,12 +49,14 @@ argument-rest w =
 -- the place in the answer
 abbrev place : ℕ → KeyRead → ℕ
 place n (Known key at) = at
-place n Unknown = n
+place n Gap = n
+place n Slip = n
 place n Malformed = n
 
-known-place : (n : ℕ) (x : Named) → place n (known n x) ≡ n
-known-place n Nothing = refl
-known-place n (Is key) = refl
+known-place : (n : ℕ) (listed : Bool) (x : Named) → place n (known n listed x) ≡ n
+known-place n true Nothing = refl
+known-place n false Nothing = refl
+known-place n listed (Is key) = refl
 
 module _ (w : List ℕ) {key : Keyword} {at : ℕ} (e : keyRead w ≡ Known key at) where
   key-place : at ≡ length w - length (argument w)
@@ -61,7 +65,7 @@ module _ (w : List ℕ) {key : Keyword} {at : ℕ} (e : keyRead w ≡ Known key 
       let n : ℕ = length w - length (argument w) in
       sym (ap (place n) e)
       ∙ by-test (isFormed w)
-      (λ h. ap (place n) (cond-yes _ _ h) ∙ known-place n (keywordOrNothing (meaning (spelled (inside w)) carried)))
+      (λ h. ap (place n) (cond-yes _ _ h) ∙ known-place n (oneOf (spelled (inside w)) hierarchy) (keywordOrNothing (meaning (spelled (inside w)) carried)))
       (λ h. ap (place n) (cond-no _ _ h))
 
   pub key-within : at ≤ length w

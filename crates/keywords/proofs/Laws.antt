@@ -3,12 +3,12 @@ use Prim.Native.Nat.{ℕ, _+_, _-_, _≤_, _<_}
 use Prim.Native.Char.{code}
 use mathlib.Core.Path.{_≡_, refl, sym, ap, _∙_}
 use mathlib.Core.List.{List, [], _∷_, map}
-use mathlib.Core.Bool.{Bool, true, false}
+use mathlib.Core.Bool.{Bool, true, false, cond}
 use native.Mathlib.Omega.{arith}
 use lib.ListN.{length, drop, getD, drop-of-length-le, length-drop}
 use lib.Seq.{drop-drop}
 use Rattle.laws.specs.Bytes.{isBlank, spelledByte}
-use Rattle.laws.specs.Lists.{front, after, other, part}
+use Rattle.laws.specs.Lists.{front, after, other, part, oneOf}
 use Rattle.laws.proofs.Tests.{cond-yes, cond-no, and-both, and-left, and-right, by-order, never}
 use Rattle.laws.proofs.Lists.{from-cons}
 use Rattle.laws.proofs.Fronts.{front-at, after-at, front-le}
@@ -21,11 +21,13 @@ use Rattle.name_table.specs.Listed.{namesIn}
 use Rattle.name_table.specs.declared.Found.{Found}
 use Rattle.name_table.specs.declared.NameList.the-variants.{Keywords}
 use Rattle.name_table.proofs.Laws.{meaning-place}
+use Rattle.hierarchy.specs.Hierarchy.{hierarchy}
 use Rattle.keywords.specs.Form.{inside, closing, isJoint, inParts, isClosed, isFormed, spelled, argument}
 use Rattle.keywords.specs.Carried.{carried}
 use Rattle.keywords.specs.Answers.{keywordOrNothing, known, keyRead}
 use Rattle.keywords.specs.declared.Named.the-variants.{Nothing}
-use Rattle.keywords.specs.declared.KeyRead.the-variants.{Unknown, Malformed}
+use Rattle.keywords.specs.declared.KeyRead.{KeyRead}
+use Rattle.keywords.specs.declared.KeyRead.the-variants.{Gap, Slip, Malformed}
 
 -- ---- `inParts`, from a place on
 
@@ -75,6 +77,10 @@ closed-within w at h =
 
 -- ---- a keyword line by the place of its `]`
 
+-- what a line with a name so spelled is, if its argument begins at a place
+abbrev pub ofName : ℕ → List ℕ → KeyRead
+ofName at name = known at (oneOf name hierarchy) (keywordOrNothing (meaning name carried))
+
 module _ (w : List ℕ) (stop : ℕ) (found : stop ≡ 1 + length (front (other (code "]")) (drop 1 w))) where
   pub inside-at : part 1 stop w ≡ inside w
   unfolding inside
@@ -94,7 +100,7 @@ module _ (w : List ℕ) (stop : ℕ) (found : stop ≡ 1 + length (front (other 
 
   pub key-known : (at : ℕ) → isClosed (drop stop w) ≡ true → inParts false (part 1 stop w) ≡ true
       → at ≡ stop + 1 + length (front isBlank (drop (stop + 1) w)) → at ≤ length w
-      → keyRead w ≡ known at (keywordOrNothing (meaning (spelled (part 1 stop w)) carried))
+      → keyRead w ≡ ofName at (spelled (part 1 stop w))
   unfolding keyRead isFormed argument
   key-known at h k e l =
       let rest : after isBlank (drop 1 (closing w)) ≡ drop at w =
@@ -102,16 +108,16 @@ module _ (w : List ℕ) (stop : ℕ) (found : stop ≡ 1 + length (front (other 
       let place : length w - length (after isBlank (drop 1 (closing w))) ≡ at = omega (arith, ap length rest, length-drop at w) in
       cond-yes _ _
       (and-both (inParts false (inside w)) (isClosed (closing w)) (ap (inParts false) (sym inside-at) ∙ k) (ap isClosed (sym closing-at) ∙ h))
-      ∙ ap (λ (n : ℕ). known n (keywordOrNothing (meaning (spelled (inside w)) carried))) place
-      ∙ ap (λ (x : List ℕ). known at (keywordOrNothing (meaning (spelled x) carried))) (sym inside-at)
+      ∙ ap (λ (n : ℕ). ofName n (spelled (inside w))) place
+      ∙ ap (λ (x : List ℕ). ofName at (spelled x)) (sym inside-at)
 
-  pub key-unknown : isClosed (drop stop w) ≡ true → inParts false (part 1 stop w) ≡ true
-      → keywordOrNothing (meaning (spelled (part 1 stop w)) carried) ≡ Nothing → keyRead w ≡ Unknown
-  key-unknown h k e =
+  pub key-not-carried : isClosed (drop stop w) ≡ true → inParts false (part 1 stop w) ≡ true
+      → keywordOrNothing (meaning (spelled (part 1 stop w)) carried) ≡ Nothing → keyRead w ≡ cond (oneOf (spelled (part 1 stop w)) hierarchy) Gap Slip
+  key-not-carried h k e =
       let at : ℕ = stop + 1 + length (front isBlank (drop (stop + 1) w)) in
       key-known at h k refl
       (omega (arith, closed-within w stop h, front-le isBlank (drop (stop + 1) w), length-drop (stop + 1) w))
-      ∙ ap (known at) e
+      ∙ ap (known at (oneOf (spelled (part 1 stop w)) hierarchy)) e
 
 pub key-none : (w : List ℕ) → length w ≡ 0 → keyRead w ≡ Malformed
 unfolding keyRead isFormed inside front inParts

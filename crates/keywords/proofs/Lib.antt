@@ -3,3 +3,4 @@
 pub mod Laws
 pub mod Arguments
 pub mod Spelling
+pub mod Listed

@@ -6,13 +6,15 @@ use mathlib.Core.List.{List, [], _∷_}
 use mathlib.Core.Bool.{Bool, true, cond}
 use mathlib.Core.Option.{Option, none, some}
 use Rattle.laws.specs.Bytes.{bytes}
-use Rattle.laws.specs.Lists.{eqs, all}
+use Rattle.laws.specs.Lists.{eqs, all, oneOf}
 use Rattle.laws.specs.Said.{Said, fault, orFault}
-use Rattle.laws.proofs.Tests.{by-test, cond-yes, cond-no, cond-map, and-first, and-second, impossible}
+use Rattle.laws.proofs.Tests.{by-test, cond-map}
 use Rattle.laws.proofs.Same.{eqs-eq}
 use Rattle.name_table.specs.Names.{Naming, meaning}
+use Rattle.name_table.proofs.Laws.{meaning-entry}
+use Rattle.hierarchy.specs.Hierarchy.{hierarchy}
 use Rattle.keywords.specs.Form.{inside, isFormed, spelled}
-use Rattle.keywords.specs.Carried.{carried, keyOf}
+use Rattle.keywords.specs.Carried.{carried, gapOrSlip, keyOf}
 use Rattle.keywords.specs.Answers.{keywordSays, keywordOrNothing, known, keyRead}
 use Rattle.keywords.specs.declared.Keyword.{Keyword}
 use Rattle.keywords.specs.declared.Keyword.the-variants.{IbisVer, InHeader, Opens, InComponent, InModel, End}
@@ -88,37 +90,22 @@ carried-spelled : all isSpelled carried ≡ true
 unfolding carried all eqs
 carried-spelled = refl
 
-some-is : {A : Type 0} (a b : A) → some a ≡ some b → a ≡ b
-some-is a b e = cc
-
-none-some : {A : Type 0} {X : Type 0} (a : A) → none ≡ some a → X
-none-some a e = let z : _≡_ {A = ℕ} 0 1 = cc in impossible z
-
-meaning-spelled : (es : List (Naming Keyword)) → all isSpelled es ≡ true → (w : List ℕ) (k : Keyword) → meaning w es ≡ some k → w ≡ bytes (spelling k)
-unfolding all meaning
-meaning-spelled [] h w k e = none-some k e
-meaning-spelled (x ∷ es) h w k e =
-    by-test (eqs w (x .name))
-    (λ q.
-    let means : x .means ≡ k = some-is _ _ (sym (cond-yes _ _ q) ∙ e) in
-    eqs-eq w (x .name) q ∙ eqs-eq (x .name) _ (and-first (isSpelled x) (all isSpelled es) h) ∙ ap (λ (y : Keyword). bytes (spelling y)) means)
-    (λ q. meaning-spelled es (and-second (isSpelled x) (all isSpelled es) h) w k (sym (cond-no _ _ q) ∙ e))
-
 -- a name of the table is the spelling of its keyword
 pub spelled-known : (w : List ℕ) (k : Keyword) → meaning w carried ≡ some k → w ≡ bytes (spelling k)
-spelled-known w k e = meaning-spelled carried carried-spelled w k e
+spelled-known w k e = eqs-eq w _ (meaning-entry isSpelled carried carried-spelled w k e)
 
 -- ---- what the code answers to a keyword line says what the line says
 
-known-says : (at : ℕ) (x : Option Keyword) → keywordSays (known at (keywordOrNothing x)) ≡ orFault 6 x
-known-says at none = refl
-known-says at (some k) = refl
+known-says : (at : ℕ) (name : List ℕ) (x : Option Keyword) → keywordSays (known at (oneOf name hierarchy) (keywordOrNothing x)) ≡ orFault (gapOrSlip name) x
+unfolding gapOrSlip
+known-says at name none = by-test (oneOf name hierarchy) (λ h. rw h) (λ h. rw h)
+known-says at name (some k) = refl
 
 pub key-said : (w : List ℕ) → keywordSays (keyRead w) ≡ keyOf w
 unfolding keyRead keyOf
 key-said w =
     cond-map keywordSays (isFormed w) _ Malformed
-    ∙ ap (λ (x : Said Keyword). cond (isFormed w) x (fault 5)) (known-says _ (meaning (spelled (inside w)) carried))
+    ∙ ap (λ (x : Said Keyword). cond (isFormed w) x (fault 5)) (known-says _ (spelled (inside w)) (meaning (spelled (inside w)) carried))
 
 -- what is read of the line, and what it says
 pub said-too : (w : List ℕ) (r : KeyRead) → keyRead w ≡ r → (r ≡ keyRead w) × (keywordSays r ≡ keyOf w)

@@ -2,8 +2,10 @@
 use Prim.Native.Nat.{ℕ}
 use mathlib.Core.List.{List, [], _∷_}
 use mathlib.Core.Bool.{cond}
+use Rattle.laws.specs.Lists.{oneOf}
 use Rattle.laws.specs.Said.{Said, fault, orFault}
 use Rattle.name_table.specs.Names.{Naming, naming, meaning}
+use Rattle.hierarchy.specs.Hierarchy.{hierarchy}
 use Rattle.keywords.specs.Form.{inside, isFormed, spelled}
 use Rattle.keywords.specs.declared.Keyword.{Keyword}
 use Rattle.keywords.specs.declared.Keyword.the-variants.{IbisVer, InHeader, Opens, InComponent, InModel, End}
@@ -30,6 +32,10 @@ carried =
     ∷ naming "end" End
     ∷ []
 
--- 5, badly formed, goes first; then 6, not carried
+-- Document 02, "Tell a typing slip from a gap of ours": of a name that is not carried, 6 if it is a keyword of the hierarchy, 21 if not
+unfoldable pub gapOrSlip : List ℕ → ℕ
+gapOrSlip name = cond (oneOf name hierarchy) 6 21
+
+-- 5, badly formed, goes first; then 6 and 21, not carried
 unfoldable pub keyOf : List ℕ → Said Keyword
-keyOf w = cond (isFormed w) (orFault 6 (meaning (spelled (inside w)) carried)) (fault 5)
+keyOf w = cond (isFormed w) (orFault (gapOrSlip (spelled (inside w))) (meaning (spelled (inside w)) carried)) (fault 5)

@@ -1,13 +1,15 @@
 // Keyword lines: their form, and the keyword by its name, in any letter case, a space equal to an underscore.
 ghost use mathlib.Core.Path.{_≡_};
-ghost use mathlib.Core.Bool.{false};
+ghost use mathlib.Core.Bool.{false, cond};
 ghost use lib.ListN.{drop};
-ghost use Rattle.laws.specs.Lists.{eqs};
+ghost use Rattle.laws.specs.Lists.{eqs, oneOf};
 ghost use Rattle.name_table.specs.Names.{meaning};
 ghost use Rattle.name_table.specs.Places.{meaningAt};
+ghost use Rattle.hierarchy.specs.Hierarchy.{hierarchy};
 ghost use Rattle.keywords.specs.Form.{spelled, isJoint, inParts, isClosed};
 ghost use Rattle.keywords.specs.Carried.{carried, keyOf};
 ghost use Rattle.keywords.specs.Answers.{keywordSays, keyRead, keywordOrNothing};
+ghost use Rattle.keywords.specs.declared.KeyRead.the-variants.{Gap, Slip};
 use name_table::Found;
 use name_table::NameList;
 use records::Edge;
@@ -64,10 +66,12 @@ pub enum Keyword {
     End,
 }
 
-// What a keyword line is: a keyword and where its argument begins; not carried (6); badly formed (5).
+// What a keyword line is: a keyword and where its argument begins; a gap of ours, a keyword of the hierarchy that is not carried (6); a slip, one
+// outside the hierarchy (21); badly formed (5).
 pub enum KeyRead {
     Known { keyword: Keyword, argument: usize },
-    Unknown,
+    Gap,
+    Slip,
     Malformed,
 }
 
@@ -175,6 +179,16 @@ pub fn keyword_named(w: &[u8]) -> Named
     }
 }
 
+// What a name is that is not carried.
+fn gap_or_slip(name: &[u8]) -> KeyRead
+    ensures { λ r. ⌜ r ≡ cond (oneOf (spelled (now (name .entry))) hierarchy) Gap Slip ⌝ }
+{
+    match hierarchy::place(name) {
+        Found::At(k) => KeyRead::Gap,
+        Found::Nothing => KeyRead::Slip,
+    }
+}
+
 // What a keyword line is. Its text begins with `[`.
 pub fn key_of(w: &[u8]) -> KeyRead
     ensures { λ r. ⌜ r ≡ keyRead (now (w .entry)) ⌝ }
@@ -196,6 +210,6 @@ pub fn key_of(w: &[u8]) -> KeyRead
             keyword: keyword,
             argument: words::skip_blanks(w, stop + 1),
         },
-        Named::Nothing => KeyRead::Unknown,
+        Named::Nothing => gap_or_slip(name),
     }
 }

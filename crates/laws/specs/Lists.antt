@@ -53,3 +53,8 @@ eqs [] [] = true
 eqs [] (b ∷ bs) = false
 eqs (a ∷ xs) [] = false
 eqs (a ∷ xs) (b ∷ bs) = eqb a b && eqs xs bs
+
+-- the text is one of these
+unfoldable pub oneOf : List ℕ → List (List ℕ) → Bool
+oneOf w [] = false
+oneOf w (n ∷ ns) = eqs w n || oneOf w ns

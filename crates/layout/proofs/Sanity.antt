@@ -4,10 +4,9 @@ use mathlib.Core.Path.{_≡_, refl}
 use mathlib.Core.List.{List, [], _∷_}
 use lib.ListN.{length}
 use Rattle.laws.specs.Bytes.{bytes, isBlank}
-use Rattle.laws.specs.Lists.{eqs}
+use Rattle.laws.specs.Lists.{eqs, oneOf}
 use Rattle.words.specs.Words.{words, grown, ontoWord}
 use Rattle.records.specs.declared.Edge.the-variants.{Rising}
-use Rattle.line_rules.specs.Fields.{oneOf}
 use Rattle.rules.specs.Reading.{rowsIn, edgeOf, waveformIn}
 use Rattle.layout.specs.Laid.{waveformsLaid}
 

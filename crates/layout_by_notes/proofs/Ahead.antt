@@ -5,7 +5,7 @@ use mathlib.Core.List.{List, [], _∷_, _++_}
 use mathlib.Core.Bool.{Bool, true, false, cond, not}
 use mathlib.Core.Option.{Option, none, some}
 use Rattle.laws.specs.Bytes.{bytes, isBlank}
-use Rattle.laws.specs.Lists.{front, eqs}
+use Rattle.laws.specs.Lists.{front, eqs, oneOf}
 use Rattle.laws.specs.Said.{says}
 use Rattle.laws.proofs.Tests.{by-test, cond-all, cond-map}
 use Rattle.words.specs.Words.{words, grown, ontoWord}
@@ -23,7 +23,7 @@ use Rattle.keywords.proofs.Spelling.{spelling}
 use Rattle.records.specs.declared.Edge.the-variants.{Rising, Falling}
 use Rattle.records.specs.declared.Row.{Row}
 use Rattle.cut_lines.specs.Texts.{Text, plain, change}
-use Rattle.line_rules.specs.Fields.{isBracketed, oneOf}
+use Rattle.line_rules.specs.Fields.{isBracketed}
 use Rattle.line_rules.specs.Tables.{tableKeywords}
 use Rattle.rules.specs.Reading.{keyName, argumentAt, under, linesUnder, rowsIn, TableIs, tablesIn, isWithin, sectionsIn}
 use Rattle.rules.specs.Keys.{keyAt, byKeyword, opens, isEnd, ontoSections}

@@ -6,7 +6,7 @@ use mathlib.Core.Option.{Option, some}
 use native.Mathlib.Omega.{arith}
 use lib.ListN.{length, length-append}
 use Rattle.laws.specs.Bytes.{isBlank}
-use Rattle.laws.specs.Lists.{eqs}
+use Rattle.laws.specs.Lists.{eqs, oneOf}
 use Rattle.laws.specs.Said.{Said, says}
 use Rattle.words.specs.Words.{words, grown, ontoWord}
 use Rattle.keywords.specs.declared.Keyword.{Keyword}
@@ -17,7 +17,7 @@ use Rattle.keywords.specs.declared.CurrentTable.the-variants.{Pulldown, Pullup,
 use Rattle.records.specs.declared.Edge.{Edge}
 use Rattle.records.specs.declared.Edge.the-variants.{Rising, Falling}
 use Rattle.cut_lines.specs.Texts.{Text, plain}
-use Rattle.line_rules.specs.Fields.{oneOf, rowOf}
+use Rattle.line_rules.specs.Fields.{rowOf}
 use Rattle.rules.specs.Component.{pinIn}
 use Rattle.rules.specs.Reading.{ontoRows, rowsIn, under, choiceIn, edgeOf, waveformIn, TableIs, sectionsIn}
 use Rattle.rules.specs.Keys.{keyAt}

@@ -7,7 +7,7 @@ use mathlib.Core.Bool.{Bool, true, false, cond, not, _&&_, _||_}
 use lib.ListN.{length, drop}
 use lib.Dec.{eqb, leb}
 use Rattle.laws.specs.Bytes.{bytes, isBlank, isDigit, isSmall, capital}
-use Rattle.laws.specs.Lists.{front, after, begins, among, other, eqs}
+use Rattle.laws.specs.Lists.{front, after, begins, among, other, eqs, oneOf}
 use Rattle.laws.specs.Said.{Said, says, fault, faultIn, orElse, readOn, orFault}
 use Rattle.decimal.specs.Decimal.{numberOf, givenCell, cellOf, isMissing, aboveZero}
 use Rattle.decimal.specs.declared.Decimal.{Decimal}
@@ -30,10 +30,6 @@ isSized n w = leb 1 (length w) && leb (length w) n
 -- "begins with `[`"
 unfoldable pub isBracketed : List ℕ → Bool
 isBracketed w = begins (code "[") w
-
-unfoldable pub oneOf : List ℕ → List (List ℕ) → Bool
-oneOf w [] = false
-oneOf w (n ∷ ns) = eqs w n || oneOf w ns
 
 -- "POWER, GND, NC, NA and CIRCUITCALL count in any letter case": the three that need no model, and the two that are none
 unfoldable pub needsNoModel : List ℕ → Bool

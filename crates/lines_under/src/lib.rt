@@ -124,7 +124,8 @@ pub fn next_key(src: &[u8], c: Cursor) -> KeyNext
                             next: next,
                         };
                     }
-                    KeyRead::Unknown => d = next,
+                    KeyRead::Gap => d = next,
+                    KeyRead::Slip => d = next,
                     KeyRead::Malformed => d = next,
                 }
             }

@@ -8,7 +8,7 @@ use mathlib.Core.Option.{none, some}
 use native.Mathlib.Omega.{arith}
 use lib.ListN.{length, length-append}
 use Rattle.laws.specs.Bytes.{bytes, isBlank}
-use Rattle.laws.specs.Lists.{front, eqs}
+use Rattle.laws.specs.Lists.{front, eqs, oneOf}
 use Rattle.laws.proofs.Tests.{by-test, cond-yes, cond-same}
 use Rattle.words.specs.Words.{words, grown, ontoWord}
 use Rattle.keywords.specs.declared.Keyword.{Keyword}
@@ -16,7 +16,6 @@ use Rattle.keywords.specs.declared.Keyword.the-variants.{InModel}
 use Rattle.keywords.specs.declared.ModelPart.the-variants.{VoltageRange, TemperatureRange, Ramp}
 use Rattle.keywords.proofs.Spelling.{spelling}
 use Rattle.cut_lines.specs.Texts.{Text}
-use Rattle.line_rules.specs.Fields.{oneOf}
 use Rattle.line_rules.specs.Tables.{waveformKeywords}
 use Rattle.rules.specs.Reading.{argumentAt, under, keySays, numberSaid, rangeIn, noRange, rampIn, TableIs, tablesIn, modelIn, isWithin}
 use Rattle.rules.specs.Keys.{keyAt}

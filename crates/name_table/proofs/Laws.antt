@@ -1,17 +1,18 @@
 -- Laws of `specs/Names.antt` and `specs/Listed.antt`: a turn of the search, the names of a list by their places, and that the place found stands for the meaning.
 use Prim.Native.Nat.{ℕ, zero, suc, _+_, _-_, _≤_, _<_}
-use mathlib.Core.Path.{_≡_, refl, sym, ap, _∙_}
+use mathlib.Core.Path.{_≡_, refl, sym, ap, ap₂, _∙_}
 use mathlib.Core.List.{List, [], _∷_}
 use mathlib.Core.Bool.{Bool, true, false}
-use mathlib.Core.Option.{Option, none}
+use mathlib.Core.Option.{Option, none, some}
 use native.Mathlib.Nat.{sub-self}
 use native.Mathlib.Omega.{arith}
 use lib.ListN.{length, drop, getD, List·getD-eq-default, drop-of-length-le}
 use Rattle.laws.specs.Eights.{byteIn}
-use Rattle.laws.specs.Lists.{eqs}
-use Rattle.laws.proofs.Tests.{by-test, cond-yes, cond-no}
+use Rattle.laws.specs.Lists.{eqs, all}
+use Rattle.laws.proofs.Tests.{by-test, cond-yes, cond-no, and-first, and-second, impossible}
 use Rattle.laws.proofs.Lists.{from-cons}
 use Rattle.laws.proofs.Eights.{bytes-length, bytes-get}
+use Rattle.laws.proofs.Same.{eqs-eq}
 use Rattle.words.specs.Words.{word}
 use Rattle.name_table.specs.Names.{Naming, meaning, placeFrom}
 use Rattle.name_table.specs.Places.{namesOf, meaningAt, meaningOf}
@@ -119,6 +120,21 @@ meaning-place w es = meaning-from w es 0 ∙ plain (placeFrom 0 w (namesOf es))
     plain : (f : Found) → later es 0 f ≡ meaningOf es f
     plain Nothing = refl
     plain (At n) = let q : n - 0 ≡ n = omega arith in ap (meaningAt es) q
+
+-- a test that each entry of a table passes, a name passes with what it means
+pub meaning-entry : {A : Type 0} (p : Naming A → Bool) (es : List (Naming A)) → all p es ≡ true → (w : List ℕ) (a : A) → meaning w es ≡ some a
+    → p (record { name = w; means = a }) ≡ true
+unfolding all meaning
+meaning-entry p [] h w a e = let z : _≡_ {A = ℕ} 0 1 = cc in impossible z
+meaning-entry {A} p (x ∷ es) h w a e =
+    by-test (eqs w (x .name))
+    (λ q.
+    let means : a ≡ x .means = some-is _ _ (sym e ∙ cond-yes _ _ q) in
+    ap₂ (λ (n : List ℕ) (b : A). p (record { name = n; means = b })) (eqs-eq w (x .name) q) means ∙ and-first (p x) (all p es) h)
+    (λ q. meaning-entry p es (and-second (p x) (all p es) h) w a (sym (cond-no _ _ q) ∙ e))
+  where
+    some-is : (b c : A) → some b ≡ some c → b ≡ c
+    some-is b c e = cc
 
 -- past the end of a table nothing stands
 pub meaning-past : {A : Type 0} (es : List (Naming A)) (k : ℕ) → length es ≤ k → meaningAt es k ≡ none

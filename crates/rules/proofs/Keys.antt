@@ -6,7 +6,7 @@ use mathlib.Core.List.{List, [], _∷_, _++_}
 use mathlib.Core.Bool.{Bool, true, false, cond, not, _&&_, _||_}
 use mathlib.Core.Option.{Option, none, some}
 use Rattle.laws.specs.Bytes.{bytes, isBlank}
-use Rattle.laws.specs.Lists.{eqs, front}
+use Rattle.laws.specs.Lists.{eqs, front, oneOf}
 use Rattle.laws.specs.Said.{orFault}
 use Rattle.laws.proofs.Tests.{by-test, cond-yes, cond-no, cond-map, impossible}
 use Rattle.laws.proofs.Same.{eqs-eq}
@@ -25,7 +25,7 @@ use Rattle.keywords.specs.declared.CurrentTable.the-variants.{Pulldown, Pullup,
 use Rattle.keywords.proofs.Spelling.{spelling, spelling-known, spelled-known}
 use Rattle.records.specs.declared.Edge.the-variants.{Rising, Falling}
 use Rattle.cut_lines.specs.Texts.{Text, plain, change}
-use Rattle.line_rules.specs.Fields.{isBracketed, oneOf}
+use Rattle.line_rules.specs.Fields.{isBracketed}
 use Rattle.rules.specs.Reading.{keyName, isKey, argumentAt, under, linesUnder, keySays, isWithin, SectionIs, component, selector, model, sectionsIn}
 use Rattle.rules.specs.Keys.{keyIn, keyAt, opens, isEnd, ontoSections}
 
@@ -67,9 +67,9 @@ module _ (P : Keyword → Type 0) where
 
 -- ---- a keyword line is one that is bracketed and well formed
 
-key-in : (x : Option Keyword) → keyIn (orFault 6 x) ≡ x
-key-in none = refl
-key-in (some k) = refl
+key-in : (n : ℕ) (x : Option Keyword) → keyIn (orFault n x) ≡ x
+key-in n none = refl
+key-in n (some k) = refl
 
 isKeyed : List ℕ → Bool
 isKeyed w = isBracketed w && isFormed w
@@ -78,7 +78,7 @@ key-open : (j : ℕ) (w : List ℕ) → keyAt (plain j w) ≡ cond (isKeyed w) (
 unfolding keyOf isKeyed
 key-open j w =
     by-test (isBracketed w)
-    (λ b. by-test (isFormed w) (λ f. rw (b, f) (key-in _)) (λ f. rw (b, f)))
+    (λ b. by-test (isFormed w) (λ f. rw (b, f) (key-in _ _)) (λ f. rw (b, f)))
     (λ b. rw b)
 
 some-none : {A : Type 0} {X : Type 0} (a : A) → some a ≡ none → X

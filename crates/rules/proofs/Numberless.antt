@@ -5,7 +5,7 @@ use mathlib.Core.Path.{_≡_, refl, ap, _∙_}
 use mathlib.Core.List.{List, [], _∷_, _++_, map}
 use mathlib.Core.Bool.{cond}
 use Rattle.laws.specs.Bytes.{bytes}
-use Rattle.laws.specs.Lists.{front}
+use Rattle.laws.specs.Lists.{front, oneOf}
 use Rattle.laws.proofs.Fronts.{front-map}
 use Rattle.words.specs.Words.{words}
 use Rattle.keywords.specs.Form.{argument}
@@ -13,7 +13,7 @@ use Rattle.records.specs.declared.Span.{Span}
 use Rattle.records.specs.declared.Table.{Table}
 use Rattle.cut_lines.specs.Texts.{Text, plain, change}
 use Rattle.cut_lines.proofs.Renumbered.{textAt}
-use Rattle.line_rules.specs.Fields.{isBracketed, oneOf}
+use Rattle.line_rules.specs.Fields.{isBracketed}
 use Rattle.line_rules.specs.Tables.{tableKeywords}
 use Rattle.rules.specs.Component.{pinIn}
 use Rattle.rules.specs.Reading.{keyName, isKey, argumentAt, under, linesUnder, keySays, pinsIn, componentIn, choiceIn, choicesIn, modelIn, TableIs, tablesIn, isWithin}

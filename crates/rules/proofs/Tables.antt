@@ -5,6 +5,7 @@ use mathlib.Core.Bool.{Bool, cond}
 use mathlib.Core.Option.{none, some}
 use Prim.Native.Nat.{ℕ}
 use Rattle.laws.specs.Bytes.{bytes, isBlank}
+use Rattle.laws.specs.Lists.{oneOf}
 use Rattle.words.specs.Words.{words, grown, ontoWord}
 use Rattle.keywords.specs.declared.Keyword.{Keyword}
 use Rattle.keywords.specs.declared.Keyword.the-variants.{InModel}
@@ -13,7 +14,6 @@ use Rattle.keywords.specs.declared.CurrentTable.the-variants.{Pulldown, Pullup,
 use Rattle.keywords.proofs.Spelling.{spelling}
 use Rattle.records.specs.declared.Edge.the-variants.{Rising, Falling}
 use Rattle.cut_lines.specs.Texts.{Text}
-use Rattle.line_rules.specs.Fields.{oneOf}
 use Rattle.line_rules.specs.Tables.{tableKeywords}
 use Rattle.rules.specs.Reading.{keyName, under, TableIs, tablesIn}
 use Rattle.rules.specs.Keys.{keyAt}

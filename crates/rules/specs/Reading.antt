@@ -5,7 +5,7 @@ use mathlib.Core.List.{List, [], _∷_, _++_, map}
 use mathlib.Core.Bool.{Bool, true, false, cond, not, _&&_}
 use lib.ListN.{length, drop}
 use Rattle.laws.specs.Bytes.{bytes, isBlank}
-use Rattle.laws.specs.Lists.{front, after, eqs}
+use Rattle.laws.specs.Lists.{front, after, eqs, oneOf}
 use Rattle.laws.specs.Said.{Said, says, fault, orElse}
 use Rattle.decimal.specs.declared.Cell.{Cell}
 use Rattle.decimal.specs.declared.Cell.the-variants.{Missing}
@@ -29,7 +29,7 @@ use Rattle.records.specs.declared.Location.the-variants.{AtPin}
 use Rattle.records.specs.declared.Polarity.the-variants.{NoPolarity}
 use Rattle.records.specs.declared.Enable.the-variants.{NoEnable}
 use Rattle.records.specs.declared.ModelType.the-variants.{Terminator}
-use Rattle.line_rules.specs.Fields.{isBracketed, oneOf, threeCells, rowOf, wordLine, cellsLine, slopesLine, numberLine, lineSays}
+use Rattle.line_rules.specs.Fields.{isBracketed, threeCells, rowOf, wordLine, cellsLine, slopesLine, numberLine, lineSays}
 use Rattle.line_rules.specs.Tables.{locations, modelTypes, polarities, enables, tableKeywords}
 use Rattle.rules.specs.Component.{pinIn}
 use Rattle.rules.specs.Types.{thresholds}

@@ -6,10 +6,9 @@ use mathlib.Core.Bool.{false, cond}
 use mathlib.Core.Option.{Option, none, some}
 use mathlib.Core.Path.{_≡_}
 use Rattle.laws.specs.Bytes.{bytes}
-use Rattle.laws.specs.Lists.{eqs}
+use Rattle.laws.specs.Lists.{eqs, oneOf}
 use Rattle.words.specs.Words.{words}
 use Rattle.cut_lines.specs.Texts.{Text}
-use Rattle.line_rules.specs.Fields.{oneOf}
 use Rattle.line_rules.specs.Tables.{waveformKeywords}
 use Rattle.rules.specs.Reading.{pinsIn, componentIn, choicesIn, modelIn, TableIs, tablesIn, rowsIn, edgeOf, waveformIn, SectionIs, component, selector, model, FileIs}
 use Rattle.records.specs.Stored.{nameLaid, wordsLaid}

@@ -108,7 +108,7 @@ onKeyword s k w (key.InComponent p) = within k (componentOf s) (λ c. componentP
 onKeyword s k w (key.InModel p) = within k (modelOf s) (λ m. modelPart m k w p)
 onKeyword s k w key.End = andThen (done k s) (λ (t : Stage). On AfterEnd (Ended (eqb (length w) 0)))
 
--- 5, 6, then the keyword
+-- 5, 6 and 21, then the keyword
 abbrev pub keyed : Stage → ℕ → List ℕ → Said Keyword → Went
 keyed s k w (fault n) = stop n k
 keyed s k w (says key) = onKeyword s k (argument w) key

@@ -4,12 +4,11 @@ use mathlib.Core.List.{[], _∷_}
 use mathlib.Core.Bool.{Bool, false, true, cond, not, _||_}
 use lib.ListN.{take}
 use Rattle.laws.specs.Bytes.{bytes}
-use Rattle.laws.specs.Lists.{eqs}
+use Rattle.laws.specs.Lists.{eqs, oneOf}
 use Rattle.decimal.specs.Decimal.{lessThan, offset}
 use Rattle.decimal.specs.declared.Cell.{Cell}
 use Rattle.decimal.specs.declared.Cell.the-variants.{Number, Missing}
 use Rattle.records.specs.declared.ModelType.{ModelType}
-use Rattle.line_rules.specs.Fields.{oneOf}
 use Rattle.line_rules.specs.Tables.{typeName}
 use Rattle.rules.specs.declared.Thresholds.{Thresholds}
 

@@ -225,7 +225,8 @@ fn keyword_line(s: Stage, k: u64, w: &[u8]) -> Went
 {
     match keywords::key_of(w) {
         KeyRead::Known { keyword, argument } => on_keyword(s, k, &w[argument..], keyword),
-        KeyRead::Unknown => rules::stopped(6, k),
+        KeyRead::Gap => rules::stopped(6, k),
+        KeyRead::Slip => rules::stopped(21, k),
         KeyRead::Malformed => rules::stopped(5, k),
     }
 }

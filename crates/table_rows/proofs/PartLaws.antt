@@ -5,12 +5,11 @@ use mathlib.Core.List.{List, [], _∷_, _++_, append-assoc, append-nil, flatMap}
 use mathlib.Core.Bool.{Bool, true, false, cond}
 use mathlib.Core.Option.{none, some}
 use Rattle.laws.specs.Bytes.{bytes, isBlank}
-use Rattle.laws.specs.Lists.{eqs}
+use Rattle.laws.specs.Lists.{eqs, oneOf}
 use Rattle.words.specs.Words.{words, grown, ontoWord}
 use Rattle.keywords.specs.declared.Keyword.{Keyword}
 use Rattle.keywords.proofs.Spelling.{spelling}
 use Rattle.cut_lines.specs.Texts.{Text}
-use Rattle.line_rules.specs.Fields.{oneOf}
 use Rattle.line_rules.specs.Tables.{tableKeywords}
 use Rattle.rules.specs.Reading.{argumentAt, under, TableIs, tablesIn}
 use Rattle.rules.specs.Keys.{keyAt}

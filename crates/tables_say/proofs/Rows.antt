@@ -8,10 +8,9 @@ use mathlib.Core.Option.{Option, none, some}
 use lib.ListN.{length, take, drop}
 use lib.Seq.{take-append-seam, drop-append-seam, drop-drop}
 use Rattle.laws.specs.Bytes.{bytes}
-use Rattle.laws.specs.Lists.{eqs}
+use Rattle.laws.specs.Lists.{eqs, oneOf}
 use Rattle.laws.proofs.Tests.{by-test}
 use Rattle.words.specs.Words.{words}
-use Rattle.line_rules.specs.Fields.{oneOf}
 use Rattle.line_rules.specs.Tables.{waveformKeywords}
 use Rattle.rules.specs.Reading.{TableIs, edgeOf, waveformIn}
 use Rattle.rules.specs.Same.{tableOf, waveformsOf}

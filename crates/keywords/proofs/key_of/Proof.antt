@@ -5,7 +5,7 @@ use borrow.Author.Needs.{needs}
 use borrow.Author.Tests.{not-true, not-false}
 use denote.Ref.{now}
 use Rattle.keywords.specs.Answers.{known}
-use Rattle.keywords.proofs.Laws.{key-open, key-apart, key-known, key-unknown, key-none, closed-within}
+use Rattle.keywords.proofs.Laws.{key-open, key-apart, key-known, key-not-carried, key-none, closed-within}
 use Rattle.keywords.proofs.Spelling.{said-too}
 use Rattle.keywords.proofs.key_of.Statement.{statement}
 use Rattle.keywords.proofs.key_of.Tie as tie
@@ -56,19 +56,23 @@ skip-blanks-requires c κs =
 enum-told : tie.Need-enum-told
 enum-told c = search needs
 
+gap-or-slip-requires : tie.Need-gap-or-slip-requires
+gap-or-slip-requires c κs = tt
+
 returns-4 : tie.Need-returns-4
 returns-4 c =
     let closed = sym (c .before .before .before .before .before .before .before .before .before .closed-at .ensures) ∙ not-false (c .before .before .before .before .before .before .before .before .before .closed-at .result) (c .before .before .before .before .before .before .before .before .if2 .left) in
     said-too _ _ (key-known (now (c .before .before .before .before .before .before .before .before .before .before .before .before .before .args .w)) _ (c .before .before .before .before .before .before .before .before .before .before .find .ensures .0) _ closed (sym (c .before .before .before .before .before .before .in-parts .ensures) ∙ not-false (c .before .before .before .before .before .before .in-parts .result) (c .before .before .before .before .before .if3 .left)) (c .skip-blanks .ensures .0) (c .skip-blanks .ensures .1 .1)
-    ∙ ap (known _) (sym (c .before .before .before .before .keyword-named .ensures) ∙ c .before .before .keyword .given .1))
+    ∙ ap (known _ _) (sym (c .before .before .before .before .keyword-named .ensures) ∙ c .before .before .keyword .given .1))
 
 returns-5 : tie.Need-returns-5
 returns-5 c =
     said-too _ _
-    (key-unknown (now (c .before .before .before .before .before .before .before .before .before .before .before .args .w)) _ (c .before .before .before .before .before .before .before .before .find .ensures .0)
-    (sym (c .before .before .before .before .before .before .before .closed-at .ensures) ∙ not-false (c .before .before .before .before .before .before .before .closed-at .result) (c .before .before .before .before .before .before .if2 .left))
-    (sym (c .before .before .before .before .in-parts .ensures) ∙ not-false (c .before .before .before .before .in-parts .result) (c .before .before .before .if3 .left))
-    (sym (c .before .before .keyword-named .ensures) ∙ c .enum-told .given .1))
+    (key-not-carried (now (c .before .before .before .before .before .before .before .before .before .before .before .before .args .w)) _ (c .before .before .before .before .before .before .before .before .before .find .ensures .0)
+    (sym (c .before .before .before .before .before .before .before .before .closed-at .ensures) ∙ not-false (c .before .before .before .before .before .before .before .before .closed-at .result) (c .before .before .before .before .before .before .before .if2 .left))
+    (sym (c .before .before .before .before .before .in-parts .ensures) ∙ not-false (c .before .before .before .before .before .in-parts .result) (c .before .before .before .before .if3 .left))
+    (sym (c .before .before .before .keyword-named .ensures) ∙ c .before .enum-told .given .1)
+    ∙ sym (c .gap-or-slip .ensures))
 
 pub key-of-spec : {M : Type 1} → statement M
 key-of-spec =
@@ -88,5 +92,6 @@ key-of-spec =
     add-skip-blanks
     skip-blanks-requires
     enum-told
+    gap-or-slip-requires
     returns-4
     returns-5)

@@ -86,16 +86,29 @@ loop-again-2 c =
     let t = subst (NextIs (now (c .before .before .before .before .before .before .before .before .before .before .args .src)) (c .before .before .before .before .before .before .before .before .loop .d)) (c .before .before .before .before .before .line .given .1) (c .before .before .before .before .before .before .before .next-text .ensures) in
     sought-none (c .before .before .before .before .before .before .before .before .loop .inv) t (ap (λ (x : KeyRead). keyIn (keywordSays x)) (sym (c .before .before .key-in .ensures) ∙ c .enum-told2 .given .1))
 
-enum-known-line-2 : tie.Need-enum-known-line-2 Inv-loop μ-loop
-enum-known-line-2 c = search needs
+enum-told-3 : tie.Need-enum-told-3 Inv-loop μ-loop
+enum-told-3 c = search needs
 
 loop-less-3 : tie.Need-loop-less-3 Inv-loop μ-loop
 loop-less-3 c =
-    let t = subst (NextIs (now (c .before .before .before .before .before .before .args .src)) (c .before .before .before .before .loop .d)) (c .before .line2 .given .1) (c .before .before .before .next-text .ensures) in
+    let t = subst (NextIs (now (c .before .before .before .before .before .before .before .before .before .before .args .src)) (c .before .before .before .before .before .before .before .before .loop .d)) (c .before .before .before .before .before .line .given .1) (c .before .before .before .before .before .before .before .next-text .ensures) in
     omega (arith, t .goes .rises, t .goes .placed .within)
 
 loop-again-3 : tie.Need-loop-again-3 Inv-loop μ-loop
 loop-again-3 c =
+    let t = subst (NextIs (now (c .before .before .before .before .before .before .before .before .before .before .args .src)) (c .before .before .before .before .before .before .before .before .loop .d)) (c .before .before .before .before .before .line .given .1) (c .before .before .before .before .before .before .before .next-text .ensures) in
+    sought-none (c .before .before .before .before .before .before .before .before .loop .inv) t (ap (λ (x : KeyRead). keyIn (keywordSays x)) (sym (c .before .before .key-in .ensures) ∙ c .enum-told3 .given .1))
+
+enum-known-line-2 : tie.Need-enum-known-line-2 Inv-loop μ-loop
+enum-known-line-2 c = search needs
+
+loop-less-4 : tie.Need-loop-less-4 Inv-loop μ-loop
+loop-less-4 c =
+    let t = subst (NextIs (now (c .before .before .before .before .before .before .args .src)) (c .before .before .before .before .loop .d)) (c .before .line2 .given .1) (c .before .before .before .next-text .ensures) in
+    omega (arith, t .goes .rises, t .goes .placed .within)
+
+loop-again-4 : tie.Need-loop-again-4 Inv-loop μ-loop
+loop-again-4 c =
     let t = subst (NextIs (now (c .before .before .before .before .before .before .args .src)) (c .before .before .before .before .loop .d)) (c .before .line2 .given .1) (c .before .before .before .next-text .ensures) in
     sought-change (c .before .before .before .before .loop .inv) t
 
@@ -129,8 +142,11 @@ next-key-spec =
     enum-told-2
     loop-less-2
     loop-again-2
-    enum-known-line-2
+    enum-told-3
     loop-less-3
     loop-again-3
+    enum-known-line-2
+    loop-less-4
+    loop-again-4
     enum-known-line-3
     returns-2)

@@ -39,6 +39,12 @@ enum-told-2 c = search needs
 stopped-requires-2 : tie.Need-stopped-requires-2
 stopped-requires-2 c κs = tt
 
+enum-told-3 : tie.Need-enum-told-3
+enum-told-3 c = search needs
+
+stopped-requires-3 : tie.Need-stopped-requires-3
+stopped-requires-3 c κs = tt
+
 returns : tie.Need-returns
 returns c =
     let w = now (c .before .before .before .before .before .before .before .args .w) in
@@ -51,6 +57,9 @@ returns-2 c = rw (sym (c .before .before .before .key-of .ensures .1) ∙ ap key
 
 returns-3 : tie.Need-returns-3
 returns-3 c = rw (sym (c .before .before .before .key-of .ensures .1) ∙ ap keywordSays (c .before .enum-told2 .given .1)) (c .stopped2 .ensures)
+
+returns-4 : tie.Need-returns-4
+returns-4 c = rw (sym (c .before .before .before .key-of .ensures .1) ∙ ap keywordSays (c .before .enum-told3 .given .1)) (c .stopped3 .ensures)
 
 pub keyword-line-spec : {M : Type 1} → statement M
 keyword-line-spec =
@@ -66,6 +75,9 @@ keyword-line-spec =
     stopped-requires
     enum-told-2
     stopped-requires-2
+    enum-told-3
+    stopped-requires-3
     returns
     returns-2
-    returns-3)
+    returns-3
+    returns-4)

@@ -28,6 +28,9 @@ enum-told c = search needs
 enum-told-2 : tie.Need-enum-told-2
 enum-told-2 c = search needs
 
+enum-told-3 : tie.Need-enum-told-3
+enum-told-3 c = search needs
+
 returns-2 : tie.Need-returns-2
 returns-2 c = c .key-edge .ensures ∙ edge-key (now (c .before .before .before .before .before .before .before .before .args .w)) (sym (c .before .before .before .before .before .before .bracketed .ensures) ∙ not-false (c .before .before .before .before .before .before .bracketed .result) (c .before .before .before .before .before .if1 .left)) (sym (c .before .before .before .before .key-of .ensures .0) ∙ c .before .before .keyword .given .1)
 
@@ -36,6 +39,9 @@ returns-3 c = edge-key (now (c .before .before .before .before .before .before .
 
 returns-4 : tie.Need-returns-4
 returns-4 c = edge-key (now (c .before .before .before .before .before .before .args .w)) (sym (c .before .before .before .before .bracketed .ensures) ∙ not-false (c .before .before .before .before .bracketed .result) (c .before .before .before .if1 .left)) (sym (c .before .before .key-of .ensures .0) ∙ c .enum-told2 .given .1)
+
+returns-5 : tie.Need-returns-5
+returns-5 c = edge-key (now (c .before .before .before .before .before .before .args .w)) (sym (c .before .before .before .before .bracketed .ensures) ∙ not-false (c .before .before .before .before .bracketed .result) (c .before .before .before .if1 .left)) (sym (c .before .before .key-of .ensures .0) ∙ c .enum-told3 .given .1)
 
 pub line-edge-spec : {M : Type 1} → statement M
 line-edge-spec =
@@ -48,6 +54,8 @@ line-edge-spec =
     key-edge-requires
     enum-told
     enum-told-2
+    enum-told-3
     returns-2
     returns-3
-    returns-4)
+    returns-4
+    returns-5)

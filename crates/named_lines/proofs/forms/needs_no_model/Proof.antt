@@ -2,7 +2,8 @@
 use mathlib.Core.Path.{sym, _∙_}
 use borrow.Author.Needs.{needs}
 use Rattle.laws.proofs.Tests.{or-none}
-use Rattle.line_rules.specs.Fields.{needsNoModel, oneOf}
+use Rattle.laws.specs.Lists.{oneOf}
+use Rattle.line_rules.specs.Fields.{needsNoModel}
 use Rattle.named_lines.proofs.forms.needs_no_model.Statement.{statement}
 use Rattle.named_lines.proofs.forms.needs_no_model.Tie as tie
 

@@ -1,9 +1,8 @@
 -- Each type by computing its name.
 use mathlib.Core.Path.{sym, ap}
 use borrow.Author.Needs.{needs}
-use Rattle.laws.specs.Lists.{eqs}
+use Rattle.laws.specs.Lists.{eqs, oneOf}
 use Rattle.name_table.specs.Places.{namesOf}
-use Rattle.line_rules.specs.Fields.{oneOf}
 use Rattle.line_rules.specs.Tables.{modelTypes, typeName}
 use Rattle.rules.specs.Types.{isDriven}
 use Rattle.rules.proofs.types.is_driven.Statement.{statement}
