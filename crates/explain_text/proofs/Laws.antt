@@ -6,14 +6,17 @@ use native.Mathlib.Omega.{arith}
 use native.Mathlib.Numerals.{add-one}
 use lib.ListN.{length, take, drop, getD, length-map, drop-of-length-le}
 use lib.Seq.{drop-drop, drop-nil}
+use borrow.Author.Tests.{eq-eqb, ne-eqb}
 use Rattle.lines.specs.Lines.{Physical, linesOf}
 use Rattle.lines.specs.Places.{lineFrom, RawAt}
 use Rattle.lines.specs.declared.Line.{Line}
 use Rattle.lines.proofs.Handed.{hands-none, raw-at}
 use Rattle.laws.specs.Bytes.{bytes}
 use Rattle.laws.specs.Lists.{part}
-use Rattle.laws.proofs.Tests.{by-order}
-use Rattle.explain_text.specs.Refusals.{visibleText, firstText, placeBehind, sourceText}
+use Rattle.laws.proofs.Tests.{by-order, cond-yes, cond-no}
+use Rattle.records.specs.declared.Fault.{Fault}
+use Rattle.explain_text.specs.Refusals.{visibleText, firstText, firstSuggestion, placeBehind, ofLine, meantText}
+use Rattle.suggested_keyword.specs.Suggestion.{suggestion}
 use Rattle.text_buffer.specs.Put.{Put}
 use Rattle.text_buffer.proofs.Laws.{put-next, put-as}
 
@@ -67,9 +70,15 @@ all-passed s n h =
 
 -- ---- the text of a line
 
-pub first-none : (s : List ℕ) (at : ℕ) → length s ≤ at → [] ≡ firstText (linesOf (drop at s))
+no-lines : (s : List ℕ) (at : ℕ) → length s ≤ at → linesOf (drop at s) ≡ []
 unfolding linesOf
-first-none s at h = sym (ap (λ (l : List ℕ). firstText (linesOf l)) (drop-of-length-le s h))
+no-lines s at h = ap linesOf (drop-of-length-le s h)
+
+pub first-none : (s : List ℕ) (at : ℕ) → length s ≤ at → [] ≡ firstText (linesOf (drop at s))
+first-none s at h = sym (ap firstText (no-lines s at h))
+
+pub suggestion-none : (s : List ℕ) (at : ℕ) → length s ≤ at → [] ≡ firstSuggestion (linesOf (drop at s))
+suggestion-none s at h = sym (ap firstSuggestion (no-lines s at h))
 
 -- the line at a place lies within the file
 pub line-within : (s : List ℕ) (at : ℕ) (l : Line) → at < length s → l ≡ lineFrom s at → (at ≤ l .end) × (l .end ≤ length s)
@@ -80,12 +89,19 @@ first-is s at l h e =
     let raw = subst (RawAt s at) (sym e) (raw-at s at h) in
     ap (λ (t : List ℕ). bytes "> " ++ visibleText t ++ bytes "\n") (raw .text) ∙ sym (ap firstText (raw .more))
 
-pub source-none : (s : List ℕ) (n : ℕ) → n ≡ 0 → [] ≡ sourceText s n
-source-none s n e = sym (ap (sourceText s) e)
+pub suggestion-is : (s : List ℕ) (at : ℕ) (l : Line) → at < length s → l ≡ lineFrom s at → suggestion (part at (l .end) s) ≡ firstSuggestion (linesOf (drop at s))
+suggestion-is s at l h e =
+    let raw = subst (RawAt s at) (sym e) (raw-at s at h) in
+    ap suggestion (raw .text) ∙ sym (ap firstSuggestion (raw .more))
 
-pub source-is : (s : List ℕ) (n : ℕ) → 0 < n → firstText (drop (n - 1) (linesOf s)) ≡ sourceText s n
-source-is s zero h = absurd (omega (arith, h))
-source-is s (suc n) h = let e : suc n - 1 ≡ n = omega arith in ap (λ (k : ℕ). firstText (drop k (linesOf s))) e
+-- any text of the line with a number
+module _ (text : List Physical → List ℕ) (s : List ℕ) where
+  pub line-none : (n : ℕ) → n ≡ 0 → [] ≡ ofLine text s n
+  line-none n e = sym (ap (ofLine text s) e)
+
+  pub line-text : (n : ℕ) → 0 < n → text (drop (n - 1) (linesOf s)) ≡ ofLine text s n
+  line-text zero h = absurd (omega (arith, h))
+  line-text (suc n) h = let e : suc n - 1 ≡ n = omega arith in ap (λ (k : ℕ). text (drop k (linesOf s))) e
 
 -- ---- bytes, each under a function
 
@@ -100,3 +116,13 @@ pub put-mapped : (f : ℕ → ℕ) (a b c : List ℕ) (at m r i x : ℕ) (text :
 put-mapped f a b c at m r i x text h e p q =
     let n : length (map f text) ≡ length text = length-map text f in
     put-next a b c at m r i (map f text) (omega (arith, h, n)) p (put-as (ap (λ (y : ℕ). y ∷ []) (e ∙ sym (at-map f text i h))) q)
+
+-- ---- the keyword that may be meant
+
+pub meant-other : (s : List ℕ) (f : Fault) → (f .number ≡ 21 → ⊥) → [] ≡ meantText s f
+unfolding meantText
+meant-other s f h = sym (cond-no _ _ (ne-eqb (f .number) 21 h))
+
+pub meant-slip : (s : List ℕ) (f : Fault) → f .number ≡ 21 → ofLine firstSuggestion s (f .line) ≡ meantText s f
+unfolding meantText
+meant-slip s f h = sym (cond-yes _ _ (eq-eqb (f .number) 21 h))

@@ -1,4 +1,4 @@
--- A refusal as a person reads it: where, which fault and what it means; then the line itself; then what to look at.
+-- A refusal as a person reads it: where, which fault and what it means; then the line itself; then what to look at, and which keyword may be meant.
 use Prim.Native.Nat.{ℕ, zero, suc}
 use Prim.Native.Char.{code}
 use mathlib.Core.List.{List, [], _∷_, _++_, map}
@@ -12,6 +12,7 @@ use Rattle.records.specs.declared.Fault.{Fault}
 use Rattle.text_buffer.specs.Numerals.{numeralOf}
 use Rattle.fault_texts.specs.Sentences.{sentenceOf}
 use Rattle.fault_texts.specs.Hints.{hintOf}
+use Rattle.suggested_keyword.specs.Suggestion.{suggestion}
 
 -- ---- NAME:LINE: fault N: what it means
 
@@ -42,12 +43,21 @@ unfoldable pub placeBehind : List ℕ → ℕ → ℕ
 placeBehind s zero = 0
 placeBehind s (suc n) = lineFrom s (placeBehind s n) .next
 
--- line n of a file, from 1 on; nothing where there is none
-abbrev pub sourceText : List ℕ → ℕ → List ℕ
-sourceText s zero = []
-sourceText s (suc n) = firstText (drop n (linesOf s))
+-- a text of line n of a file, from 1 on; nothing where there is no such line
+abbrev pub ofLine : (List Physical → List ℕ) → List ℕ → ℕ → List ℕ
+ofLine text s zero = []
+ofLine text s (suc n) = text (drop n (linesOf s))
+
+-- ---- a keyword that nobody has: the one that may have been meant
+
+abbrev pub firstSuggestion : List Physical → List ℕ
+firstSuggestion [] = []
+firstSuggestion (l ∷ ls) = suggestion (l .bytes)
+
+unfoldable pub meantText : List ℕ → Fault → List ℕ
+meantText s f = cond (eqb (f .number) 21) (ofLine firstSuggestion s (f .line)) []
 
 -- ---- all of it
 
 unfoldable pub refusalText : List ℕ → List ℕ → Fault → List ℕ
-refusalText name s f = faultText name f ++ sourceText s (f .line) ++ hintOf (f .number) ++ bytes "\n"
+refusalText name s f = faultText name f ++ ofLine firstText s (f .line) ++ hintOf (f .number) ++ meantText s f ++ bytes "\n"

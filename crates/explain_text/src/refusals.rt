@@ -1,11 +1,11 @@
-// A refusal as a person reads it: where, which fault and what it means; then the line itself; then what to look at.
+// A refusal as a person reads it: where, which fault and what it means; then the line itself; then what to look at, and which keyword may be meant.
 ghost use mathlib.Core.Path.{_≡_};
 ghost use mathlib.Core.List.{map};
 ghost use Prim.Native.Nat.{_≤_};
 ghost use lib.ListN.{length, drop};
 ghost use Rattle.lines.specs.Lines.{linesOf};
 ghost use Rattle.text_buffer.specs.Put.{Put};
-ghost use Rattle.explain_text.specs.Refusals.{placeText, faultText, visible, visibleText, firstText, placeBehind, sourceText, refusalText};
+ghost use Rattle.explain_text.specs.Refusals.{placeText, faultText, visible, visibleText, firstText, firstSuggestion, placeBehind, ofLine, meantText, refusalText};
 use lines::LineReader;
 use records::Fault;
 use text_buffer::put_byte;
@@ -112,13 +112,40 @@ fn put_first_line(out: &mut [u8], at: usize, src: &[u8], start: usize) -> usize
 
 // The line with this number; nothing where the file has none.
 fn put_source(out: &mut [u8], at: usize, src: &[u8], line: u64) -> usize
-    ensures { λ r. ⌜ Put (now (out .entry)) (now (out .exit)) at (sourceText (now (src .entry)) line) r ⌝ }
+    ensures { λ r. ⌜ Put (now (out .entry)) (now (out .exit)) at (ofLine firstText (now (src .entry)) line) r ⌝ }
 {
     if line == 0 {
         return put_bytes(out, at, b"");
     }
     let start = skip_lines(src, line - 1);
     put_first_line(out, at, src, start)
+}
+
+// The keyword that may be meant in the line that begins at a place; nothing at the end of the file.
+fn put_first_suggestion(out: &mut [u8], at: usize, src: &[u8], start: usize) -> usize
+    requires { ⌜ start ≤ length (now src) ⌝ }
+    ensures { λ r. ⌜ Put (now (out .entry)) (now (out .exit)) at (firstSuggestion (linesOf (drop start (now (src .entry))))) r ⌝ }
+{
+    if src.len() <= start {
+        return put_bytes(out, at, b"");
+    }
+    let line = lines::line_at(src, start);
+    let end = line.end;
+    suggested_keyword::put_suggestion(out, at, &src[start..end])
+}
+
+// The same for a fault's line, if the fault is that nobody has the keyword.
+fn put_meant(out: &mut [u8], at: usize, src: &[u8], fault: Fault) -> usize
+    ensures { λ r. ⌜ Put (now (out .entry)) (now (out .exit)) at (meantText (now (src .entry)) fault) r ⌝ }
+{
+    if fault.number != 21 {
+        return put_bytes(out, at, b"");
+    }
+    if fault.line == 0 {
+        return put_bytes(out, at, b"");
+    }
+    let start = skip_lines(src, fault.line - 1);
+    put_first_suggestion(out, at, src, start)
 }
 
 // Why a file of this name was refused.
@@ -128,5 +155,6 @@ pub fn put_refusal(out: &mut [u8], at: usize, name: &[u8], src: &[u8], fault: Fa
     let told = put_fault(out, at, name, fault);
     let line = put_source(out, told, src, fault.line);
     let hint = fault_texts::put_hint(out, line, fault.number);
-    put_byte(out, hint, b'\n')
+    let meant = put_meant(out, hint, src, fault);
+    put_byte(out, meant, b'\n')
 }

@@ -13,7 +13,7 @@ hints =
     ∷ bytes "A tab counts as one, and a comment counts too: break the line."
     ∷ bytes "Put a line end behind the last line."
     ∷ bytes "Parts of a keyword are joined by one space or underscore; behind ] comes a blank or nothing."
-    ∷ bytes "Look at the spelling. Keywords outside the rules are not read: comment them out."
+    ∷ bytes "What the keyword gives is not read: comment it out, with the lines that belong to it."
     ∷ bytes "Look at the keyword above: the line has no place in what is open there, or stands before [IBIS Ver] or after [End]."
     ∷ bytes "Look further up in the same section, and leave one of the two."
     ∷ bytes "The line is the keyword of the section or table that lacks something: compare it with a whole one."
@@ -28,6 +28,7 @@ hints =
     ∷ bytes "The program lends a number of rows for all tables: lend more, or thin the tables out."
     ∷ bytes "The file is cut off, or its last keyword is missing."
     ∷ bytes "Look at Vinl and Vinh of this model. Where one is absent, Vinl is 0.8 and Vinh 2.0; in Input_ECL and I/O_ECL, Vinl is -1.475 and Vinh -1.165."
+    ∷ bytes "Look at the spelling: the standard has no such keyword."
     ∷ []
 
 unfoldable pub hintOf : ℕ → List ℕ

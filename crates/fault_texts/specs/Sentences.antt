@@ -13,7 +13,7 @@ sentences =
     ∷ bytes "The line is longer than 120 characters."
     ∷ bytes "The last line is not ended."
     ∷ bytes "The keyword is badly formed."
-    ∷ bytes "The keyword is not carried."
+    ∷ bytes "The standard has this keyword, but it is not carried here."
     ∷ bytes "The line is out of place."
     ∷ bytes "The line gives for the second time what may be given once."
     ∷ bytes "A required part is missing."
@@ -28,6 +28,7 @@ sentences =
     ∷ bytes "The lent rows are too few."
     ∷ bytes "There is no [End]."
     ∷ bytes "Vinl is not below Vinh."
+    ∷ bytes "No keyword has this name."
     ∷ []
 
 unfoldable pub sentenceOf : ℕ → List ℕ

@@ -14,7 +14,7 @@ pub fn put_hint(out: &mut [u8], at: usize, number: u8) -> usize
         A tab counts as one, and a comment counts too: break the line.\n\
         Put a line end behind the last line.\n\
         Parts of a keyword are joined by one space or underscore; behind ] comes a blank or nothing.\n\
-        Look at the spelling. Keywords outside the rules are not read: comment them out.\n\
+        What the keyword gives is not read: comment it out, with the lines that belong to it.\n\
         Look at the keyword above: the line has no place in what is open there, or stands before [IBIS Ver] or after [End].\n\
         Look further up in the same section, and leave one of the two.\n\
         The line is the keyword of the section or table that lacks something: compare it with a whole one.\n\
@@ -29,6 +29,7 @@ pub fn put_hint(out: &mut [u8], at: usize, number: u8) -> usize
         The program lends a number of rows for all tables: lend more, or thin the tables out.\n\
         The file is cut off, or its last keyword is missing.\n\
         Look at Vinl and Vinh of this model. Where one is absent, Vinl is 0.8 and Vinh 2.0; in Input_ECL and I/O_ECL, Vinl is -1.475 and Vinh -1.165.\n\
+        Look at the spelling: the standard has no such keyword.\n\
         ";
     put_text(out, at, hints, number)
 }

@@ -14,7 +14,7 @@ pub fn put_sentence(out: &mut [u8], at: usize, number: u8) -> usize
         The line is longer than 120 characters.\n\
         The last line is not ended.\n\
         The keyword is badly formed.\n\
-        The keyword is not carried.\n\
+        The standard has this keyword, but it is not carried here.\n\
         The line is out of place.\n\
         The line gives for the second time what may be given once.\n\
         A required part is missing.\n\
@@ -29,6 +29,7 @@ pub fn put_sentence(out: &mut [u8], at: usize, number: u8) -> usize
         The lent rows are too few.\n\
         There is no [End].\n\
         Vinl is not below Vinh.\n\
+        No keyword has this name.\n\
         ";
     put_text(out, at, sentences, number)
 }

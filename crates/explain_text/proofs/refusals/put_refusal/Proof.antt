@@ -13,12 +13,16 @@ put-source-requires c κs = tt
 put-hint-requires : tie.Need-put-hint-requires
 put-hint-requires c κs = tt
 
+put-meant-requires : tie.Need-put-meant-requires
+put-meant-requires c κs = tt
+
 put-byte-requires : tie.Need-put-byte-requires
 put-byte-requires c κs = tt
 
 returns : tie.Need-returns
 unfolding refusalText
-returns c = put-then (put-then (put-then (c .before .before .before .before .before .before .before .before .before .before .before .before .before .before .put-fault .ensures) (c .before .before .before .before .before .before .before .before .before .before .put-source .ensures)) (c .before .before .before .before .before .before .put-hint .ensures)) (c .before .before .put-byte .ensures)
+returns c =
+    put-then (put-then (put-then (put-then (c .before .before .before .before .before .before .before .before .before .before .before .before .before .before .before .before .before .before .put-fault .ensures) (c .before .before .before .before .before .before .before .before .before .before .before .before .before .before .put-source .ensures)) (c .before .before .before .before .before .before .before .before .before .before .put-hint .ensures)) (c .before .before .before .before .before .before .put-meant .ensures)) (c .before .before .put-byte .ensures)
 
 same-length : tie.Need-same-length
 same-length c = put-kept (returns c)
@@ -30,6 +34,7 @@ put-refusal-spec =
     put-fault-requires
     put-source-requires
     put-hint-requires
+    put-meant-requires
     put-byte-requires
     same-length
     returns)

@@ -5,7 +5,7 @@ use native.Mathlib.Omega.{arith}
 use denote.Ref.{now}
 use Rattle.explain_text.specs.Refusals.{firstText}
 use Rattle.text_buffer.proofs.Laws.{put-as, put-kept}
-use Rattle.explain_text.proofs.Laws.{source-none, source-is}
+use Rattle.explain_text.proofs.Laws.{line-none, line-text}
 use Rattle.explain_text.proofs.refusals.put_source.Statement.{statement}
 use Rattle.explain_text.proofs.refusals.put_source.Tie as tie
 
@@ -16,7 +16,7 @@ put-bytes-requires : tie.Need-put-bytes-requires
 put-bytes-requires c κs = tt
 
 returns : tie.Need-returns
-returns c = put-as (source-none (now (c .before .before .before .before .before .before .before .before .args .src)) (c .before .before .before .before .before .before .before .before .args .line) (c .before .before .before .before .before .if1 .taken)) (c .before .before .put-bytes .ensures)
+returns c = put-as (line-none firstText (now (c .before .before .before .before .before .before .before .before .args .src)) (c .before .before .before .before .before .before .before .before .args .line) (c .before .before .before .before .before .if1 .taken)) (c .before .before .put-bytes .ensures)
 
 sub-skip-lines : tie.Need-sub-skip-lines
 sub-skip-lines c = search needs
@@ -30,7 +30,7 @@ put-first-line-requires c κs = search needs
 returns-2 : tie.Need-returns-2
 returns-2 c =
     let a = c .before .before .before .before .before .before .before .before .args in
-    put-as (ap firstText (c .before .before .before .before .skip-lines .ensures .0) ∙ source-is (now (a .src)) (a .line) (omega arith)) (c .before .before .put-first-line .ensures)
+    put-as (ap firstText (c .before .before .before .before .skip-lines .ensures .0) ∙ line-text firstText (now (a .src)) (a .line) (omega arith)) (c .before .before .put-first-line .ensures)
 
 same-length : tie.Need-same-length
 same-length c = put-kept (returns c)

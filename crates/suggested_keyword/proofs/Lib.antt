@@ -1,0 +1,2 @@
+-- The laws on a name as keywords are written.
+pub mod Laws

@@ -1,0 +1,2 @@
+-- The keyword that a person may have meant.
+pub mod Suggestion
