@@ -1,4 +1,5 @@
 /* The second reader's work: takes the lines of a file from the top, once, and fills the tables as it goes. */
+#include "hierarchy.h"
 #include "names.h"
 #include "numbers.h"
 
@@ -32,7 +33,6 @@ static const struct name keyword_names[KEYWORDS] = {
     [GND_CLAMP] = NAME("gnd_clamp"), [POWER_CLAMP] = NAME("power_clamp"), [RAMP] = NAME("ramp"),
     [RISING_WAVEFORM] = NAME("rising_waveform"), [FALLING_WAVEFORM] = NAME("falling_waveform"), [END] = NAME("end"),
 };
-enum { LONGEST_KEYWORD = sizeof "temperature_range" - 1 };
 
 /* The one place of each keyword; section keywords and [End] may stand anywhere and close what is open. */
 static const uint8_t keyword_places[KEYWORDS] = {
@@ -612,7 +612,13 @@ static bool take_keyword(struct text *line, uint8_t spelling[LONGEST_KEYWORD + 1
     return is_empty(*line) || is_blank(*line->start);
 }
 
-/* At a keyword line: what it closes, then 5, 6, 7, 8, then its argument. */
+/* 6 is "a keyword of that hierarchy that we don't carry; 21, in the same place in the order, means one outside it". */
+static enum fault tell_unknown(struct text spelling)
+{
+    return find_name(spelling, hierarchy_names, HIERARCHY_NAMES) < HIERARCHY_NAMES ? NOT_CARRIED : OUTSIDE_HIERARCHY;
+}
+
+/* At a keyword line: what it closes, then 5, 6 or 21, 7, 8, then its argument. */
 static enum fault read_keyword_line(struct reader *reader, struct text line)
 {
     uint8_t spelling[LONGEST_KEYWORD + 1];
@@ -622,9 +628,10 @@ static enum fault read_keyword_line(struct reader *reader, struct text line)
         return fault;
     if (!take_keyword(&line, spelling, &length))
         return BADLY_FORMED;
-    enum keyword keyword = find_name((struct text){ spelling, spelling + length }, keyword_names, KEYWORDS);
+    struct text name = { spelling, spelling + length };
+    enum keyword keyword = find_name(name, keyword_names, KEYWORDS);
     if (keyword == KEYWORDS)
-        return NOT_CARRIED;
+        return tell_unknown(name);
     if (reader->place == BEFORE_VERSION) {
         if (keyword != IBIS_VER)
             return OUT_OF_PLACE;

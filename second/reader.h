@@ -42,7 +42,8 @@ enum fault {
     BOUND_PASSED = 17,
     ROWS_TOO_FEW = 18,
     NO_END = 19,
-    THRESHOLDS_CROSSED = 20
+    THRESHOLDS_CROSSED = 20,
+    OUTSIDE_HIERARCHY = 21                      /* stands where 6 stands */
 };
 
 /* How many records of each kind are lent; all but the rows count up to their bound. */
