@@ -1,6 +1,8 @@
-"""Damages to keywords and to the places of lines: badly formed, unknown, out of place, twice, missing."""
+"""Damages to keywords and to the places of lines: badly formed, not carried, misspelled, out of place, twice, missing."""
 
 from making.draft import SECTIONS, NoPlace, damage, keyword_of, pieces, words
+from making.hierarchy import HIERARCHY
+from making.slips import respelled, slipped
 from making.valid import Line
 
 CARRIED = [
@@ -10,12 +12,16 @@ CARRIED = [
     '[Temperature Range] 25 0 85', '[Pulldown]', '[Pullup]', '[GND Clamp]', '[POWER Clamp]', '[Ramp]', '[Rising Waveform]',
     '[Falling Waveform]', '[End]',
 ]
+CARRIED_NAMES = sorted({keyword_of(line)[0][1:-1] for line in CARRIED})
+NOT_CARRIED = [name for name in HIERARCHY if name not in CARRIED_NAMES]
+# Names outside the hierarchy, some of them of keywords that source document 000 has elsewhere.
 UNKNOWN = [
-    'Package Model', 'Pin Mapping', 'Diff Pin', 'Model Spec', 'Pulldown Reference', 'TTgnd', 'Add Submodel', 'Submodel', 'Pins',
-    'IBIS Version', 'IBISVer', 'End Package Model', 'Ending', 'Comment', 'CommentChar', 'Comment Chars', 'Comment-Char', 'Models',
+    'Pins', 'IBIS Version', 'IBISVer', 'Ending', 'Comment', 'CommentChar', 'Comment Chars', 'Comment-Char', 'Models',
     'Model Selectors', 'Selector', 'Ramps', 'Rising', 'Waveform', 'GND', 'POWER', 'Clamp', 'Voltage', 'P', '[Pin', 'P-n', 'x|y',
     'Temperature Ranges', 'File', 'File Names', 'Rev', 'Manufacturers', 'Falling Waveform Falling Waveform Falling Waveform',
-    'GND_Clamp_x', 'Reference', '!', '"', '(Pin)', '=', '1', 'Component Model', 'Notes and more notes', 'Model:',
+    'GND_Clamp_x', 'Reference', '!', '"', '(Pin)', '=', '1', 'Component Model', 'Notes and more notes', 'Model:', 'RI Series',
+    'Component EMI', 'Voltage Reference', 'End Electrical Description', 'File Header Section', 'Vinl', 'End Model', 'Series',
+    'Package Models', 'End Alternate Package Modelss', 'Diff', 'Begin EMI', 'Rising Waveform Nea', '~',
 ]
 LOOSE = [
     'Si_location Pin', 'Timing_location Die', 'R_pkg 1 NA NA', 'L_pkg 1 NA NA', 'C_pkg 1 2 3', '1 A GND', '99 B1 NC 1 2 3', 'in1',
@@ -41,25 +47,44 @@ def misformed(dice, name, rest):
     ])
 
 
-@damage('lines', 16)
+@damage('lines', 19)
 def badly_formed(draft):
     at = draft.keyword_place()
     keyword, rest = keyword_of(draft.lines[at].text)
     draft.lines[at].text = misformed(draft.dice, keyword[1:-1], rest)
 
 
-@damage('lines', 7)
+@damage('lines', 9)
 def badly_formed_besides(draft):
     keyword, rest = keyword_of(draft.dice.pick(CARRIED))
     draft.insert(draft.any_place(), misformed(draft.dice, keyword[1:-1], rest))
 
 
 def misspelled(dice, name):
-    """A name that is nearly this one: a letter more or less, its beginning, or a longer one that begins with it, up to a line's length."""
+    """A name that is nearly this one: with a slip, its beginning, or a longer one that begins with it, up to a line's length."""
     place = dice.below(len(name) + 1)
-    longer = name + 'x' * (dice.pick([24, 25, 32, 33, 90, 118]) - len(name))
-    return dice.pick([dice.pick(UNKNOWN), name[:place] + dice.pick('sx -_1') + name[place:], name[:place - 1] + name[place:],
-                      name[:place] or 'x', longer, name + dice.pick(['s', 's', ' x', '_1', ' ' + name])])
+    longer = name + 'x' * (dice.pick([24, 25, 28, 29, 32, 33, 90, 118]) - len(name))
+    return dice.pick([dice.pick(UNKNOWN), slipped(dice, name), slipped(dice, name), slipped(dice, name), name[:place] or 'x', longer,
+                      name + dice.pick(['s', 's', ' x', '_1', ' ' + name])])
+
+
+def not_carried(dice):
+    """A keyword of the hierarchy that is not carried, as the hierarchy spells it, in another spelling, or misspelled."""
+    name = dice.pick(NOT_CARRIED)
+    name = dice.weighted([(4, name), (4, respelled(dice, name)), (3, misspelled(dice, name))])
+    return f'[{name}]'
+
+
+@damage('lines', 11)
+def keyword_not_carried(draft):
+    at = draft.keyword_place()
+    rest = keyword_of(draft.lines[at].text)[1]
+    draft.lines[at].text = not_carried(draft.dice) + draft.dice.pick(['', rest])
+
+
+@damage('lines', 8)
+def keyword_not_carried_besides(draft):
+    draft.insert(draft.any_place(), not_carried(draft.dice) + draft.dice.pick(['', '', ' x', '\t1 2 3', ' = 1']))
 
 
 @damage('lines', 8)
@@ -183,7 +208,7 @@ def spoil(draft, at):
     other = dice.pick([other.text for other in draft.lines if other.text.startswith('[')])
     line.text = dice.pick([
         misformed(dice, keyword[1:-1], rest), misformed(dice, keyword[1:-1], rest), '[' + misspelled(dice, keyword[1:-1]) + ']' + rest,
-        keyword, keyword + rest + ' x', keyword + ' GND', keyword + ' ' + 'x' * 41, other, dice.pick(CARRIED), ' ' + line.text])
+        not_carried(dice), keyword, keyword + rest + ' x', keyword + ' GND', keyword + ' ' + 'x' * 41, other, dice.pick(CARRIED), ' ' + line.text])
     draft.last = line
 
 
@@ -227,12 +252,13 @@ def end_missing(draft):
 @damage('lines', 5)
 def after_end(draft):
     at = draft.place('end')
-    draft.insert(draft.dice.between(at + 1, len(draft.lines)), draft.dice.pick(LOOSE + CARRIED + ['[x', '[', ']', '[End] x']))
+    draft.insert(draft.dice.between(at + 1, len(draft.lines)), draft.dice.pick(LOOSE + CARRIED + ['[x', '[', ']', '[End] x', '[Row] 1', '[Rows] 1']))
 
 
 @damage('lines', 4)
 def before_version(draft):
-    draft.insert(0, draft.dice.pick(LOOSE + CARRIED + ['[x', '[', '[Unknown]', '[Comment Char]x', '[Comment Char] x']))
+    lines = ['[x', '[', '[Unknown]', '[Diff Pin]', '[diff_pin] x', '[Diff Pni]', '[Comment Char]x', '[Comment Char] x']
+    draft.insert(0, draft.dice.pick(LOOSE + CARRIED + lines))
 
 
 @damage('lines', 3)
