@@ -1,5 +1,5 @@
 #!/usr/bin/env bash
-# Keywords of every length up to a line's, and in any spelling: recognised by both readers exactly where they are carried.
+# The keywords of the hierarchy and names near them, in any spelling and up to a line's length: 5, 6, 21 or none of them, alike by both readers.
 set -u
 cd "$(dirname "$0")/.." || exit 2
 make -s -C second || exit 2
