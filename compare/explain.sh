@@ -71,7 +71,7 @@ damage 2 's/DOOR/D\x01\xffOR/'
 damage 3 "5s/\$/ | $(printf '%0130d' 0)/"
 printf %s "$(<"$example")" >"$folder/4.ibs"
 damage 5 's/Package/Package_/'
-damage 6 's/Package/Packages/'
+damage 6 's/Package/Package Model/'
 damage 7 '$a after the end'
 damage 8 5p
 damage 9 /R_pkg/d
@@ -85,6 +85,7 @@ damage 16 's/DOOR in1/DOOR GND/'
 damage 17 "/2 VSS/a $(printf 'p%s S NC\\n' {1..512})"
 damage 19 /End/d
 damage 20 '/Model_type/a Vinl = 2'
+damage 21 's/Package/Packages/'
 damage selector 's/DOOR in1/DOOR choice/; /\[Model]/i [Model Selector] choice\nin1 the only one'
 damage carriage 's/$/\r/; s/DOOR/GNDX/'
 damage middle 's/DOOR/DO\rOR/'
@@ -102,7 +103,7 @@ compare "$example"
 for file in "$folder"/*.ibs; do
     compare "$file"
 done
-for number in {1..17} 19 20; do
+for number in {1..17} {19..21}; do
     hold "fault $number" met "$([[ $met == *" $number "* ]] && echo met || echo 'not met')"
 done
 echo "explain: $passed passed, $failed failed"
