@@ -20,11 +20,11 @@
  *    3 line over 120                     14 name already used
  *    4 last line not ended               15 model name not found
  *    5 keyword badly formed              16 model or selector not listed
- *    6 keyword not carried               17 a bound passed
+ *    6 keyword not carried here          17 a bound passed
  *    7 out of place                      18 lent rows too few
  *    8 given twice                       19 no [End] (last line plus 1)
  *    9 required part missing             20 Vinl not below Vinh
- *   10 wrong word, name or count of words
+ *   10 wrong word, name or word count    21 keyword that the standard does not have
  */
 
 /* The bounds of a file. A table that is lent longer is used up to its bound; a shorter one has its length as the bound. */

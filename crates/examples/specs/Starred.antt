@@ -89,6 +89,10 @@ starred =
     ∷ file (listing "1 DOOR in1" "2 VSS GND" "Model_type Output") (refusedAt 9 13)
     ∷ file (listing "1 DOOR in1" "2 VSS GNDX" "Model_type Input") (refusedAt 15 12)
     ∷ file (listing "1 DOOR GND" "2 VSS GND" "Model_type Input") (refusedAt 16 13)
+    -- document 02's two keywords, of the hierarchy and not
+    ∷ file "[IBIS Ver] 5.0\n[Diff Pin]\n" (refusedAt 6 2)
+    ∷ file "[IBIS Ver] 5.0\n[Diff Pni]\n" (refusedAt 21 2)
+    -- numbers that are easy to get wrong
     ∷ number "1e-40" (1 e- 40)
     ∷ number "1e-41" (fault 12)
     ∷ number "10e24" (fault 12)

@@ -1,2 +1,2 @@
--- The laws on a name as keywords are written.
+-- The laws on suggestions.
 pub mod Laws

@@ -1,10 +1,8 @@
--- The constant's words, and its parts between blanks, are the table, by computing both.
-use mathlib.Core.Path.{_≡_, sym, ap, _∙_}
+-- The constant's words are the table, by computing both.
+use mathlib.Core.Path.{sym, ap, _∙_}
 use borrow.Author.Needs.{needs}
 use Rattle.laws.specs.Bytes.{isBlank}
-use Rattle.laws.specs.Lists.{other}
-use Rattle.words.specs.Words.{words, word, grown, ontoWord}
-use Rattle.text_buffer.specs.Parts.{parts}
+use Rattle.words.specs.Words.{words, grown, ontoWord}
 use Rattle.text_buffer.proofs.Laws.{put-as, put-kept}
 use Rattle.hierarchy.specs.Hierarchy.{hierarchy}
 use Rattle.keywords.specs.Form.{spelled}
@@ -21,9 +19,6 @@ nearest-requires c κs = search needs
 enum-known-k : tie.Need-enum-known-k
 enum-known-k c = search needs
 
-slice-aggregate-put-question : tie.Need-slice-aggregate-put-question
-slice-aggregate-put-question c = search needs
-
 put-question-requires : tie.Need-put-question-requires
 put-question-requires c κs = tt
 
@@ -37,19 +32,15 @@ put-bytes-requires : tie.Need-put-bytes-requires
 put-bytes-requires c κs = tt
 
 returns : tie.Need-returns
-unfolding words word grown ontoWord isBlank other parts hierarchy spelled
-returns c =
-    put-as (ap asked (sym (c .before .before .before .before .before .before .k .given .1) ∙ c .before .before .before .before .before .before .before .before .nearest .ensures))
-    (c .before .before .put-question .ensures)
+unfolding words grown ontoWord isBlank hierarchy spelled
+returns c = put-as (ap asked (sym (c .before .before .before .before .before .k .given .1) ∙ c .before .before .before .before .before .before .before .nearest .ensures)) (c .before .before .put-question .ensures)
 
 same-length : tie.Need-same-length
 same-length c = put-kept (returns c)
 
 returns-2 : tie.Need-returns-2
 unfolding words grown ontoWord isBlank hierarchy spelled
-returns-2 c =
-    put-as (ap asked (sym (c .before .before .before .before .before .enum-told .given .1) ∙ c .before .before .before .before .before .before .before .nearest .ensures))
-    (c .before .before .put-bytes .ensures)
+returns-2 c = put-as (ap asked (sym (c .before .before .before .before .before .enum-told .given .1) ∙ c .before .before .before .before .before .before .before .nearest .ensures)) (c .before .before .put-bytes .ensures)
 
 same-length-2 : tie.Need-same-length-2
 same-length-2 c = put-kept (returns-2 c)
@@ -61,7 +52,6 @@ put-nearest-spec =
     slice-aggregate-nearest
     nearest-requires
     enum-known-k
-    slice-aggregate-put-question
     put-question-requires
     enum-told
     slice-aggregate-put-bytes
