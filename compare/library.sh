@@ -20,7 +20,7 @@ for i, record in enumerate(maker.records(1, 500)):
     open(f"{sys.argv[1]}/{i}.ibs", "wb").write(record.data)
 END
 files=("$out"/files/*.ibs "$out"/made/*.ibs crates/listing/stdin)
-[ ! -d "$cases" ] || files+=("$cases"/*.ibs)
+[ ! -d "$cases" ] || files+=("$cases"/{,after-02/,after-01/}*.ibs)
 
 # expect PROGRAM WANTED: what an example prints of document 01's file
 expect() {

@@ -179,7 +179,10 @@ pub fn keyword_named(w: &[u8]) -> Named
     }
 }
 
-// What a name is that is not carried.
+// How long the longest name of a carried keyword is.
+const LONGEST: usize = 17;
+
+// What a name is that is not carried. It is asked in two places of `key_of`, so that the compiler leaves the table out of that function's frame.
 fn gap_or_slip(name: &[u8]) -> KeyRead
     ensures { λ r. ⌜ r ≡ cond (oneOf (spelled (now (name .entry))) hierarchy) Gap Slip ⌝ }
 {
@@ -204,6 +207,9 @@ pub fn key_of(w: &[u8]) -> KeyRead
     let name = &w[1..stop];
     if !in_parts(name) {
         return KeyRead::Malformed;
+    }
+    if LONGEST < name.len() {
+        return gap_or_slip(name);
     }
     match keyword_named(name) {
         Named::Is(keyword) => KeyRead::Known {
