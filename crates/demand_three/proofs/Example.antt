@@ -100,7 +100,7 @@ module _ (m : Lengths) (t : List ℕ) (n k : ℕ) (r : Refusal m t n k) where
   spares : Spares (r .stands) n k
   spares = demand3 _ _ (taken .isSection) _ _ (taken .stands) (taken .accepted) m t (r .stands) .refusal n k (r .told)
 
--- ---- two faults that stand elsewhere: a pin names no model, and the type of another model is none
+-- ---- three faults that stand elsewhere: a pin names no model, the type of another model is none, and a keyword there is one that nobody has
 
 abbrev unknown : String
 unknown = head "in1" ++ˢ "2 LAMP lamp\n[Comment Char] #_char\n"
@@ -115,6 +115,13 @@ wrongType = "[Model] off\nModel_type Terminal\nC_comp 3pF NA NA\n[Voltage Range]
 pub at-type : Refusal (lending 64 2) (file before wrongType) 10 22
 unfolding computing charAfterLines beginsAnother textOn charAfterLine
 at-type = refusal before wrongType refl refl refl refl
+
+abbrev misspelled : String
+misspelled = "[Model] off\n[Diff Pni]\n[End]\n"
+
+pub at-slip : Refusal (lending 64 2) (file before misspelled) 21 22
+unfolding computing charAfterLines beginsAnother textOn charAfterLine
+at-slip = refusal before misspelled refl refl refl refl
 
 -- a fault that is none of the five
 abbrev Other : ℕ → Type 0
@@ -139,6 +146,9 @@ pin-elsewhere = elsewhere _ _ _ _ (omega arith) at-pin
 
 pub type-elsewhere : Elsewhere _ _ _ _ at-type
 type-elsewhere = elsewhere _ _ _ _ (omega arith) at-type
+
+pub slip-elsewhere : Elsewhere _ _ _ _ at-slip
+slip-elsewhere = elsewhere _ _ _ _ (omega arith) at-slip
 
 -- ---- the five exceptions happen: each fault is told at a line of the section
 

@@ -1,4 +1,4 @@
-// A name looked up in one of the lists of names. No list lies in memory: its names are numbers in the code, eight bytes to one.
+// A name looked up in one of the lists of names. No list lies on the stack: its names are numbers in the code, eight bytes to one.
 ghost use mathlib.Core.Path.{_≡_};
 ghost use mathlib.Core.List.{map};
 ghost use lib.ListN.{getD};
@@ -34,16 +34,17 @@ pub enum NameList {
 // A name of a list: how many bytes it has, at most 24, and they, eight to a number, the first one lowest.
 struct Listed(usize, u64, u64, u64);
 
-// Number k of a listed name.
+// Number k of a listed name. By tests of order: for a `match` the compiler lays the three numbers on the stack.
 fn eight_of(name: Listed, k: usize) -> u64
     ensures { λ r. ⌜ r ≡ getD (eightsOf name) k 0 ⌝ }
 {
-    match k {
-        0 => name.1,
-        1 => name.2,
-        2 => name.3,
-        _ => 0,
+    if k < 1 {
+        return name.1;
     }
+    if k < 2 {
+        return name.2;
+    }
+    if k < 3 { name.3 } else { 0 }
 }
 
 // Byte i of a listed name.
