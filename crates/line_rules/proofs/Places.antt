@@ -1,20 +1,20 @@
--- A line's place in a table of names is the place of one name alone: two names at one place are the same, by the table, name after name.
-use Prim.Native.Nat.{ℕ, _+_, _≤_}
+-- A line's place in a table of names is the place of one name alone: two names at one place are the name that stands there.
+use Prim.Native.Nat.{ℕ, _+_}
 use Prim.Native.String.{String}
 use mathlib.Core.Path.{_≡_, refl, sym, ap, _∙_}
 use mathlib.Core.List.{List, [], _∷_, _++_}
 use mathlib.Core.Bool.{false, cond}
-use native.Mathlib.Omega.{arith}
 use lib.Dec.{eqb}
 use borrow.Author.Tests.{eq-eqb, ne-eqb}
 use Rattle.laws.specs.Bytes.{bytes}
 use Rattle.laws.specs.Lists.{eqs}
 use Rattle.laws.specs.Said.{Said, says, fault, orElse}
-use Rattle.laws.proofs.Tests.{by-test, cond-yes, cond-no, cond-same, never, impossible}
+use Rattle.laws.proofs.Tests.{by-test, cond-same, never, impossible}
 use Rattle.laws.proofs.Same.{eqs-refl, eqs-eq}
 use Rattle.words.specs.Words.{words}
 use Rattle.name_table.specs.Names.{placeFrom}
 use Rattle.name_table.specs.declared.Found.the-variants.{At, Nothing}
+use Rattle.name_table.proofs.Laws.{stands-at}
 use Rattle.line_rules.specs.Fields.{nameOf, isNamed, lineAt, takes, lineSays}
 
 at-is : (j k : ℕ) → At j ≡ At k → j ≡ k
@@ -23,34 +23,9 @@ at-is j k e = cc
 absent : {X : Type 0} (k : ℕ) → Nothing ≡ At k → X
 absent k e = let z : _≡_ {A = ℕ} 0 1 = cc in impossible z
 
--- places are counted from j on
-place-from : (j : ℕ) (w : List ℕ) (ns : List (List ℕ)) (k : ℕ) → placeFrom j w ns ≡ At k → j ≤ k
-unfolding placeFrom
-place-from j w [] k e = absent k e
-place-from j w (n ∷ ns) k e =
-    by-test (eqs w n)
-    (λ q. let z : j ≡ k = at-is j k (sym (cond-yes _ _ q) ∙ e) in omega arith)
-    (λ q. let z : j + 1 ≤ k = place-from (j + 1) w ns k (sym (cond-no _ _ q) ∙ e) in omega arith)
-
--- a name at the place of another is that one
-place-same : (j : ℕ) (w x : List ℕ) (ns : List (List ℕ)) (k : ℕ) → placeFrom j w ns ≡ At k → placeFrom j x ns ≡ At k → w ≡ x
-unfolding placeFrom
-place-same j w x [] k e f = absent k e
-place-same j w x (n ∷ ns) k e f =
-    by-test (eqs w n)
-    (λ q.
-    let here : j ≡ k = at-is j k (sym (cond-yes _ _ q) ∙ e) in
-    by-test (eqs x n)
-    (λ p. eqs-eq w n q ∙ sym (eqs-eq x n p))
-    (λ p. let z : j + 1 ≤ k = place-from (j + 1) x ns k (sym (cond-no _ _ p) ∙ f) in absurd (omega arith)))
-    (λ q.
-    let there : placeFrom (j + 1) w ns ≡ At k = sym (cond-no _ _ q) ∙ e in
-    by-test (eqs x n)
-    (λ p.
-    let here : j ≡ k = at-is j k (sym (cond-yes _ _ p) ∙ f) in
-    let z : j + 1 ≤ k = place-from (j + 1) w ns k there in
-    absurd (omega arith))
-    (λ p. place-same (j + 1) w x ns k there (sym (cond-no _ _ p) ∙ f)))
+-- a name at the place of another is that one: the name that stands there
+place-same : (w x : List ℕ) (ns : List (List ℕ)) (k : ℕ) → placeFrom 0 w ns ≡ At k → placeFrom 0 x ns ≡ At k → w ≡ x
+place-same w x ns k e f = stands-at w ns k e .1 ∙ sym (stands-at x ns k f .1)
 
 at-same : (k j : ℕ) (w x : List ℕ) (ns : List (List ℕ)) → placeFrom 0 w ns ≡ At k → placeFrom 0 x ns ≡ At j → eqs w x ≡ eqb k j
 at-same k j w x ns e f =
@@ -58,7 +33,7 @@ at-same k j w x ns e f =
     (λ q.
     let same : k ≡ j = at-is k j (sym e ∙ ap (λ (l : List ℕ). placeFrom 0 l ns) (eqs-eq w x q) ∙ f) in
     q ∙ sym (eq-eqb k j same))
-    (λ q. q ∙ sym (ne-eqb k j (λ z. never (eqs w x) (ap (eqs w) (sym (place-same 0 w x ns k e (f ∙ ap At (sym z)))) ∙ eqs-refl w) q)))
+    (λ q. q ∙ sym (ne-eqb k j (λ z. never (eqs w x) (ap (eqs w) (sym (place-same w x ns k e (f ∙ ap At (sym z)))) ∙ eqs-refl w) q)))
 
 -- ---- a line at a place has the name of that place, and no other of the table's
 

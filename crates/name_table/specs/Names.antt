@@ -2,7 +2,7 @@
 use Prim.Native.Nat.{ℕ, _+_}
 use Prim.Native.String.{String}
 use mathlib.Core.List.{List, [], _∷_}
-use mathlib.Core.Bool.{cond}
+use mathlib.Core.Bool.{Bool, cond}
 use mathlib.Core.Option.{Option, none, some}
 use Rattle.laws.specs.Bytes.{bytes}
 use Rattle.laws.specs.Lists.{eqs}
@@ -22,7 +22,11 @@ unfoldable pub meaning : {A : Type 0} → List ℕ → List (Naming A) → Optio
 meaning w [] = none
 meaning w (e ∷ es) = cond (eqs w (e .name)) (some (e .means)) (meaning w es)
 
+-- the place of the first name that passes a test, counted from k on
+abbrev pub firstFrom : (List ℕ → Bool) → ℕ → List (List ℕ) → Found
+firstFrom p k [] = Nothing
+firstFrom p k (n ∷ ns) = cond (p n) (At k) (firstFrom p (k + 1) ns)
+
 -- the place of a name among names, counted from k on
 unfoldable pub placeFrom : ℕ → List ℕ → List (List ℕ) → Found
-placeFrom k w [] = Nothing
-placeFrom k w (n ∷ ns) = cond (eqs w n) (At k) (placeFrom (k + 1) w ns)
+placeFrom k w ns = firstFrom (eqs w) k ns

@@ -1,13 +1,8 @@
 -- The constant's words are the table, by computing both: where `found` is refused, they differ.
-use mathlib.Core.Path.{_≡_, ap, _∙_}
-use mathlib.Core.List.{map}
+use mathlib.Core.Path.{ap, _∙_}
 use borrow.Author.Needs.{needs}
-use denote.Ref.{now}
 use Rattle.laws.specs.Bytes.{isBlank}
-use Rattle.words.specs.Spelled.{byteAs}
 use Rattle.words.specs.Words.{words, grown, ontoWord}
-use Rattle.words.specs.declared.Spelling.the-variants.{AsKeyword}
-use Rattle.name_table.specs.Names.{placeFrom}
 use Rattle.hierarchy.specs.Hierarchy.{hierarchy, isFound}
 use Rattle.hierarchy.proofs.Places.{found-one}
 use Rattle.hierarchy.proofs.place.Statement.{statement}

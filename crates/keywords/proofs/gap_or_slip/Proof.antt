@@ -1,5 +1,5 @@
 -- A place in the table is found exactly if the name is one of its names.
-use mathlib.Core.Path.{_≡_, sym, ap, _∙_}
+use mathlib.Core.Path.{sym, ap, _∙_}
 use borrow.Author.Needs.{needs}
 use Rattle.laws.proofs.Tests.{cond-yes, cond-no}
 use Rattle.hierarchy.specs.Hierarchy.{isFound}

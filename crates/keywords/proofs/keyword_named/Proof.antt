@@ -1,5 +1,5 @@
 -- The place found stands for the meaning (`meaning-found`); what stands at a place is `keyword_at`'s.
-use mathlib.Core.Path.{_≡_, sym, ap, _∙_}
+use mathlib.Core.Path.{sym, ap, _∙_}
 use borrow.Author.Needs.{needs}
 use denote.Ref.{now}
 use Rattle.name_table.specs.Places.{meaningOf}
