@@ -60,7 +60,12 @@ pointed k ds =
     cond (ltb k (length ds)) (take (length ds - k) ds ++ bytes "." ++ drop (length ds - k) ds)
     (bytes "0." ++ replicate (k - length ds) (code "0") ++ ds)
 
-unfoldable pub plainText : Decimal → List ℕ
-plainText d =
-    signText (d .negative)
-    ++ cond (ltb (d .power) offset) (pointed (offset - d .power) (numeralOf (d .digits))) (numeralOf (d .digits) ++ replicate (d .power - offset) (code "0"))
+-- in units of ten to a power, which has the offset added as the decimal's own has: 5e-12 is 5 in unit 28. Zero, which is kept with power 0, is 0 in each
+unfoldable pub unitText : ℕ → Decimal → List ℕ
+unitText unit d =
+    cond (eqb (d .digits) 0) (bytes "0")
+    (signText (d .negative)
+    ++ cond (ltb (d .power) unit) (pointed (unit - d .power) (numeralOf (d .digits))) (numeralOf (d .digits) ++ replicate (d .power - unit) (code "0")))
+
+abbrev pub plainText : Decimal → List ℕ
+plainText d = unitText offset d

@@ -18,6 +18,7 @@ pub use listing::put_next_cell;
 pub use listing::refused_line;
 pub use numbers::put_cell;
 pub use numbers::put_decimal;
+pub use numbers::put_in_unit;
 pub use numbers::put_number;
 pub use numbers::put_plain_decimal;
 pub use tables::part_at;

@@ -1,7 +1,7 @@
 // Numbers as people and programs read them: digits, decimals with a power or with a point, and cells.
 ghost use mathlib.Core.Path.{_≡_};
 ghost use Rattle.text_buffer.specs.Put.{Put};
-ghost use Rattle.text_buffer.specs.Numerals.{digitOf, numeralOf, signText, powerText, decimalText, cellText, pointed, plainText, DigitsAre};
+ghost use Rattle.text_buffer.specs.Numerals.{digitOf, numeralOf, signText, powerText, decimalText, cellText, pointed, unitText, plainText, DigitsAre};
 use crate::bytes::put_byte;
 use crate::bytes::put_bytes;
 use crate::bytes::put_repeated;
@@ -113,14 +113,24 @@ fn put_pointed(out: &mut [u8], at: usize, number: u64, places: usize) -> usize
     put_bytes(out, zeros, &bytes[first..])
 }
 
+// A decimal written out in units of ten to a power that has 40 added: 5e-12 is 5 in unit 28.
+pub fn put_in_unit(out: &mut [u8], at: usize, d: Decimal, unit: u8) -> usize
+    ensures { λ r. ⌜ Put (now (out .entry)) (now (out .exit)) at (unitText unit d) r ⌝ }
+{
+    if d.digits == 0 {
+        return put_byte(out, at, b'0');
+    }
+    let sign = put_sign(out, at, d.negative);
+    if d.power < unit {
+        return put_pointed(out, sign, d.digits, (unit - d.power) as usize);
+    }
+    let whole = put_number(out, sign, d.digits);
+    put_repeated(out, whole, b'0', (d.power - unit) as usize)
+}
+
 // A decimal written out, without a power: 0.8 and not 8e-1.
 pub fn put_plain_decimal(out: &mut [u8], at: usize, d: Decimal) -> usize
     ensures { λ r. ⌜ Put (now (out .entry)) (now (out .exit)) at (plainText d) r ⌝ }
 {
-    let sign = put_sign(out, at, d.negative);
-    if d.power < 40 {
-        return put_pointed(out, sign, d.digits, (40 - d.power) as usize);
-    }
-    let whole = put_number(out, sign, d.digits);
-    put_repeated(out, whole, b'0', (d.power - 40) as usize)
+    put_in_unit(out, at, d, 40)
 }
