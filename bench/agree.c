@@ -34,6 +34,12 @@ static bool cells(struct olhovest_triple a, const struct cell b[CORNERS])
     return cell(a.typ, b[TYP]) && cell(a.min, b[MIN]) && cell(a.max, b[MAX]);
 }
 
+/* "present with a typ number or absent as a whole": of one that is absent, the library too has no cell. */
+static bool group(struct olhovest_range a, const struct cell b[CORNERS])
+{
+    return a.given == b[TYP].given && cells(a.cells, b);
+}
+
 static bool bytes_are(const char *a, uint64_t room, uint64_t count, struct text b)
 {
     return count <= room && count == (uint64_t)(b.end - b.start) && memcmp(a, b.start, count) == 0
@@ -96,10 +102,18 @@ static bool choice(const struct olhovest_choice *a, const struct choice *b)
     return name(&a->model, b->model) && text(&a->description, b->description);
 }
 
+static bool split(const struct olhovest_split *a, const struct model *b)
+{
+    return group(a->pullup, b->capacitances[C_COMP_PULLUP]) && group(a->pulldown, b->capacitances[C_COMP_PULLDOWN])
+           && group(a->power_clamp, b->capacitances[C_COMP_POWER_CLAMP])
+           && group(a->ground_clamp, b->capacitances[C_COMP_GND_CLAMP]);
+}
+
 static bool model(const struct olhovest_model *a, const struct model *b)
 {
     return name(&a->name, b->name) && a->type + 1 == b->type && a->polarity == b->polarity && a->enable == b->enable
-           && cells(a->comp, b->capacitance) && cell(a->vinl, b->levels[VINL]) && cell(a->vinh, b->levels[VINH])
+           && cells(a->comp, b->capacitances[C_COMP]) && split(&a->split, b)
+           && cell(a->vinl, b->levels[VINL]) && cell(a->vinh, b->levels[VINH])
            && cell(a->vmeas, b->levels[VMEAS]) && cell(a->cref, b->levels[CREF]) && cell(a->rref, b->levels[RREF])
            && cell(a->vref, b->levels[VREF]) && cells(a->voltage, b->voltage)
            && a->temperature.given == b->temperature[TYP].given

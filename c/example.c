@@ -18,6 +18,11 @@ static struct olhovest_answer answer;
 
 int main(void)
 {
+    if (olhovest_version() != OLHOVEST_VERSION) {
+        fprintf(stderr, "the library is of version %llu: compile this program with its header\n",
+                (unsigned long long)olhovest_version());
+        return 2;
+    }
     size_t length = fread(bytes, 1, sizeof bytes, stdin);
     uint8_t fault = olhovest_read(bytes, length, components, sizeof components / 8, pins, sizeof pins / 8, selectors,
                                   sizeof selectors / 8, choices, sizeof choices / 8, models, sizeof models / 8,

@@ -13,6 +13,18 @@
 #include <stdint.h>
 
 /*
+ * The version of the records, which moves when one of them does. A function over records that moved is linked under a name
+ * with the version that moved them, so a program that was compiled against another header does not link: compile it anew.
+ * A program that meets its library as it runs compares olhovest_version() with OLHOVEST_VERSION.
+ *
+ *    2  a model has its capacitance by structure
+ */
+#define OLHOVEST_VERSION 2
+#define olhovest_read olhovest_read_2
+#define olhovest_find_model olhovest_find_model_2
+#define olhovest_model_of_pin olhovest_model_of_pin_2
+
+/*
  * Faults, as the functions answer them:
  *    0 accepted                          11 not a number
  *    1 over 65,536 bytes (line 0)        12 number out of range
@@ -26,6 +38,18 @@
  *    9 required part missing             20 Vinl not below Vinh
  *   10 wrong word, name or word count    21 keyword that the standard does not have
  */
+
+/* How many words of eight bytes each record is; the library counts on it. */
+enum {
+    OLHOVEST_COMPONENT_WORDS = 26,
+    OLHOVEST_PIN_WORDS = 21,
+    OLHOVEST_SELECTOR_WORDS = 9,
+    OLHOVEST_CHOICE_WORDS = 22,
+    OLHOVEST_MODEL_WORDS = 70,
+    OLHOVEST_WAVEFORM_WORDS = 12,
+    OLHOVEST_ROW_WORDS = 4,
+    OLHOVEST_ANSWER_WORDS = 40
+};
 
 /* The bounds of a file. A table that is lent longer is used up to its bound; a shorter one has its length as the bound. */
 enum {
@@ -63,7 +87,7 @@ struct olhovest_triple { olhovest_cell typ, min, max; };
 struct olhovest_slope { olhovest_cell dividend, divisor; };
 struct olhovest_slopes { struct olhovest_slope typ, min, max; };
 
-/* If `given` is 0 there is none, and the rest says nothing. */
+/* If `given` is 0 there is none, and the rest says nothing: cells are missing, the span is empty. */
 struct olhovest_range { uint64_t given; struct olhovest_triple cells; };
 struct olhovest_table { uint64_t given; struct olhovest_span rows; };
 struct olhovest_ramp { uint64_t given; struct olhovest_slopes rise, fall; olhovest_cell load; };
@@ -104,12 +128,16 @@ enum olhovest_type {
     OLHOVEST_OUTPUT_ECL, OLHOVEST_IO_ECL, OLHOVEST_3_STATE_ECL, OLHOVEST_TERMINATOR
 };
 
+/* C_comp by structure: C_comp_pullup, C_comp_pulldown, C_comp_power_clamp, C_comp_gnd_clamp. One that is given has a typ. */
+struct olhovest_split { struct olhovest_range pullup, pulldown, power_clamp, ground_clamp; };
+
 /* Polarity: 0 not given, 1 Inverting, 2 Non-Inverting. Enable: 0 not given, 1 Active-High, 2 Active-Low. */
 struct olhovest_model {
     uint64_t section;
     struct olhovest_name name;
     uint64_t type, polarity, enable;
     struct olhovest_triple comp;
+    struct olhovest_split split;
     olhovest_cell vinl, vinh, vmeas, cref, rref, vref;
     struct olhovest_triple voltage;
     struct olhovest_range temperature;
@@ -132,8 +160,22 @@ struct olhovest_answer {
     struct olhovest_text file_name, file_rev;
 };
 
+/* The compiler lays the records out as the library does. */
+#define OLHOVEST_SIZED(record, words) _Static_assert(sizeof(struct record) == 8 * (words), "another layout of " #record)
+OLHOVEST_SIZED(olhovest_component, OLHOVEST_COMPONENT_WORDS);
+OLHOVEST_SIZED(olhovest_pin, OLHOVEST_PIN_WORDS);
+OLHOVEST_SIZED(olhovest_selector, OLHOVEST_SELECTOR_WORDS);
+OLHOVEST_SIZED(olhovest_choice, OLHOVEST_CHOICE_WORDS);
+OLHOVEST_SIZED(olhovest_model, OLHOVEST_MODEL_WORDS);
+OLHOVEST_SIZED(olhovest_waveform, OLHOVEST_WAVEFORM_WORDS);
+OLHOVEST_SIZED(olhovest_row, OLHOVEST_ROW_WORDS);
+OLHOVEST_SIZED(olhovest_answer, OLHOVEST_ANSWER_WORDS);
+
 /* How many words `count` records of a type take. */
 #define OLHOVEST_WORDS(count, type) ((count) * (sizeof(type) / sizeof(uint64_t)))
+
+/* The version of the library's records. */
+uint64_t olhovest_version(void);
 
 /*
  * Whether a file of `length` bytes would be accepted, if tables of so many records (and rows) were lent. Answers the

@@ -35,6 +35,15 @@ static void put_cells(FILE *out, const char *label, const struct cell *cells, un
     putc('\n', out);
 }
 
+/* Three cells, or `-` where there are none. */
+static void put_corners(FILE *out, const char *label, const struct cell corners[CORNERS])
+{
+    if (corners[TYP].given)
+        put_cells(out, label, corners, CORNERS);
+    else
+        fprintf(out, "%s -\n", label);
+}
+
 static void put_rows(FILE *out, const struct file *file, const struct table *table)
 {
     for (uint32_t i = 0; i < table->count; i++)
@@ -136,21 +145,22 @@ static void put_waveforms(FILE *out, const struct file *file, const struct model
 
 static void put_model(FILE *out, const struct file *file, uint32_t number)
 {
-    static const char *const names[LEVELS] = { "VINL", "VINH", "VMEAS", "CREF", "RREF", "VREF" };
+    static const char *const capacitances[CAPACITANCES] = {
+        "C_COMP", "C_COMP_PULLUP", "C_COMP_PULLDOWN", "C_COMP_POWER_CLAMP", "C_COMP_GND_CLAMP",
+    };
+    static const char *const levels[LEVELS] = { "VINL", "VINH", "VMEAS", "CREF", "RREF", "VREF" };
     const struct model *model = &file->models[number];
     fprintf(out, "MODEL %" PRIu32 " ", number);
     put_text(out, model->name);
     fprintf(out, "\nMODEL_TYPE %s\n", second_model_types[model->type].spelling);
     fprintf(out, "POLARITY %s\n", second_polarities[model->polarity].spelling);
     fprintf(out, "ENABLE %s\n", second_enables[model->enable].spelling);
-    put_cells(out, "C_COMP", model->capacitance, CORNERS);
+    for (unsigned i = 0; i < CAPACITANCES; i++)
+        put_corners(out, capacitances[i], model->capacitances[i]);
     for (unsigned i = 0; i < LEVELS; i++)
-        put_cells(out, names[i], &model->levels[i], 1);
+        put_cells(out, levels[i], &model->levels[i], 1);
     put_cells(out, "VOLTAGE_RANGE", model->voltage, CORNERS);
-    if (model->temperature[TYP].given)
-        put_cells(out, "TEMPERATURE_RANGE", model->temperature, CORNERS);
-    else
-        fputs("TEMPERATURE_RANGE -\n", out);
+    put_corners(out, "TEMPERATURE_RANGE", model->temperature);
     put_tables(out, file, model);
     put_ramp(out, &model->ramp);
     put_waveforms(out, file, model);

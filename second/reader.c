@@ -65,10 +65,15 @@ static const struct name fixture_names[FIXTURES] = {
     NAME("R_fixture"), NAME("V_fixture"), NAME("V_fixture_min"), NAME("V_fixture_max"), NAME("C_fixture"),
     NAME("L_fixture"), NAME("R_dut"), NAME("L_dut"), NAME("C_dut"),
 };
-enum { MODEL_TYPE_LINE, POLARITY_LINE, ENABLE_LINE, C_COMP_LINE, LEVEL_LINES };
+enum {
+    MODEL_TYPE_LINE, POLARITY_LINE, ENABLE_LINE, CAPACITANCE_LINES, LEVEL_LINES = CAPACITANCE_LINES + CAPACITANCES
+};
 static const struct name model_names[LEVEL_LINES + LEVELS] = {
-    NAME("Model_type"), NAME("Polarity"), NAME("Enable"), NAME("C_comp"), NAME("Vinl"), NAME("Vinh"), NAME("Vmeas"),
-    NAME("Cref"), NAME("Rref"), NAME("Vref"),
+    NAME("Model_type"), NAME("Polarity"), NAME("Enable"),
+    /* document 02, section 3: four "listed after C_comp" */
+    NAME("C_comp"), NAME("C_comp_pullup"), NAME("C_comp_pulldown"), NAME("C_comp_power_clamp"),
+    NAME("C_comp_gnd_clamp"),
+    NAME("Vinl"), NAME("Vinh"), NAME("Vmeas"), NAME("Cref"), NAME("Rref"), NAME("Vref"),
 };
 
 struct reader {
@@ -203,10 +208,9 @@ static enum fault read_model_line(struct reader *reader, struct text line)
         return read_option(line, second_polarities, 1, POLARITIES, &model->polarity);
     case ENABLE_LINE:
         return read_option(line, second_enables, 1, ENABLES, &model->enable);
-    case C_COMP_LINE:
-        return read_corners(line, model->capacitance);
     default:
-        return read_value(line, &model->levels[which - LEVEL_LINES]);
+        return which < LEVEL_LINES ? read_corners(line, model->capacitances[which - CAPACITANCE_LINES])
+                                   : read_value(line, &model->levels[which - LEVEL_LINES]);
     }
 }
 
@@ -369,7 +373,7 @@ static void fill_thresholds(struct model *model)
 static enum fault close_model(struct model *model)
 {
     bool without_ramp = model->type == INPUT || model->type == INPUT_ECL || model->type == TERMINATOR;
-    if (model->type == TYPE_NOT_GIVEN || !model->capacitance[TYP].given || !model->voltage[TYP].given
+    if (model->type == TYPE_NOT_GIVEN || !model->capacitances[C_COMP][TYP].given || !model->voltage[TYP].given
         || (!model->ramp.given && !without_ramp))
         return PART_MISSING;
     if (!takes_thresholds(model))

@@ -118,6 +118,7 @@ enum model_type {
 };
 enum polarity { POLARITY_NOT_GIVEN, INVERTING, NON_INVERTING, POLARITIES };
 enum enable { ENABLE_NOT_GIVEN, ACTIVE_HIGH, ACTIVE_LOW, ENABLES };
+enum { C_COMP, C_COMP_PULLUP, C_COMP_PULLDOWN, C_COMP_POWER_CLAMP, C_COMP_GND_CLAMP, CAPACITANCES };
 enum { VINL, VINH, VMEAS, CREF, RREF, VREF, LEVELS };
 enum { PULLDOWN_TABLE, PULLUP_TABLE, GND_CLAMP_TABLE, POWER_CLAMP_TABLE, CURRENT_TABLES };
 
@@ -135,7 +136,7 @@ struct ramp {
 struct model {
     struct text name;
     uint8_t type, polarity, enable;
-    struct cell capacitance[CORNERS];           /* C_comp */
+    struct cell capacitances[CAPACITANCES][CORNERS]; /* of one that is absent every cell is missing */
     struct cell levels[LEVELS];                 /* after the defaults */
     struct cell voltage[CORNERS];
     struct cell temperature[CORNERS];           /* typ is missing if there is no [Temperature Range] */

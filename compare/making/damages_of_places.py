@@ -1,6 +1,6 @@
 """Damages to keywords and to the places of lines: badly formed, not carried, misspelled, out of place, twice, missing."""
 
-from making.draft import SECTIONS, NoPlace, damage, keyword_of, pieces, words
+from making.draft import FIRST_LINES, SECTIONS, NoPlace, damage, keyword_of, pieces, words
 from making.hierarchy import HIERARCHY
 from making.slips import respelled, slipped
 from making.valid import Line
@@ -30,7 +30,8 @@ LOOSE = [
     'dV/dt_f 1/1n NA 2/1', 'R_load = 50', '0 0 0 0', '1 2 3 4', '1e24 NA NA NA', '-1e24 1 1 1', 'R_fixture = 50', 'V_fixture = 0',
     'V_fixture_min=1', 'V_fixture_max = 2', 'C_fixture=0', 'L_fixture=0', 'R_dut = 1', 'L_dut=1', 'C_dut=1', 'NA 1 2 3', 'x', 'x y',
     'x y z', 'x y z w', '=', '= 1', 'Vinl', 'Vinl =', ' [End]', '\t[Pin] signal_name model_name', '-', '/', '_', '! text', '5.0',
-    'Vinh_ac = 1', 'Vinl+ = 1', 'R_pkgs 1 NA NA', 'V_fixture_mi = 1', 'V_fixture_minimum=1', 'C_comp_pullup 1 NA NA', 'e 1 2 3',
+    'Vinh_ac = 1', 'Vinl+ = 1', 'R_pkgs 1 NA NA', 'V_fixture_mi = 1', 'V_fixture_minimum=1', 'C_comp_pullup 1 NA NA', 'C_comp_pulldown 0 NA 1',
+    'C_comp_power_clamp NA NA NA', 'C_comp_gnd_clamp=1p NA NA', 'C_comp_power 1 NA NA', 'C_comp pullup 1p NA NA', 'e 1 2 3',
     'signal_name model_name', 'Model_type', 'C_comp', 'vinl = 1', 'VINL = 1', 'R_LOAD = 50', 'a_b 1 2 3', '+x 1 2 3', '.5 1 1 1',
 ]
 
@@ -118,8 +119,19 @@ def line_after_row(draft):
     rows = [place for place, line in enumerate(draft.lines) if line.kind == 'row']
     first = [place for place in rows if draft.lines[place - 1].kind != 'row']
     at = draft.choose(first if draft.dice.chance(60) else rows)
-    named = [line.text for line in draft.lines if line.kind in ('fixture', 'first')] + LOOSE
+    named = [line.text for line in draft.lines if line.kind in ('fixture', *FIRST_LINES)] + LOOSE
     draft.insert(at + draft.dice.below(2), draft.dice.pick(named))
+
+
+@damage('lines', 8)
+def first_line_late(draft):
+    """One of a model's first lines behind a later keyword of the model, also among that one's rows or named lines."""
+    at = draft.place(*FIRST_LINES)
+    line = draft.lines[at]
+    behind = draft.choose(range(draft.list_end(at), draft.section(at).stop))
+    draft.lines.insert(behind + 1, line)
+    del draft.lines[at]
+    draft.last = line
 
 
 @damage('lines', 4)
@@ -160,7 +172,7 @@ def moved(draft):
 def given_twice(draft):
     """A line, or a keyword with its list, again in the same section, where it was or further down, maybe changed."""
     at = draft.place('version', 'file name', 'file rev', 'text keyword', 'location', 'manufacturer', 'package', 'package value',
-                     'pin heading', 'first', 'voltage range', 'temperature range', 'table', 'ramp', 'slope', 'load', 'fixture')
+                     'pin heading', *FIRST_LINES, 'voltage range', 'temperature range', 'table', 'ramp', 'slope', 'load', 'fixture')
     end = draft.list_end(at) if draft.lines[at].text.startswith('[') else at + 1
     part = [line.copy() for line in draft.lines[at:end]]
     if draft.dice.chance(30):
@@ -178,10 +190,10 @@ def line_dropped(draft):
 @damage('lines', 14)
 def required_dropped(draft):
     """What a section or list must have is missing, now and then all of a kind in it."""
-    at = draft.place('file name', 'file rev', 'manufacturer', 'package', 'package value', 'pin heading', 'first', 'voltage range',
+    at = draft.place('file name', 'file rev', 'manufacturer', 'package', 'package value', 'pin heading', *FIRST_LINES, 'voltage range',
                      'ramp', 'slope', 'fixture', 'choice', 'pin', *SECTIONS)
     kind, section = draft.lines[at].kind, draft.section(at)
-    if kind in ('first', 'fixture', 'package value', 'slope') or draft.dice.chance(40):
+    if kind in (*FIRST_LINES, 'fixture', 'package value', 'slope') or draft.dice.chance(40):
         gone = [at]
     elif kind in ('choice', 'pin'):
         gone = [place for place in section if draft.lines[place].kind == kind]

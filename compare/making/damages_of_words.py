@@ -3,13 +3,19 @@
 import re
 
 from making.decimals import not_number, past_limit
-from making.draft import NoPlace, damage, keyword_of, pieces, with_word, words
+from making.draft import FIRST_LINES, NoPlace, damage, keyword_of, pieces, with_word, words
 from making.names import FILE_NAME_CHARACTERS, GRAPHIC, RESERVED
-from making.valid import LONG_HEADING, SHORT_HEADING, TYPES
+from making.slips import slipped
+from making.valid import LONG_HEADING, SHORT_HEADING, SPLIT, TYPES
 
-EQUATIONS = ('first', 'fixture', 'load')
-CELL_LINES = ('package value', 'first', 'slope')
-NUMBER_LINES = ('package value', 'first', 'slope', 'load', 'fixture', 'row', 'pin', 'voltage range', 'temperature range')
+NAMED_LINES = ('location', 'package value', *FIRST_LINES, 'slope', 'load', 'fixture')
+NUMBER_LINES = ('package value', *FIRST_LINES, 'slope', 'load', 'fixture', 'row', 'pin', 'voltage range', 'temperature range')
+# Nearly the names of capacitances by structure. Where one has a blank, the line's name ends there: C_comp, or no name at all.
+NEAR_SPLIT = ['C_comp_Pullup', 'C_comp_Pulldown', 'C_comp_POWER_clamp', 'C_comp_power_Clamp', 'C_comp_GND_Clamp', 'C_comp_', 'C_comp_clamp',
+              'C_comp_pull', 'C_comp_pull_up', 'C_comp_ground_clamp', 'C_comp pullup', 'C_comp pulldown', 'C_comp_power clamp', 'C_comp gnd_clamp']
+# What may follow the name of a capacitance, and what may not.
+CELLS = [' 1p NA NA', '\t5pF\t4pF\t6pF', ' 0 NA -0', ' -1p NA -2p', ' NA NA NA', ' na 1p 2p', '', ' 1p', ' 1p NA', ' 1p 2p 3p 4p', ' 1p NA NA NA',
+         '=1p NA NA', '= 1p NA NA', ' =1p NA NA', ' = 1p NA NA', ' 1p x NA', ' 1e99 x NA', ' x 1e99 NA', ' 1p NA 1e-41', ' NA NA']
 VERSIONS = ['5', '5.', '5.1', '05.0', '5.00', '4.2', '5.0 5.0', '5.0x', '-5.0', '', '5 .0', '5,0', '50e-1']
 
 
@@ -105,11 +111,28 @@ def heading_switched(draft):
 @damage('lines', 5)
 def name_of_line(draft):
     """The name that begins a line is in another case, or a little longer or shorter."""
-    line = draft.lines[draft.place('location', 'package value', 'first', 'slope', 'load', 'fixture')]
+    line = draft.lines[draft.place(*NAMED_LINES)]
     name = re.match(r'[ \t]*([^ \t=]*)', line.text).group(1)
     other = draft.dice.pick([name.lower(), name.upper(), draft.dice.flipped(name), name + '_', name + 'x', name[:-1],
                              name + '_min', name[1:], name.replace('_', ''), name.replace('_', ' ')])
     line.text = line.text.replace(name, other, 1)
+
+
+@damage('lines', 24)
+def capacitance_name(draft):
+    """A capacitance under another one's name, so that one may be there twice or C_comp be missing, or under a name that is nearly one."""
+    dice, line = draft.dice, draft.lines[draft.place('capacitance')]
+    name = dice.pick(['C_comp', *SPLIT])
+    other = dice.pick([name, name, dice.flipped(name), name[:-1], name + dice.pick(['s', '_', '_min']), name.rpartition('_')[0],
+                       slipped(dice, name), dice.pick(NEAR_SPLIT)])
+    line.text = with_word(line.text, 0, other)
+
+
+@damage('lines', 24)
+def capacitance_besides(draft):
+    """One of the capacitances by structure more among a model's first lines: for the second time, with wrong cells, or rightly."""
+    at = draft.place('model', *FIRST_LINES)
+    draft.insert(at + 1, draft.dice.pick(SPLIT) + draft.dice.pick(CELLS), 'capacitance')
 
 
 def rename(line, name):
@@ -171,7 +194,7 @@ def file_name_wrong(draft):
 @damage('lines', 10)
 def equals_sign(draft):
     """Equals signs too many, too few, or where none stand."""
-    at = draft.place(*EQUATIONS, 'package value', 'location', 'slope')
+    at = draft.place(*NAMED_LINES)
     line, dice = draft.lines[at], draft.dice
     if '=' not in line.text:
         name, rest = words(line.text)[0], ' '.join(words(line.text)[1:])

@@ -5,6 +5,8 @@ import re
 from making.valid import Line, Plan
 
 SECTIONS = ('component', 'selector', 'model')
+# The kinds of a model's first lines; C_comp and the capacitances by structure are one of their own.
+FIRST_LINES = ('first', 'capacitance')
 # The tables that a caller lends, and the kind of line of which each holds one record a line.
 KINDS = {'components': 'component', 'pins': 'pin', 'selectors': 'selector', 'choices': 'choice', 'models': 'model',
          'waveforms': 'waveform', 'rows': 'row'}

@@ -14,6 +14,7 @@ DEFAULTS = {'Vinl': (8, -1), 'Vinh': (2, 0)}
 NEAR = [(800000000000001, -15), (199999999999999, -14), (8, -1), (2, 0)]
 ECL_DEFAULTS = {'Vinl': (-1475, -3), 'Vinh': (-1165, -3)}
 ECL_NEAR = [(-147499999999999, -14), (-116500000000001, -14), (-1475, -3), (-1165, -3)]
+SPLIT = ['C_comp_pullup', 'C_comp_pulldown', 'C_comp_power_clamp', 'C_comp_gnd_clamp']
 FREE_NUMBERS = ['Vmeas', 'Cref', 'Rref', 'Vref']
 FIXTURES = ['V_fixture_min', 'V_fixture_max', 'C_fixture', 'L_fixture', 'R_dut', 'L_dut', 'C_dut']
 SHORT_HEADING = ['signal_name', 'model_name']
@@ -146,11 +147,12 @@ def model(pen, plan, name):
     dice = pen.dice
     kind = dice.pick(RAMPLESS if plan.terse else TYPES)
     share = 0 if plan.terse else dice.pick([0, 30, 70])
-    first = [pen.line(['Model_type', kind]), pen.line(['C_comp', *pen.cells()])]
+    first = [pen.line(['Model_type', kind])]
     first += [pen.line(['Polarity', word]) for word in dice.some(['Inverting', 'Non-Inverting'], share)[:1]]
     first += [pen.line(['Enable', word]) for word in dice.some(['Active-High', 'Active-Low'], share)[:1]]
     first += [pen.equation(name, pen.number(100)) for name in dice.some(FREE_NUMBERS, share)]
-    first += thresholds(pen, kind, share)
+    first = [Line('first', line) for line in first + thresholds(pen, kind, share)]
+    first += [Line('capacitance', pen.line([name, *pen.cells()])) for name in ['C_comp', *dice.some(SPLIT, share)]]
     parts = [[Line('voltage range', pen.keyword('Voltage Range', pen.line(pen.cells()).strip()))]]
     if dice.chance(share):
         parts.append([Line('temperature range', pen.keyword('Temperature Range', pen.line(pen.cells()).strip()))])
@@ -158,7 +160,7 @@ def model(pen, plan, name):
     if kind not in RAMPLESS or dice.chance(share // 2):
         parts.append(ramp(pen))
     parts += [waveform(pen, plan) for _ in range(dice.between(*plan.waveforms))]
-    lines = [Line('model', pen.keyword('Model', name))] + [Line('first', line) for line in dice.shuffled(first)]
+    lines = [Line('model', pen.keyword('Model', name))] + dice.shuffled(first)
     return lines + [line for part in dice.shuffled(parts) for line in part]
 
 

@@ -1,8 +1,10 @@
 -- What a line says where it has no fault: no fault is 0, and what is said has what its reading asks. By the definitions, reading by reading.
 use Prim.Native.Nat.{ℕ, _+_, _-_, _^_}
 use Prim.Native.Char.{code}
+use Prim.Native.String.{String}
 use mathlib.Core.Path.{_≡_, refl}
 use mathlib.Core.List.{List, [], _∷_}
+use mathlib.Core.Logic.{inl, inr}
 use mathlib.Core.Bool.{Bool, true, false, cond, _&&_, _||_}
 use mathlib.Core.Option.{Option, none, some}
 use native.Mathlib.Omega.{arith}
@@ -22,9 +24,11 @@ use Rattle.records.specs.declared.Triple.{Triple}
 use Rattle.records.specs.declared.RampCell.{RampCell}
 use Rattle.records.specs.declared.RampCell.the-variants.{Ratio, Absent}
 use Rattle.records.specs.declared.RampTriple.{RampTriple}
-use Rattle.line_rules.specs.Fields.{nameOf, isUpward, exactly, wordIn, typMinMax, cellsBy, threeCells, ratioOf, slopeFrom, slopeOf, slopeOrMissing, upward, threeSlopes, behindName, wordLine, cellsLine, slopesLine, behindEquals, numberLine}
+use Rattle.line_rules.specs.Fields.{nameOf, isUpward, exactly, wordIn, typMinMax, cellsBy, threeCells, ratioOf, slopeFrom, slopeOf, slopeOrMissing, upward, threeSlopes, behindName, wordLine, cellsLine, groupLine, slopesLine, behindEquals, numberLine, lineSays}
+use Rattle.line_rules.proofs.Says.{Says, line-says}
 use Rattle.rules.specs.Model.{isNumber}
-use Rattle.accepted_tables.specs.Facts.{isSlope, Slopes}
+use Rattle.rules.specs.Reading.{noRange}
+use Rattle.accepted_tables.specs.Facts.{isSlope, Slopes, GroupFacts}
 
 -- ---- a value that has Q, or a fault that is one
 
@@ -119,6 +123,21 @@ cells-sure ws =
 pub cells-line-sure : (w : List ℕ) → Sure TypNumber (cellsLine w)
 unfolding cellsLine
 cells-line-sure w = behind-sure TypNumber threeCells w cells-sure
+
+-- ---- C_comp by structure: what a line gives is given, with a number for typ
+
+group-line-says : (w : List ℕ) → Says GroupFacts (groupLine w)
+unfolding groupLine
+group-line-says w = from (cellsLine w) (cells-line-sure w)
+  where
+    from : (x : Said Triple) → Sure TypNumber x → Says GroupFacts (readOn x (λ c. says (record { given = true; cells = c })))
+    from x (value a q) = inr (refl, q)
+    from x (faulty n s) = tt
+
+pub group-facts : (name : String) (ls : List (List ℕ)) → GroupFacts (lineSays name groupLine noRange ls)
+group-facts name ls = line-says GroupFacts name groupLine group-line-says noRange (inl refl) ls
+
+-- ---- words and numbers
 
 pub word-line-sure : {A : Type 0} (table : List (Naming A)) (w : List ℕ) → Sure Any (wordLine table w)
 unfolding wordLine wordIn

@@ -6,9 +6,10 @@ use mathlib.Core.Bool.{Bool, true, false, cond, not, _&&_, _||_}
 use native.Mathlib.Omega.{arith}
 use borrow.Author.Tests.{not-false}
 use Rattle.laws.specs.Bytes.{bytes, isBlank}
-use Rattle.laws.specs.Lists.{eqs, front}
+use Rattle.laws.specs.Lists.{eqs, front, oneOf}
 use Rattle.laws.specs.Said.{faultIn}
 use Rattle.laws.proofs.Tests.{by-test, cond-yes, cond-no, cond-same, and-first, and-second}
+use Rattle.laws.proofs.Same.{eqs-eq}
 use Rattle.decimal.specs.declared.Cell.{Cell}
 use Rattle.decimal.specs.declared.Cell.the-variants.{Missing}
 use Rattle.words.specs.Words.{words, grown, ontoWord}
@@ -21,8 +22,8 @@ use Rattle.records.specs.Stored.{noCells}
 use Rattle.records.specs.declared.Triple.{Triple}
 use Rattle.records.specs.declared.ModelType.{ModelType}
 use Rattle.records.specs.declared.ModelType.the-variants.{Terminator}
-use Rattle.line_rules.specs.Fields.{isBracketed, lineAt, wordLine, cellsLine, numberLine, takes, lineSays}
-use Rattle.line_rules.specs.Tables.{modelLines, modelTypes}
+use Rattle.line_rules.specs.Fields.{isBracketed, nameOf, isNamed, lineAt, wordLine, cellsLine, numberLine, takes, lineSays}
+use Rattle.line_rules.specs.Tables.{modelLines, capacitances, modelTypes}
 use Rattle.line_rules.proofs.Places.{named-at}
 use Rattle.given.specs.Given.{has, with, gave}
 use Rattle.rules.specs.Types.{isInput, isDriven, thresholds, isBelow}
@@ -57,10 +58,20 @@ comp-place : placeFrom 0 (bytes "C_comp") (words (bytes modelLines)) ≡ At 3
 unfolding placeFrom words grown ontoWord isBlank eqs
 comp-place = refl
 
+comp-listed : oneOf (bytes "C_comp") (words (bytes capacitances)) ≡ true
+unfolding oneOf words grown ontoWord isBlank eqs
+comp-listed = refl
+
 module _ (w : List ℕ) where
   pub type-fault : lineAt modelLines w ≡ At 0 → firstFault w ≡ faultIn (wordLine modelTypes w)
   unfolding firstFault
   type-fault e = rw (named-at modelLines "Model_type" w 0 0 e type-place)
+
+  is-comp : lineAt modelLines w ≡ At 3 → oneOf (nameOf w) (words (bytes capacitances)) ≡ true
+  unfolding isNamed
+  is-comp e =
+      ap (λ (x : List ℕ). oneOf x (words (bytes capacitances))) (eqs-eq (nameOf w) (bytes "C_comp") (named-at modelLines "C_comp" w 3 3 e comp-place))
+      ∙ comp-listed
 
   comp-fault : lineAt modelLines w ≡ At 3 → firstFault w ≡ faultIn (cellsLine w)
   unfolding firstFault
@@ -69,7 +80,7 @@ module _ (w : List ℕ) where
         named-at modelLines "Model_type" w 3 0 e type-place,
         named-at modelLines "Polarity" w 3 1 e polarity-place,
         named-at modelLines "Enable" w 3 2 e enable-place,
-        named-at modelLines "C_comp" w 3 3 e comp-place,
+        is-comp e,
       )
 
 -- ---- what closing a model says

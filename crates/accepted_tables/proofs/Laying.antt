@@ -42,6 +42,7 @@ model-more : (store more : List Row) (waveforms waves : List laidWaveform.Wavefo
 model-more store more waveforms waves m f =
     record {
       comp = f .comp;
+      split = f .split;
       voltage = f .voltage;
       temperature = f .temperature;
       thresholds = f .thresholds;

@@ -20,11 +20,12 @@ use Rattle.line_rules.specs.Tables.{waveformKeywords}
 use Rattle.given.specs.Given.{noneGiven, has}
 use Rattle.given.proofs.Laws.{has-none}
 use Rattle.rules.specs.Model.{newModel}
-use Rattle.rules.specs.Reading.{under, numberSaid, noRange, noRamp, modelIn, tablesIn, model}
+use Rattle.rules.specs.Reading.{under, numberSaid, noRange, noRamp, splitSays, modelIn, tablesIn, model}
 use Rattle.rules.specs.declared.Stage.the-variants.{InModel}
 use Rattle.layout.specs.Laid.{behind, rowsOf, tableAt, waveformsLaid}
 use Rattle.accepted_tables.specs.Facts.{Every, ModelFacts, WaveformFacts}
 use Rattle.accepted_tables.proofs.Checks.{Passes, runs-pass}
+use Rattle.accepted_tables.proofs.Faults.{group-facts}
 use Rattle.accepted_tables.proofs.First.{FirstRead, first-read}
 use Rattle.accepted_tables.proofs.Parts.{Parts, parts-read}
 use Rattle.accepted_tables.proofs.Sections.{SectionPasses}
@@ -54,10 +55,17 @@ module _ (l : Lengths) (w : List ℕ) (ts : List Text) (p : SectionPasses l (mod
   pub model-facts : (before : List Row) (n : ℕ) (waveforms : List laidWaveform.Waveform)
       → ModelFacts (before ++ flatMap rowsOf (tablesIn ts)) (waveforms ++ waveformsLaid (tablesIn ts) (length before))
       (modelIn n (tableAt (tablesIn ts) (length before)) (behind waveforms (waveformsLaid (tablesIn ts) (length before))) w ts)
-  unfolding modelIn numberSaid
+  unfolding splitSays modelIn numberSaid
   model-facts before n waveforms =
       record {
         comp = first .comp;
+        split =
+            record {
+              pullup = group-facts "C_comp_pullup" (under ts);
+              pulldown = group-facts "C_comp_pulldown" (under ts);
+              power = group-facts "C_comp_power_clamp" (under ts);
+              ground = group-facts "C_comp_gnd_clamp" (under ts);
+            };
         voltage = parts .voltage noRange (not-given 0);
         temperature = parts .temperature noRange (λ g. cc);
         thresholds = first .below;

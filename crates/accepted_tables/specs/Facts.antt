@@ -13,6 +13,7 @@ use Rattle.decimal.specs.declared.Cell.the-variants.{Missing}
 use Rattle.line_rules.specs.Fields.{isUpward}
 use Rattle.rules.specs.Types.{isInput, isDriven, isBelow}
 use Rattle.rules.specs.Model.{isNumber}
+use Rattle.rules.specs.Reading.{noRange}
 use Rattle.layout.specs.Laid.{Laid, countsOf}
 use Rattle.records.specs.Stored.{nameLaid}
 use Rattle.records.specs.declared.Name.{Name}
@@ -21,6 +22,8 @@ use Rattle.records.specs.declared.Row.{Row}
 use Rattle.records.specs.declared.RampCell.{RampCell}
 use Rattle.records.specs.declared.RampCell.the-variants.{Ratio, Absent}
 use Rattle.records.specs.declared.RampTriple.{RampTriple}
+use Rattle.records.specs.declared.Range.{Range}
+use Rattle.records.specs.declared.Split.{Split}
 use Rattle.records.specs.declared.Span.{Span}
 use Rattle.records.specs.declared.Component.{Component}
 use Rattle.records.specs.declared.Pin.{Pin}
@@ -104,9 +107,20 @@ pub record WaveformFacts (store : List Row) (w : Waveform) : Type 0 where
 
 -- ---- a model
 
+-- "each present with a typ number or absent as a whole"
+abbrev pub GroupFacts : Range → Type 0
+GroupFacts r = (r ≡ noRange) ⊎ ((r .given ≡ true) × (isNumber (r .cells .typ) ≡ true))
+
+pub record SplitFacts (s : Split) : Type 0 where
+  pub pullup : GroupFacts (s .pullup)
+  pub pulldown : GroupFacts (s .pulldown)
+  pub power : GroupFacts (s .power)
+  pub ground : GroupFacts (s .ground)
+
 pub record ModelFacts (store : List Row) (waveforms : List Waveform) (m : Model) : Type 0 where
   -- "Typ cells are never missing"
   pub comp : isNumber (m .comp .typ) ≡ true
+  pub split : SplitFacts (m .split)
   pub voltage : isNumber (m .voltage .typ) ≡ true
   pub temperature : m .temperature .given ≡ true → isNumber (m .temperature .cells .typ) ≡ true
   -- "Types that begin Input or I/O .. need Vinl below Vinh"

@@ -7,7 +7,7 @@ use Rattle.records.specs.Bounds.{most, mostWaveforms}
 use Rattle.records.specs.declared.Kind.the-variants.{OfComponent, OfPin, OfSelector, OfChoice, OfModel}
 use Rattle.records.specs.declared.Edge.the-variants.{Rising}
 use Rattle.records.specs.Stored.{noCells, nameLaid, wordsLaid}
-use Rattle.rules.specs.Reading.{noRange, noRamp}
+use Rattle.rules.specs.Reading.{noRange, noSplit, noRamp}
 use Rattle.records.specs.declared.Location.the-variants.{AtPin}
 use Rattle.records.specs.declared.Polarity.the-variants.{NoPolarity}
 use Rattle.records.specs.declared.Enable.the-variants.{NoEnable}
@@ -50,6 +50,7 @@ blankModel =
       polarity = NoPolarity;
       enable = NoEnable;
       comp = noCells;
+      split = noSplit;
       vinl = Missing;
       vinh = Missing;
       vmeas = Missing;

@@ -15,6 +15,7 @@ use records::RampTriple;
 use records::Range;
 use records::Selector;
 use records::Span;
+use records::Split;
 use records::Table;
 use records::Waveform;
 ghost use mathlib.Core.Path.{_≡_};
@@ -92,6 +93,10 @@ pub fn blank_model() -> Model
     ensures { λ r. ⌜ r ≡ blankModel ⌝ }
 {
     let cells = records::no_cells();
+    let absent = Range {
+        given: false,
+        cells: cells,
+    };
     let table = Table {
         given: false,
         rows: Span { start: 0, count: 0 },
@@ -103,6 +108,12 @@ pub fn blank_model() -> Model
         polarity: Polarity::NoPolarity,
         enable: Enable::NoEnable,
         comp: cells,
+        split: Split {
+            pullup: absent,
+            pulldown: absent,
+            power: absent,
+            ground: absent,
+        },
         vinl: Cell::Missing,
         vinh: Cell::Missing,
         vmeas: Cell::Missing,
@@ -110,10 +121,7 @@ pub fn blank_model() -> Model
         rref: Cell::Missing,
         vref: Cell::Missing,
         voltage: cells,
-        temperature: Range {
-            given: false,
-            cells: cells,
-        },
+        temperature: absent,
         pulldown: table,
         pullup: table,
         ground: table,

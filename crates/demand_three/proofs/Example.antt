@@ -3,7 +3,7 @@
 use Prim.Native.Nat.{ℕ, _+_, _≤_, _<_}
 use Prim.Native.Char.{code}
 use Prim.Native.String.{String, _++_ as _++ˢ_}
-use mathlib.Core.Path.{_≡_, refl}
+use mathlib.Core.Path.{_≡_, refl, sym, _∙_}
 use mathlib.Core.List.{List, _++_}
 use mathlib.Core.Bool.{true}
 use lib.ListN.{length}
@@ -12,6 +12,8 @@ use native.Mathlib.Omega.{arith}
 use Rattle.laws.specs.Bytes.{bytes}
 use Rattle.lines.specs.Lines.{Physical, linesOf}
 use Rattle.rules.specs.Whole.{refused, outcome}
+use Rattle.rules.specs.Reading.{under, noSplit, splitSays}
+use Rattle.rules.proofs.Same.{same-split}
 use Rattle.records.specs.declared.Lengths.{Lengths}
 use Rattle.examples.specs.Computing.{computing}
 use Rattle.demand_three.specs.Lines.{textOn, charAfterLine, charAfterLines, beginsAnother, isModelSection}
@@ -34,7 +36,7 @@ abbrev before : String
 before = head "in1" ++ˢ "[Comment Char] #_char\n"
 
 abbrev shared : String
-shared = "[Model] in1 # the door\nModel_type Input\n[Comment Char] !_char\nC_comp 5pF NA NA ! pad\n[Voltage Range] 3.3 NA NA\n[GND Clamp]\n-1 -50mA NA NA\n0 0 NA NA\n"
+shared = "[Model] in1 # the door\nModel_type Input\n[Comment Char] !_char\nC_comp 5pF NA NA ! pad\nC_comp_pullup 2pF NA NA\n[Voltage Range] 3.3 NA NA\n[GND Clamp]\n-1 -50mA NA NA\n0 0 NA NA\n"
 
 abbrev behind : String
 behind = "[End]\n"
@@ -80,6 +82,10 @@ pub same : SameIn (file before behind) (file beforeToo behindToo) (taken .stands
 same =
     demand3 _ _ (taken .isSection) _ _ (taken .stands) (taken .accepted) _ _ (takenToo .stands) .accepted (takenToo .accepted)
 
+-- its capacitance by structure too
+pub same-parts : splitSays noSplit (under (same .says .texts)) ≡ splitSays noSplit (under (same .saysToo .texts))
+same-parts = same-split _ _ _ _ (same .says .same) ∙ sym (same-split _ _ _ _ (same .saysToo .same))
+
 -- ---- changed files that are refused: tables of lengths m are lent, and fault n is told at line k
 
 pub record Refusal (m : Lengths) (t : List ℕ) (n k : ℕ) : Type 0 where
@@ -112,14 +118,14 @@ at-pin = refusal unknown behind refl refl refl refl
 abbrev wrongType : String
 wrongType = "[Model] off\nModel_type Terminal\nC_comp 3pF NA NA\n[Voltage Range] 5 NA NA\n[End]\n"
 
-pub at-type : Refusal (lending 64 2) (file before wrongType) 10 22
+pub at-type : Refusal (lending 64 2) (file before wrongType) 10 23
 unfolding computing charAfterLines beginsAnother textOn charAfterLine
 at-type = refusal before wrongType refl refl refl refl
 
 abbrev misspelled : String
 misspelled = "[Model] off\n[Diff Pni]\n[End]\n"
 
-pub at-slip : Refusal (lending 64 2) (file before misspelled) 21 22
+pub at-slip : Refusal (lending 64 2) (file before misspelled) 21 23
 unfolding computing charAfterLines beginsAnother textOn charAfterLine
 at-slip = refusal before misspelled refl refl refl refl
 
@@ -183,7 +189,7 @@ pub full : Within (lending 0 2) (file before behind) 17 13
 unfolding computing charAfterLines beginsAnother textOn charAfterLine
 full = record { refused = refusal before behind refl refl refl refl; from = lit< tt; to = lit≤ tt }
 
-pub scant : Within (lending 64 1) (file before behind) 18 20
+pub scant : Within (lending 64 1) (file before behind) 18 21
 unfolding computing charAfterLines beginsAnother textOn charAfterLine
 scant = record { refused = refusal before behind refl refl refl refl; from = lit< tt; to = lit≤ tt }
 
@@ -191,6 +197,6 @@ excepted : (m : Lengths) (t : List ℕ) (n k : ℕ) (w : Within m t n k) → Exc
 excepted m t n k w = spares m t n k (w .refused) (w .from) (w .to)
 
 -- demand 3 says of each that it is one of the five; the first number is the line of the section's keyword
-pub all-excepted : Excepted 14 7 14 × Excepted 17 14 17 × Excepted 13 16 13 × Excepted 13 17 13 × Excepted 13 18 20
+pub all-excepted : Excepted 14 7 14 × Excepted 17 14 17 × Excepted 13 16 13 × Excepted 13 17 13 × Excepted 13 18 21
 unfolding computing misplaced named-twice unlisted full scant
 all-excepted = (excepted _ _ _ _ misplaced, excepted _ _ _ _ named-twice, excepted _ _ _ _ unlisted, excepted _ _ _ _ full, excepted _ _ _ _ scant)

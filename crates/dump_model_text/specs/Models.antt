@@ -16,6 +16,7 @@ use Rattle.records.specs.declared.RampCell.{RampCell}
 use Rattle.records.specs.declared.RampCell.the-variants.{Ratio, Absent}
 use Rattle.records.specs.declared.RampTable.{RampTable}
 use Rattle.records.specs.declared.RampTriple.{RampTriple}
+use Rattle.records.specs.declared.Split.{Split}
 use Rattle.records.specs.declared.Table.{Table}
 use Rattle.records.specs.declared.Waveform.{Waveform}
 use Rattle.line_rules.specs.Tables.{typeName}
@@ -44,6 +45,12 @@ headLines index m =
     sectionLine (bytes "MODEL") index (m .name) ++ typeLine (m .kind) ++ polarityLine (m .polarity) ++ enableLine (m .enable)
     ++ tripleLine (bytes "C_COMP") (m .comp)
 
+-- "`-`: absent"
+unfoldable pub splitLines : Split → List ℕ
+splitLines s =
+    rangeLine (bytes "C_COMP_PULLUP") (s .pullup) ++ rangeLine (bytes "C_COMP_PULLDOWN") (s .pulldown) ++ rangeLine (bytes "C_COMP_POWER_CLAMP") (s .power)
+    ++ rangeLine (bytes "C_COMP_GND_CLAMP") (s .ground)
+
 unfoldable pub levelLines : Model → List ℕ
 levelLines m =
     cellLine (bytes "VINL") (m .vinl) ++ cellLine (bytes "VINH") (m .vinh) ++ cellLine (bytes "VMEAS") (m .vmeas) ++ cellLine (bytes "CREF") (m .cref)
@@ -54,7 +61,7 @@ unfoldable pub rangeLines : Model → List ℕ
 rangeLines m = tripleLine (bytes "VOLTAGE_RANGE") (m .voltage) ++ rangeLine (bytes "TEMPERATURE_RANGE") (m .temperature)
 
 unfoldable pub modelDump : ℕ → Model → List ℕ
-modelDump index m = headLines index m ++ levelLines m ++ rangeLines m
+modelDump index m = headLines index m ++ splitLines (m .split) ++ levelLines m ++ rangeLines m
 
 -- ---- tables: "`TABLE Pulldown -` if absent"
 

@@ -1,6 +1,6 @@
 // The dump's lines of a model: its own, and those of its tables, ramp, waveforms and rows.
 ghost use Rattle.text_buffer.specs.Put.{Put};
-ghost use Rattle.dump_model_text.specs.Models.{typeLine, polarityLine, enableLine, headLines, levelLines, rangeLines, modelDump, tableText, tableLine, slopeText, slopesDump, rampDump, waveformsLine, edgeText, fixtureLines, deviceLines, waveformLines, wordText, rowDump};
+ghost use Rattle.dump_model_text.specs.Models.{typeLine, polarityLine, enableLine, headLines, splitLines, levelLines, rangeLines, modelDump, tableText, tableLine, slopeText, slopesDump, rampDump, waveformsLine, edgeText, fixtureLines, deviceLines, waveformLines, wordText, rowDump};
 use decimal::cell_in;
 use dump_text::labelled::cell_line;
 use dump_text::labelled::count_line;
@@ -15,6 +15,7 @@ use records::Polarity;
 use records::RampCell;
 use records::RampTable;
 use records::RampTriple;
+use records::Split;
 use records::Table;
 use records::Waveform;
 use text_buffer::put_byte;
@@ -65,6 +66,15 @@ fn head_lines(out: &mut [u8], at: usize, index: usize, m: Model) -> usize
     triple_line(out, fourth, b"C_COMP", m.comp)
 }
 
+fn split_lines(out: &mut [u8], at: usize, split: Split) -> usize
+    ensures { λ r. ⌜ Put (now (out .entry)) (now (out .exit)) at (splitLines split) r ⌝ }
+{
+    let first = range_line(out, at, b"C_COMP_PULLUP", split.pullup);
+    let second = range_line(out, first, b"C_COMP_PULLDOWN", split.pulldown);
+    let third = range_line(out, second, b"C_COMP_POWER_CLAMP", split.power);
+    range_line(out, third, b"C_COMP_GND_CLAMP", split.ground)
+}
+
 fn level_lines(out: &mut [u8], at: usize, m: Model) -> usize
     ensures { λ r. ⌜ Put (now (out .entry)) (now (out .exit)) at (levelLines m) r ⌝ }
 {
@@ -94,7 +104,8 @@ pub fn model_lines(out: &mut [u8], at: usize, index: usize, m: Model) -> usize
     ensures { λ r. ⌜ Put (now (out .entry)) (now (out .exit)) at (modelDump index m) r ⌝ }
 {
     let head = head_lines(out, at, index, m);
-    let levels = level_lines(out, head, m);
+    let split = split_lines(out, head, m.split);
+    let levels = level_lines(out, split, m);
     range_lines(out, levels, m)
 }
 

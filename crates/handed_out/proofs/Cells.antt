@@ -1,13 +1,12 @@
 -- Every number, cell, row and slope that a line says is fine: each is read by `numberOf`, whose answers are fine.
 use Prim.Native.Nat.{ℕ}
 use Prim.Native.Char.{code}
-use Prim.Native.String.{String}
 use mathlib.Core.List.{List, [], _∷_}
 use mathlib.Core.Bool.{_&&_}
 use lib.ListN.{length, drop}
 use lib.Dec.{eqb}
 use Rattle.laws.specs.Lists.{among, eqs}
-use Rattle.laws.specs.Said.{Said, says, fault, orElse, readOn}
+use Rattle.laws.specs.Said.{Said, says, fault, readOn}
 use Rattle.laws.proofs.Tests.{cond-all}
 use Rattle.decimal.specs.Decimal.{numberOf, givenCell, cellOf, isMissing}
 use Rattle.decimal.specs.Fine.{Fine, FineNumber, FineCell, FineRead}
@@ -15,26 +14,16 @@ use Rattle.decimal.specs.declared.Decimal.{Decimal}
 use Rattle.decimal.specs.declared.Cell.{Cell}
 use Rattle.decimal.proofs.Fine.{number-fine, cell-fine}
 use Rattle.words.specs.Words.{word, words}
+use Rattle.records.specs.declared.Range.{Range}
 use Rattle.records.specs.declared.RampCell.{RampCell}
 use Rattle.records.specs.declared.RampTriple.{RampTriple}
-use Rattle.line_rules.specs.Fields.{exactly, typMinMax, cellsBy, threeCells, rowOf, ratioOf, slopeFrom, slopeOf, slopeOrMissing, isUpward, upward, threeSlopes, nameOf, isNamed, behindName, cellsLine, slopesLine, behindEquals, numberLine, takes, lineSays}
+use Rattle.line_rules.specs.Fields.{exactly, typMinMax, cellsBy, threeCells, rowOf, ratioOf, slopeFrom, slopeOf, slopeOrMissing, isUpward, upward, threeSlopes, nameOf, behindName, cellsLine, groupLine, slopesLine, behindEquals, numberLine}
+use Rattle.line_rules.proofs.Says.{Says, says-on}
 use Rattle.table_records.specs.Fine.{FineTriple, FineSlope, FineSlopes, FineRow}
 
--- ---- what is said has it
-
-abbrev pub Says : {A : Type 0} → (A → Type 0) → Said A → Type 0
-Says P (says a) = P a
-Says P (fault n) = Unit {0}
+-- ---- what is said of words has it
 
 module _ {A : Type 0} (P : A → Type 0) where
-  says-on : {B : Type 0} (Q : B → Type 0) (r : Said A) (go : A → Said B) → Says P r → ((a : A) → P a → Says Q (go a)) → Says Q (readOn r go)
-  says-on Q (says a) go h k = k a h
-  says-on Q (fault n) go h k = tt
-
-  pub or-says : (a : A) (r : Said A) → P a → Says P r → P (orElse a r)
-  or-says a (says b) h k = k
-  or-says a (fault n) h k = h
-
   exactly-says : (n : ℕ) (read : List (List ℕ) → Said A) (ws : List (List ℕ)) → Says P (read ws) → Says P (exactly n read ws)
   unfolding exactly
   exactly-says n read ws h = cond-all (Says P) (eqb (length ws) n) _ _ (λ e. h) (λ e. tt)
@@ -46,14 +35,7 @@ module _ {A : Type 0} (P : A → Type 0) where
   three-say : {B : Type 0} (Q : B → Type 0) (kept : A → A → A → B) (typ min max : Said A) → ((a b c : A) → P a → P b → P c → Q (kept a b c))
       → Says P typ → Says P min → Says P max → Says Q (typMinMax kept typ min max)
   three-say Q kept typ min max k x y z =
-      says-on Q typ _ x (λ a f. says-on Q min _ y (λ b g. says-on Q max _ z (λ c h. k a b c f g h)))
-
-  -- the line of a name
-  pub line-says : (name : String) (read : List ℕ → Said A) → ((w : List ℕ) → Says P (read w)) → (before : A) → P before → (ls : List (List ℕ)) → P (lineSays name read before ls)
-  unfolding lineSays takes
-  line-says name read f before h [] = h
-  line-says name read f before h (w ∷ ws) =
-      line-says name read f _ (cond-all P (isNamed name w) _ _ (λ e. or-says before (read w) h (f w)) (λ e. h)) ws
+      says-on P Q typ _ x (λ a f. says-on P Q min _ y (λ b g. says-on P Q max _ z (λ c h. k a b c f g h)))
 
 -- ---- cells
 
@@ -139,6 +121,13 @@ slopes-say ws =
 pub cells-line : (w : List ℕ) → Says FineTriple (cellsLine w)
 unfolding cellsLine
 cells-line = behind-says FineTriple threeCells three-cells-say
+
+abbrev pub FineRange : Range → Type 0
+FineRange r = FineTriple (r .cells)
+
+pub group-line : (w : List ℕ) → Says FineRange (groupLine w)
+unfolding groupLine
+group-line w = says-on FineTriple FineRange (cellsLine w) _ (cells-line w) (λ a f. f)
 
 pub slopes-line : (w : List ℕ) → Says FineSlopes (slopesLine w)
 unfolding slopesLine

@@ -16,7 +16,8 @@ use Rattle.table_records.specs.Fine.{FineComponent, FinePin, FineSelector, Fine
 use Rattle.handed_out.specs.FineTables.{Each, FineTables, ReadFine}
 use Rattle.handed_out.proofs.Parts.{each-both, each-if}
 use Rattle.handed_out.proofs.Texts.{SectionHas, each-text, each-section}
-use Rattle.handed_out.proofs.Cells.{Says, row-says}
+use Rattle.line_rules.proofs.Says.{Says}
+use Rattle.handed_out.proofs.Cells.{row-says}
 use Rattle.handed_out.proofs.Records.{IsByte, each-byte, name-fine, component-fine, pins-fine, choices-fine, model-fine, waveform-fine}
 
 -- ---- the tables of a model

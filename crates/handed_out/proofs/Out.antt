@@ -44,7 +44,7 @@ laid-out a t h f =
       pins = handed _ pinWords pinFrom (λ x. x) 21 (omega arith) (λ x. refl) pin-back (a .pins) (t .pins) (f .pins);
       selectors = handed _ selectorWords selectorFrom (λ x. x) 9 (omega arith) (λ x. refl) selector-back (a .selectors) (t .selectors) (f .selectors);
       choices = handed _ choiceWords choiceFrom (λ x. x) 22 (omega arith) (λ x. refl) choice-back (a .choices) (t .choices) (f .choices);
-      models = handed _ modelWords modelFrom (λ x. x) 54 (omega arith) (λ x. refl) model-back (a .models) (t .models) (f .models);
+      models = handed _ modelWords modelFrom (λ x. x) 70 (omega arith) (λ x. refl) model-back (a .models) (t .models) (f .models);
       waveforms = handed _ waveformWords waveformFrom (λ x. x) 12 (omega arith) (λ x. refl) waveform-back (a .waveforms) (t .waveforms) (f .waveforms);
       rows = rw (stored-flat (a .rows)) (handed _ rowWords rowFrom _ 4 (omega arith) (λ x. refl) row-back (a .rows) (t .rows) (f .rows));
     }

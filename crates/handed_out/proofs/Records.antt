@@ -18,20 +18,20 @@ use Rattle.cut_lines.specs.Texts.{Text}
 use Rattle.records.specs.Stored.{padded, nameLaid, wordsLaid, noCells, noSlopes}
 use Rattle.records.specs.declared.Span.{Span}
 use Rattle.records.specs.declared.Table.{Table}
-use Rattle.records.specs.declared.Range.{Range}
 use Rattle.records.specs.declared.RampTable.{RampTable}
 use Rattle.records.specs.declared.Edge.{Edge}
 use Rattle.records.specs.declared.ModelType.{ModelType}
-use Rattle.line_rules.specs.Fields.{needsNoModel, threeCells, cellsLine, slopesLine, numberLine, lineSays}
+use Rattle.line_rules.specs.Fields.{needsNoModel, threeCells, cellsLine, groupLine, slopesLine, numberLine, lineSays}
 use Rattle.rules.specs.Component.{keptModel, pinCells, pinIn}
 use Rattle.rules.specs.Types.{isInput, isEcl, eclThresholds, inputThresholds, noThresholds, defaults, filled}
 use Rattle.rules.specs.declared.Thresholds.{Thresholds}
-use Rattle.rules.specs.Reading.{under, linesUnder, keySays, pinsIn, componentIn, choiceIn, choicesIn, numberSaid, rangeIn, noRange, rampIn, noRamp, modelIn, waveformIn}
+use Rattle.line_rules.proofs.Says.{Says, or-says, line-says}
+use Rattle.rules.specs.Reading.{under, linesUnder, keySays, pinsIn, componentIn, choiceIn, choicesIn, numberSaid, rangeIn, noRange, rampIn, noRamp, splitSays, modelIn, waveformIn}
 use Rattle.table_records.specs.Fine.{AreBytes, FineName, FineWords, FineTriple, FineSlopes, FineComponent, FinePin, FineChoice, FineModel, FineWaveform}
 use Rattle.handed_out.specs.FineTables.{Each}
 use Rattle.handed_out.proofs.Parts.{each-take, each-drop, each-after, each-both, each-same, each-map}
 use Rattle.handed_out.proofs.Texts.{TextHas, each-word, each-under, each-lines-under, key-says}
-use Rattle.handed_out.proofs.Cells.{Says, or-says, line-says, cells-say, three-cells-say, cells-line, slopes-line, number-line}
+use Rattle.handed_out.proofs.Cells.{FineRange, cells-say, three-cells-say, cells-line, group-line, slopes-line, number-line}
 
 -- ---- texts
 
@@ -77,6 +77,10 @@ no-slopes = record { typ = tt; min = tt; max = tt }
 
 cells-said : (name : String) (ls : List (List ℕ)) → FineTriple (lineSays name cellsLine noCells ls)
 cells-said name ls = line-says FineTriple name cellsLine cells-line noCells no-cells ls
+
+-- of one that is absent, all cells are missing
+group-said : (name : String) (ls : List (List ℕ)) → FineTriple (lineSays name groupLine noRange ls .cells)
+group-said name ls = line-says FineRange name groupLine group-line noRange no-cells ls
 
 slopes-said : (name : String) (ls : List (List ℕ)) → FineSlopes (lineSays name slopesLine noSlopes ls)
 slopes-said name ls = line-says FineSlopes name slopesLine slopes-line noSlopes no-slopes ls
@@ -166,7 +170,7 @@ FineRamp r = FineSlopes (r .rise) × FineSlopes (r .fall) × FineCell (r .load)
 module _ (ts : List Text) (h : Each (TextHas IsByte) ts) where
   range-fine : (name : String) → FineTriple (keySays name rangeIn noRange ts .cells)
   range-fine name =
-      key-says IsByte (λ (r : Range). FineTriple (r .cells)) name rangeIn noRange ts
+      key-says IsByte FineRange name rangeIn noRange ts
       (λ w ls k. or-says FineTriple noCells (threeCells (words w)) no-cells (three-cells-say (words w))) no-cells h
 
   ramp-fine : FineRamp (keySays "ramp" rampIn noRamp ts)
@@ -174,11 +178,12 @@ module _ (ts : List Text) (h : Each (TextHas IsByte) ts) where
       key-says IsByte FineRamp "ramp" rampIn noRamp ts (λ w ls k. (slopes-said "dV/dt_r" ls, slopes-said "dV/dt_f" ls, number-said "R_load" ls)) (no-slopes, no-slopes, tt) h
 
   pub model-fine : (n : ℕ) (table : String → Table) (waveforms : Span) (name : List ℕ) → Each IsByte name → FineModel (modelIn n table waveforms name ts)
-  unfolding modelIn
+  unfolding splitSays modelIn
   model-fine n table waveforms name k =
       record {
         name = name-fine name k;
         comp = cells-said "C_comp" _;
+        split = record { pullup = group-said "C_comp_pullup" _; pulldown = group-said "C_comp_pulldown" _; power = group-said "C_comp_power_clamp" _; ground = group-said "C_comp_gnd_clamp" _ };
         vinl = filled-fine _ (numberSaid "Vinl" (under ts)) (defaults-fine _ .0) (number-said "Vinl" _);
         vinh = filled-fine _ (numberSaid "Vinh" (under ts)) (defaults-fine _ .1) (number-said "Vinh" _);
         vmeas = number-said "Vmeas" _;

@@ -2,10 +2,14 @@
 use Prim.Native.Nat.{ℕ}
 use mathlib.Core.List.{List}
 use mathlib.Core.Bool.{cond}
-use lib.Dec.{eqb}
+use lib.Dec.{eqb, ltb}
 use Rattle.laws.specs.Said.{faultIn}
 use Rattle.line_rules.specs.Fields.{wordLine, cellsLine, slopesLine, numberLine}
 use Rattle.line_rules.specs.Tables.{modelTypes, polarities, enables}
+
+-- those of a model's first lines that take no word: C_comp and its four parts three cells, the others a number
+unfoldable pub valueAt : ℕ → List ℕ → ℕ
+valueAt n w = cond (ltb n 8) (faultIn (cellsLine w)) (faultIn (numberLine w))
 
 -- a model's first lines
 unfoldable pub firstAt : ℕ → List ℕ → ℕ
@@ -13,8 +17,7 @@ firstAt n w =
     cond (eqb n 0) (faultIn (wordLine modelTypes w))
     (cond (eqb n 1) (faultIn (wordLine polarities w))
     (cond (eqb n 2) (faultIn (wordLine enables w))
-    (cond (eqb n 3) (faultIn (cellsLine w))
-    (faultIn (numberLine w)))))
+    (valueAt n w)))
 
 -- a ramp's lines
 unfoldable pub rampAt : ℕ → List ℕ → ℕ

@@ -6,7 +6,7 @@ ghost use Rattle.line_rules.specs.Answers.{tripleRead, rampRead};
 ghost use Rattle.line_rules.specs.Tables.{locations, modelTypes, polarities, enables};
 ghost use Rattle.rules.specs.Component.{componentFault};
 ghost use Rattle.line_faults.specs.Arguments.{aloneFault};
-ghost use Rattle.line_faults.specs.Places.{firstAt, rampAt};
+ghost use Rattle.line_faults.specs.Places.{firstAt, valueAt, rampAt};
 ghost use Rattle.rules.specs.Model.{modelFault};
 use keywords::ComponentPart;
 use keywords::ModelPart;
@@ -83,6 +83,16 @@ fn enable_fault(w: &[u8]) -> u8
 
 // ---- a model's lines
 
+// C_comp and its four parts have three cells, the lines behind them `=` and a number.
+fn value_fault(n: usize, w: &[u8]) -> u8
+    ensures { λ r. ⌜ r ≡ valueAt n (now (w .entry)) ⌝ }
+{
+    if n < 8 {
+        return line_cells::triple_fault(cells_line(w));
+    }
+    line_cells::cell_fault(named_lines::number_line(w))
+}
+
 // The line at place n of a model's first lines.
 pub fn first_fault(n: usize, w: &[u8]) -> u8
     ensures { λ r. ⌜ r ≡ firstAt n (now (w .entry)) ⌝ }
@@ -91,8 +101,7 @@ pub fn first_fault(n: usize, w: &[u8]) -> u8
         0 => type_fault(w),
         1 => polarity_fault(w),
         2 => enable_fault(w),
-        3 => line_cells::triple_fault(cells_line(w)),
-        _ => line_cells::cell_fault(named_lines::number_line(w)),
+        _ => value_fault(n, w),
     }
 }
 

@@ -2,3 +2,4 @@
 pub mod Sanity
 pub mod Answers
 pub mod Places
+pub mod Says

@@ -8,7 +8,7 @@ use Rattle.name_table.specs.declared.Found.the-variants.{At, Nothing}
 use Rattle.line_rules.specs.Fields.{nameOf, lineAt}
 use Rattle.line_rules.specs.Tables.{modelLines}
 
-pub threshold : lineAt modelLines (bytes "Vinh = 2.0") ≡ At 5
+pub threshold : lineAt modelLines (bytes "Vinh = 2.0") ≡ At 9
 unfolding lineAt nameOf word words grown ontoWord isBlank front other eqs placeFrom
 threshold = refl
 

@@ -16,6 +16,7 @@ use Rattle.words.specs.Words.{word, words}
 use Rattle.name_table.specs.Names.{Naming, meaning, placeFrom}
 use Rattle.name_table.specs.declared.Found.{Found}
 use Rattle.records.specs.declared.Triple.{Triple}
+use Rattle.records.specs.declared.Range.{Range}
 use Rattle.records.specs.declared.Row.{Row}
 use Rattle.records.specs.declared.RampCell.{RampCell}
 use Rattle.records.specs.declared.RampCell.the-variants.{Ratio, Absent}
@@ -141,6 +142,10 @@ wordLine table w = behindName (exactly 1 (wordIn table)) w
 
 unfoldable pub cellsLine : List ℕ → Said Triple
 cellsLine w = behindName threeCells w
+
+-- the same, where it may be absent as a whole
+unfoldable pub groupLine : List ℕ → Said Range
+groupLine w = readOn (cellsLine w) (λ c. says (record { given = true; cells = c }))
 
 unfoldable pub slopesLine : List ℕ → Said RampTriple
 slopesLine w = behindName threeSlopes w

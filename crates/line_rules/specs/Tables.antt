@@ -24,7 +24,11 @@ abbrev pub packageLines : String
 packageLines = "R_pkg L_pkg C_pkg"
 
 abbrev pub modelLines : String
-modelLines = "Model_type Polarity Enable C_comp Vinl Vinh Vmeas Cref Rref Vref"
+modelLines = "Model_type Polarity Enable C_comp C_comp_pullup C_comp_pulldown C_comp_power_clamp C_comp_gnd_clamp Vinl Vinh Vmeas Cref Rref Vref"
+
+-- those that take three cells: the die capacitance, and what of it each structure has
+abbrev pub capacitances : String
+capacitances = "C_comp C_comp_pullup C_comp_pulldown C_comp_power_clamp C_comp_gnd_clamp"
 
 abbrev pub rampLines : String
 rampLines = "dV/dt_r dV/dt_f R_load"

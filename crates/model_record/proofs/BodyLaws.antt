@@ -17,7 +17,7 @@ use Rattle.keywords.specs.declared.ModelPart.the-variants.{VoltageRange, Temper
 use Rattle.keywords.proofs.Spelling.{spelling}
 use Rattle.cut_lines.specs.Texts.{Text}
 use Rattle.line_rules.specs.Tables.{waveformKeywords}
-use Rattle.rules.specs.Reading.{argumentAt, under, keySays, numberSaid, rangeIn, noRange, rampIn, TableIs, tablesIn, modelIn, isWithin}
+use Rattle.rules.specs.Reading.{argumentAt, under, keySays, numberSaid, rangeIn, noRange, rampIn, TableIs, tablesIn, splitSays, modelIn, isWithin}
 use Rattle.rules.specs.Keys.{keyAt}
 use Rattle.rules.proofs.Keys.{each-keyword, says-skip, says-key, says-map}
 use Rattle.rules.proofs.Tables.{tables-skip}
@@ -164,7 +164,7 @@ module _ (row start n : ℕ) (name : List ℕ) (ts : List Text) where
 
   pub model-is : modelOver n start (nameLaid name) (defaulted (firstsOn bareLines (under ts))) (bodyOn (bareBody row) inside)
       ≡ modelIn n (tableAt (tablesIn inside) row) (record { start = start; count = length (waveformsLaid (tablesIn inside) row) }) name inside
-  unfolding bodyOn firstsOn modelIn numberSaid
+  unfolding bodyOn firstsOn splitSays modelIn numberSaid
   model-is =
       rw (
         sym (under-within ts),

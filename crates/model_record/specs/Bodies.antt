@@ -123,6 +123,7 @@ modelOver n start name f b =
       polarity = f .polarity;
       enable = f .enable;
       comp = f .comp;
+      split = f .split;
       vinl = f .vinl;
       vinh = f .vinh;
       vmeas = f .vmeas;

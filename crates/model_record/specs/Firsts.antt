@@ -2,17 +2,22 @@
 use Prim.Native.Nat.{ℕ}
 use mathlib.Core.Path.{_≡_}
 use mathlib.Core.List.{List}
+use mathlib.Core.Bool.{cond}
+use lib.Dec.{eqb}
+use Rattle.laws.specs.Said.{orElse}
 use Rattle.decimal.specs.declared.Cell.the-variants.{Missing}
 use Rattle.cut_lines.specs.Cursors.{rest}
 use Rattle.cut_lines.specs.declared.Cursor.{Cursor}
-use Rattle.line_rules.specs.Fields.{wordLine, cellsLine, numberLine, takes, lineSays}
+use Rattle.line_rules.specs.Fields.{wordLine, cellsLine, groupLine, numberLine, takes, lineSays}
 use Rattle.line_rules.specs.Tables.{modelTypes, polarities, enables}
 use Rattle.rules.specs.Types.{thresholds}
-use Rattle.rules.specs.Reading.{under}
+use Rattle.rules.specs.Reading.{noSplit, splitSays, under}
 use Rattle.records.specs.Stored.{noCells}
 use Rattle.records.specs.declared.ModelType.the-variants.{Terminator}
 use Rattle.records.specs.declared.Polarity.the-variants.{NoPolarity}
 use Rattle.records.specs.declared.Enable.the-variants.{NoEnable}
+use Rattle.records.specs.declared.Range.{Range}
+use Rattle.records.specs.declared.Split.{Split}
 use Rattle.lines_under.specs.Under.{StopsAt}
 use Rattle.model_record.specs.declared.FirstLines.{FirstLines}
 use Rattle.model_record.specs.declared.FirstRead.{FirstRead}
@@ -25,6 +30,7 @@ bareLines =
       polarity = NoPolarity;
       enable = NoEnable;
       comp = noCells;
+      split = noSplit;
       vinl = Missing;
       vinh = Missing;
       vmeas = Missing;
@@ -33,7 +39,24 @@ bareLines =
       vref = Missing;
     }
 
--- what a line makes of them, and what lines do
+-- what a line makes of the capacitance by structure
+abbrev pub splitLine : Split → List ℕ → Split
+splitLine s w =
+    record {
+      pullup = takes "C_comp_pullup" groupLine (s .pullup) w;
+      pulldown = takes "C_comp_pulldown" groupLine (s .pulldown) w;
+      power = takes "C_comp_power_clamp" groupLine (s .power) w;
+      ground = takes "C_comp_gnd_clamp" groupLine (s .ground) w;
+    }
+
+-- the same by the line's place
+abbrev pub groupAt : ℕ → ℕ → Range → List ℕ → Range
+groupAt place n before w = cond (eqb n place) (orElse before (groupLine w)) before
+
+abbrev pub splitAt : ℕ → Split → List ℕ → Split
+splitAt n s w = record { pullup = groupAt 4 n (s .pullup) w; pulldown = groupAt 5 n (s .pulldown) w; power = groupAt 6 n (s .power) w; ground = groupAt 7 n (s .ground) w }
+
+-- what a line makes of them all, and what lines do
 abbrev pub firstLine : FirstLines → List ℕ → FirstLines
 firstLine f w =
     record {
@@ -41,6 +64,7 @@ firstLine f w =
       polarity = takes "Polarity" (wordLine polarities) (f .polarity) w;
       enable = takes "Enable" (wordLine enables) (f .enable) w;
       comp = takes "C_comp" cellsLine (f .comp) w;
+      split = splitLine (f .split) w;
       vinl = takes "Vinl" numberLine (f .vinl) w;
       vinh = takes "Vinh" numberLine (f .vinh) w;
       vmeas = takes "Vmeas" numberLine (f .vmeas) w;
@@ -56,6 +80,7 @@ firstsOn f ls =
       polarity = lineSays "Polarity" (wordLine polarities) (f .polarity) ls;
       enable = lineSays "Enable" (wordLine enables) (f .enable) ls;
       comp = lineSays "C_comp" cellsLine (f .comp) ls;
+      split = splitSays (f .split) ls;
       vinl = lineSays "Vinl" numberLine (f .vinl) ls;
       vinh = lineSays "Vinh" numberLine (f .vinh) ls;
       vmeas = lineSays "Vmeas" numberLine (f .vmeas) ls;
@@ -73,6 +98,7 @@ defaulted f =
       polarity = f .polarity;
       enable = f .enable;
       comp = f .comp;
+      split = f .split;
       vinl = t .vinl;
       vinh = t .vinh;
       vmeas = f .vmeas;

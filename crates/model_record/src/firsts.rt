@@ -1,4 +1,4 @@
-// A model's first lines: its type, polarity, enable, C_comp and six numbers.
+// A model's first lines: its type, polarity, enable, C_comp with its four parts and six numbers.
 ghost use mathlib.Core.Bool.{cond};
 ghost use mathlib.Core.Path.{_≡_};
 ghost use lib.Dec.{eqb};
@@ -6,7 +6,8 @@ ghost use Rattle.laws.specs.Said.{orElse};
 ghost use Rattle.cut_lines.specs.Cursors.{Placed};
 ghost use Rattle.line_rules.specs.Fields.{wordLine, cellsLine};
 ghost use Rattle.line_rules.specs.Tables.{polarities, enables};
-ghost use Rattle.model_record.specs.Firsts.{bareLines, firstLine, defaulted, FirstReadIs};
+ghost use Rattle.rules.specs.Reading.{noSplit};
+ghost use Rattle.model_record.specs.Firsts.{bareLines, groupAt, splitAt, firstLine, defaulted, FirstReadIs};
 use crate::FirstLines;
 use crate::FirstRead;
 use cut_lines::Cursor;
@@ -19,6 +20,8 @@ use named_lines::fields::type_after;
 use records::Enable;
 use records::ModelType;
 use records::Polarity;
+use records::Range;
+use records::Split;
 use records::Triple;
 
 // ---- one field after the line at place n
@@ -49,19 +52,60 @@ fn enable_after(n: usize, w: &[u8], before: Enable) -> Enable
     }
 }
 
-fn comp_after(n: usize, w: &[u8], before: Triple) -> Triple
-    ensures { λ r. ⌜ r ≡ cond (eqb n 3) (orElse before (cellsLine (now (w .entry)))) before ⌝ }
+// Three cells whose own line stands at `place`.
+fn group_after(place: usize, n: usize, w: &[u8], before: Range) -> Range
+    ensures { λ r. ⌜ r ≡ groupAt place n before (now (w .entry)) ⌝ }
 {
-    if n != 3 {
+    if n != place {
         return before;
     }
     match line_faults::cells_line(w) {
-        TripleRead::Cells(cells) => cells,
+        TripleRead::Cells(cells) => Range {
+            given: true,
+            cells: cells,
+        },
         TripleRead::Flawed(_) => before,
     }
 }
 
+fn comp_after(n: usize, w: &[u8], before: Triple) -> Triple
+    ensures { λ r. ⌜ r ≡ cond (eqb n 3) (orElse before (cellsLine (now (w .entry)))) before ⌝ }
+{
+    let known = Range {
+        given: true,
+        cells: before,
+    };
+    let after = group_after(3, n, w, known);
+    after.cells
+}
+
+fn split_after(n: usize, w: &[u8], before: Split) -> Split
+    ensures { λ r. ⌜ r ≡ splitAt n before (now (w .entry)) ⌝ }
+{
+    Split {
+        pullup: group_after(4, n, w, before.pullup),
+        pulldown: group_after(5, n, w, before.pulldown),
+        power: group_after(6, n, w, before.power),
+        ground: group_after(7, n, w, before.ground),
+    }
+}
+
 // ---- the lines
+
+fn no_split() -> Split
+    ensures { λ r. ⌜ r ≡ noSplit ⌝ }
+{
+    let absent = Range {
+        given: false,
+        cells: records::no_cells(),
+    };
+    Split {
+        pullup: absent,
+        pulldown: absent,
+        power: absent,
+        ground: absent,
+    }
+}
 
 fn bare_lines() -> FirstLines
     ensures { λ r. ⌜ r ≡ bareLines ⌝ }
@@ -71,6 +115,7 @@ fn bare_lines() -> FirstLines
         polarity: Polarity::NoPolarity,
         enable: Enable::NoEnable,
         comp: records::no_cells(),
+        split: no_split(),
         vinl: Cell::Missing,
         vinh: Cell::Missing,
         vmeas: Cell::Missing,
@@ -92,6 +137,7 @@ fn with_first_line(f: FirstLines, w: &[u8]) -> FirstLines
     let polarity = f.polarity;
     let enable = f.enable;
     let comp = f.comp;
+    let split = f.split;
     let vinl = f.vinl;
     let vinh = f.vinh;
     let vmeas = f.vmeas;
@@ -103,12 +149,13 @@ fn with_first_line(f: FirstLines, w: &[u8]) -> FirstLines
         polarity: polarity_after(n, w, polarity),
         enable: enable_after(n, w, enable),
         comp: comp_after(n, w, comp),
-        vinl: number_after(4, n, w, vinl),
-        vinh: number_after(5, n, w, vinh),
-        vmeas: number_after(6, n, w, vmeas),
-        cref: number_after(7, n, w, cref),
-        rref: number_after(8, n, w, rref),
-        vref: number_after(9, n, w, vref),
+        split: split_after(n, w, split),
+        vinl: number_after(8, n, w, vinl),
+        vinh: number_after(9, n, w, vinh),
+        vmeas: number_after(10, n, w, vmeas),
+        cref: number_after(11, n, w, cref),
+        rref: number_after(12, n, w, rref),
+        vref: number_after(13, n, w, vref),
     }
 }
 
@@ -145,6 +192,7 @@ pub(crate) fn with_defaults(f: FirstLines) -> FirstLines
     let polarity = f.polarity;
     let enable = f.enable;
     let comp = f.comp;
+    let split = f.split;
     let vinl = f.vinl;
     let vinh = f.vinh;
     let vmeas = f.vmeas;
@@ -159,6 +207,7 @@ pub(crate) fn with_defaults(f: FirstLines) -> FirstLines
         polarity: polarity,
         enable: enable,
         comp: comp,
+        split: split,
         vinl: low,
         vinh: high,
         vmeas: vmeas,

@@ -6,6 +6,7 @@ use records::ModelType;
 use records::Polarity;
 use records::RampTable;
 use records::Range;
+use records::Split;
 use records::Table;
 use records::Triple;
 
@@ -22,6 +23,7 @@ pub struct FirstLines {
     pub polarity: Polarity,
     pub enable: Enable,
     pub comp: Triple,
+    pub split: Split,
     pub vinl: Cell,
     pub vinh: Cell,
     pub vmeas: Cell,

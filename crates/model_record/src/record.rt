@@ -24,6 +24,7 @@ fn model_over(section: usize, start: usize, name: Name, f: FirstLines, b: Body) 
     let polarity = f.polarity;
     let enable = f.enable;
     let comp = f.comp;
+    let split = f.split;
     let vinl = f.vinl;
     let vinh = f.vinh;
     let vmeas = f.vmeas;
@@ -44,6 +45,7 @@ fn model_over(section: usize, start: usize, name: Name, f: FirstLines, b: Body) 
         polarity: polarity,
         enable: enable,
         comp: comp,
+        split: split,
         vinl: vinl,
         vinh: vinh,
         vmeas: vmeas,

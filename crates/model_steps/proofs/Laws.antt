@@ -34,13 +34,13 @@ module _ {A : Type 0} (read : List ℕ → Said A) (before : A) (w : List ℕ) (
   unfolding takes placeFrom words grown ontoWord isBlank eqs
   takes-type = rw (named-at modelLines "Model_type" w n 0 e refl)
 
-  pub takes-vinl : cond (eqb n 4) (orElse before (read w)) before ≡ takes "Vinl" read before w
+  pub takes-vinl : cond (eqb n 8) (orElse before (read w)) before ≡ takes "Vinl" read before w
   unfolding takes placeFrom words grown ontoWord isBlank eqs
-  takes-vinl = rw (named-at modelLines "Vinl" w n 4 e refl)
+  takes-vinl = rw (named-at modelLines "Vinl" w n 8 e refl)
 
-  pub takes-vinh : cond (eqb n 5) (orElse before (read w)) before ≡ takes "Vinh" read before w
+  pub takes-vinh : cond (eqb n 9) (orElse before (read w)) before ≡ takes "Vinh" read before w
   unfolding takes placeFrom words grown ontoWord isBlank eqs
-  takes-vinh = rw (named-at modelLines "Vinh" w n 5 e refl)
+  takes-vinh = rw (named-at modelLines "Vinh" w n 9 e refl)
 
 -- ---- what was given, by name
 

@@ -16,7 +16,7 @@ abbrev pub listText : NameList → String
 listText Keywords = "ibis_ver file_name file_rev date source notes disclaimer copyright component manufacturer package pin model_selector model voltage_range temperature_range pulldown pullup gnd_clamp power_clamp ramp rising_waveform falling_waveform end"
 listText ComponentLines = "Si_location Timing_location"
 listText PackageLines = "R_pkg L_pkg C_pkg"
-listText ModelLines = "Model_type Polarity Enable C_comp Vinl Vinh Vmeas Cref Rref Vref"
+listText ModelLines = "Model_type Polarity Enable C_comp C_comp_pullup C_comp_pulldown C_comp_power_clamp C_comp_gnd_clamp Vinl Vinh Vmeas Cref Rref Vref"
 listText RampLines = "dV/dt_r dV/dt_f R_load"
 listText Fixtures = "R_fixture V_fixture V_fixture_min V_fixture_max C_fixture L_fixture R_dut L_dut C_dut"
 listText Locations = "Pin Die"

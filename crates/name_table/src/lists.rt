@@ -72,12 +72,16 @@ fn model_line(k: usize) -> Listed
         1 => Listed(8, 0x79746972616c6f50, 0, 0), // Polarity
         2 => Listed(6, 0x656c62616e45, 0, 0), // Enable
         3 => Listed(6, 0x706d6f635f43, 0, 0), // C_comp
-        4 => Listed(4, 0x6c6e6956, 0, 0), // Vinl
-        5 => Listed(4, 0x686e6956, 0, 0), // Vinh
-        6 => Listed(5, 0x7361656d56, 0, 0), // Vmeas
-        7 => Listed(4, 0x66657243, 0, 0), // Cref
-        8 => Listed(4, 0x66657252, 0, 0), // Rref
-        9 => Listed(4, 0x66657256, 0, 0), // Vref
+        4 => Listed(13, 0x705f706d6f635f43, 0x70756c6c75, 0), // C_comp_pullup
+        5 => Listed(15, 0x705f706d6f635f43, 0x6e776f646c6c75, 0), // C_comp_pulldown
+        6 => Listed(18, 0x705f706d6f635f43, 0x616c635f7265776f, 0x706d), // C_comp_power_clamp
+        7 => Listed(16, 0x675f706d6f635f43, 0x706d616c635f646e, 0), // C_comp_gnd_clamp
+        8 => Listed(4, 0x6c6e6956, 0, 0), // Vinl
+        9 => Listed(4, 0x686e6956, 0, 0), // Vinh
+        10 => Listed(5, 0x7361656d56, 0, 0), // Vmeas
+        11 => Listed(4, 0x66657243, 0, 0), // Cref
+        12 => Listed(4, 0x66657252, 0, 0), // Rref
+        13 => Listed(4, 0x66657256, 0, 0), // Vref
         _ => Listed(0, 0, 0, 0),
     }
 }
@@ -195,7 +199,7 @@ pub(crate) fn count_of(list: NameList) -> usize
         NameList::Keywords => 24,
         NameList::ComponentLines => 2,
         NameList::PackageLines => 3,
-        NameList::ModelLines => 10,
+        NameList::ModelLines => 14,
         NameList::RampLines => 3,
         NameList::Fixtures => 9,
         NameList::Locations => 2,

@@ -46,7 +46,7 @@ pub extern "C" fn olhovest_find_pin(
 
 // The model of that name.
 #[no_mangle]
-pub extern "C" fn olhovest_find_model(models: &[u64], name: &[u8]) -> usize
+pub extern "C" fn olhovest_find_model_2(models: &[u64], name: &[u8]) -> usize
     ensures { λ r. ⌜ r ≡ placeNumber (modelNamed (now (models .entry)) (now (name .entry))) ⌝ }
 {
     place_number(questions::searches::model_named(models, name))
@@ -54,7 +54,7 @@ pub extern "C" fn olhovest_find_model(models: &[u64], name: &[u8]) -> usize
 
 // The model chosen for the pin at a place.
 #[no_mangle]
-pub extern "C" fn olhovest_model_of_pin(
+pub extern "C" fn olhovest_model_of_pin_2(
     pins: &[u64],
     selectors: &[u64],
     choices: &[u64],

@@ -3,7 +3,7 @@ ghost use mathlib.Core.Path.{_≡_};
 ghost use Rattle.rules.specs.Whole.{outcome};
 ghost use Rattle.file_answer.specs.Answered.{verdictOf};
 ghost use Rattle.table_words.specs.Packed.{faultNumber, faultLine, wordTables};
-ghost use Rattle.olhovest.specs.Exported.{lengthsAre, Exports};
+ghost use Rattle.olhovest.specs.Exported.{version, lengthsAre, Exports};
 use record_words::ANSWER_WORDS;
 use records::Lengths;
 
@@ -29,6 +29,15 @@ fn lengths_are(
         waveforms: waveforms,
         rows: rows,
     }
+}
+
+// The version of the records. A function over records that moved has the version that moved them in its name, so that a program compiled
+// for others does not link.
+#[no_mangle]
+pub extern "C" fn olhovest_version() -> u64
+    ensures { λ r. ⌜ r ≡ version ⌝ }
+{
+    2
 }
 
 // Whether a file would be accepted, if tables of these many records were lent.
@@ -63,7 +72,7 @@ pub extern "C" fn olhovest_check(
 
 // Reads a file into the lent tables.
 #[no_mangle]
-pub extern "C" fn olhovest_read(
+pub extern "C" fn olhovest_read_2(
     src: &[u8],
     components: &mut [u64],
     pins: &mut [u64],

@@ -5,6 +5,7 @@ use Rattle.decimal.specs.Decimal.{wordOf}
 use Rattle.records.specs.Types.{typeNumber}
 use Rattle.records.specs.declared.Triple.{Triple}
 use Rattle.records.specs.declared.RampTriple.{RampTriple}
+use Rattle.records.specs.declared.Range.{Range}
 use Rattle.records.specs.declared.Span.{Span}
 use Rattle.records.specs.declared.Table.{Table}
 use Rattle.records.specs.declared.Name.{Name}
@@ -50,6 +51,9 @@ spanWords p = p .start ∷ p .count ∷ []
 abbrev pub tripleWords : Triple → List ℕ
 tripleWords t = wordOf (t .typ) ∷ wordOf (t .min) ∷ wordOf (t .max) ∷ []
 
+abbrev pub rangeWords : Range → List ℕ
+rangeWords r = flagNumber (r .given) ∷ tripleWords (r .cells)
+
 abbrev pub slopeWords : RampTriple → List ℕ
 slopeWords t =
     dividendWord (t .typ) ∷ divisorWord (t .typ) ∷ dividendWord (t .min) ∷ divisorWord (t .min) ∷ dividendWord (t .max) ∷ divisorWord (t .max) ∷ []
@@ -82,13 +86,20 @@ abbrev pub modelFirst : Model → List ℕ
 modelFirst m =
     (m .section ∷ nameWords (m .name))
     ++ (typeNumber (m .kind) ∷ polarityNumber (m .polarity) ∷ enableNumber (m .enable) ∷ tripleWords (m .comp))
-    ++ (wordOf (m .vinl) ∷ wordOf (m .vinh) ∷ wordOf (m .vmeas) ∷ wordOf (m .cref) ∷ wordOf (m .rref) ∷ wordOf (m .vref) ∷ [])
+
+abbrev pub modelSplit : Model → List ℕ
+modelSplit m =
+    rangeWords (m .split .pullup) ++ rangeWords (m .split .pulldown) ++ rangeWords (m .split .power) ++ rangeWords (m .split .ground)
+
+abbrev pub modelLevels : Model → List ℕ
+modelLevels m =
+    (wordOf (m .vinl) ∷ wordOf (m .vinh) ∷ wordOf (m .vmeas) ∷ wordOf (m .cref) ∷ wordOf (m .rref) ∷ wordOf (m .vref) ∷ [])
+    ++ tripleWords (m .voltage)
+    ++ rangeWords (m .temperature)
 
 abbrev pub modelTables : Model → List ℕ
 modelTables m =
-    tripleWords (m .voltage)
-    ++ (flagNumber (m .temperature .given) ∷ tripleWords (m .temperature .cells))
-    ++ tableWords (m .pulldown)
+    tableWords (m .pulldown)
     ++ tableWords (m .pullup)
     ++ tableWords (m .ground)
     ++ tableWords (m .power)
@@ -98,7 +109,7 @@ modelRamp m =
     (flagNumber (m .ramp .given) ∷ slopeWords (m .ramp .rise)) ++ slopeWords (m .ramp .fall) ++ (wordOf (m .ramp .load) ∷ spanWords (m .waveforms))
 
 abbrev pub modelWords : Model → List ℕ
-modelWords m = modelFirst m ++ modelTables m ++ modelRamp m
+modelWords m = modelFirst m ++ modelSplit m ++ modelLevels m ++ modelTables m ++ modelRamp m
 
 abbrev pub waveformWords : Waveform → List ℕ
 waveformWords w =
@@ -120,7 +131,7 @@ abbrev pub choiceSize : ℕ
 choiceSize = 22
 
 abbrev pub modelSize : ℕ
-modelSize = 54
+modelSize = 70
 
 abbrev pub waveformSize : ℕ
 waveformSize = 12

@@ -12,6 +12,8 @@ pub const SPAN_WORDS: usize = 2;
 
 pub const TRIPLE_WORDS: usize = 3;
 
+pub const RANGE_WORDS: usize = 1 + TRIPLE_WORDS;
+
 pub const SLOPE_WORDS: usize = 2 * TRIPLE_WORDS;
 
 pub const TABLE_WORDS: usize = 1 + SPAN_WORDS;
@@ -26,13 +28,19 @@ pub const SELECTOR_WORDS: usize = 1 + NAME_WORDS + SPAN_WORDS;
 
 pub const CHOICE_WORDS: usize = NAME_WORDS + TEXT_WORDS;
 
-pub const MODEL_FIRST_WORDS: usize = 1 + NAME_WORDS + 3 + TRIPLE_WORDS + 6;
+pub const MODEL_FIRST_WORDS: usize = 1 + NAME_WORDS + 3 + TRIPLE_WORDS;
 
-pub const MODEL_TABLES_WORDS: usize = TRIPLE_WORDS + 1 + TRIPLE_WORDS + 4 * TABLE_WORDS;
+pub const MODEL_SPLIT_WORDS: usize = 4 * RANGE_WORDS;
+
+pub const MODEL_LEVELS_WORDS: usize = 6 + TRIPLE_WORDS + RANGE_WORDS;
+
+pub const MODEL_TABLES_WORDS: usize = 4 * TABLE_WORDS;
 
 pub const MODEL_RAMP_WORDS: usize = 1 + 2 * SLOPE_WORDS + 1 + SPAN_WORDS;
 
-pub const MODEL_WORDS: usize = MODEL_FIRST_WORDS + MODEL_TABLES_WORDS + MODEL_RAMP_WORDS;
+pub const MODEL_LINES_WORDS: usize = MODEL_FIRST_WORDS + MODEL_SPLIT_WORDS + MODEL_LEVELS_WORDS;
+
+pub const MODEL_WORDS: usize = MODEL_LINES_WORDS + MODEL_TABLES_WORDS + MODEL_RAMP_WORDS;
 
 pub const WAVEFORM_WORDS: usize = 10 + SPAN_WORDS;
 

@@ -1,13 +1,16 @@
 // Records as words, in the order of their fields.
 ghost use mathlib.Core.Path.{_≡_};
-ghost use Rattle.record_words.specs.Records.{nameWords, textWords, tripleWords, slopeWords, tableWords, componentWords, pinWords, selectorWords, choiceWords, modelFirst, modelTables, modelRamp, waveformWords};
+ghost use Rattle.record_words.specs.Records.{nameWords, textWords, tripleWords, rangeWords, slopeWords, tableWords, componentWords, pinWords, selectorWords, choiceWords, modelFirst, modelSplit, modelLevels, modelTables, modelRamp, waveformWords};
 use crate::CHOICE_WORDS;
 use crate::COMPONENT_WORDS;
 use crate::MODEL_FIRST_WORDS;
+use crate::MODEL_LEVELS_WORDS;
 use crate::MODEL_RAMP_WORDS;
+use crate::MODEL_SPLIT_WORDS;
 use crate::MODEL_TABLES_WORDS;
 use crate::NAME_WORDS;
 use crate::PIN_WORDS;
+use crate::RANGE_WORDS;
 use crate::SELECTOR_WORDS;
 use crate::SLOPE_WORDS;
 use crate::TABLE_WORDS;
@@ -32,6 +35,7 @@ use records::Model;
 use records::Name;
 use records::Pin;
 use records::RampTriple;
+use records::Range;
 use records::Selector;
 use records::Table;
 use records::Triple;
@@ -79,6 +83,13 @@ pub fn triple_words(t: Triple) -> [u64; TRIPLE_WORDS]
     ensures { λ r. ⌜ r ≡ tripleWords t ⌝ }
 {
     [typ_word(t), min_word(t), max_word(t)]
+}
+
+fn range_words(r: Range) -> [u64; RANGE_WORDS]
+    ensures { λ w. ⌜ w ≡ rangeWords r ⌝ }
+{
+    let c = triple_words(r.cells);
+    [flag_number(r.given), c[0], c[1], c[2]]
 }
 
 fn slope_words(t: RampTriple) -> [u64; SLOPE_WORDS]
@@ -231,7 +242,7 @@ pub fn choice_words(c: Choice) -> [u64; CHOICE_WORDS]
     ]
 }
 
-// A model in three parts: its first lines,
+// A model in five parts: its name, type and C_comp,
 pub fn model_first(m: Model) -> [u64; MODEL_FIRST_WORDS]
     ensures { λ r. ⌜ r ≡ modelFirst m ⌝ }
 {
@@ -240,12 +251,6 @@ pub fn model_first(m: Model) -> [u64; MODEL_FIRST_WORDS]
     let polarity = m.polarity;
     let enable = m.enable;
     let c = triple_words(m.comp);
-    let vinl = m.vinl;
-    let vinh = m.vinh;
-    let vmeas = m.vmeas;
-    let cref = m.cref;
-    let rref = m.rref;
-    let vref = m.vref;
     [
         m.section as u64,
         n[0],
@@ -260,33 +265,75 @@ pub fn model_first(m: Model) -> [u64; MODEL_FIRST_WORDS]
         c[0],
         c[1],
         c[2],
+    ]
+}
+
+// C_comp by structure,
+pub fn model_split(m: Model) -> [u64; MODEL_SPLIT_WORDS]
+    ensures { λ r. ⌜ r ≡ modelSplit m ⌝ }
+{
+    let u = range_words(m.split.pullup);
+    let d = range_words(m.split.pulldown);
+    let p = range_words(m.split.power);
+    let g = range_words(m.split.ground);
+    [
+        u[0],
+        u[1],
+        u[2],
+        u[3],
+        d[0],
+        d[1],
+        d[2],
+        d[3],
+        p[0],
+        p[1],
+        p[2],
+        p[3],
+        g[0],
+        g[1],
+        g[2],
+        g[3],
+    ]
+}
+
+// its numbers and ranges,
+pub fn model_levels(m: Model) -> [u64; MODEL_LEVELS_WORDS]
+    ensures { λ r. ⌜ r ≡ modelLevels m ⌝ }
+{
+    let vinl = m.vinl;
+    let vinh = m.vinh;
+    let vmeas = m.vmeas;
+    let cref = m.cref;
+    let rref = m.rref;
+    let vref = m.vref;
+    let v = triple_words(m.voltage);
+    let t = range_words(m.temperature);
+    [
         word_of(vinl),
         word_of(vinh),
         word_of(vmeas),
         word_of(cref),
         word_of(rref),
         word_of(vref),
+        v[0],
+        v[1],
+        v[2],
+        t[0],
+        t[1],
+        t[2],
+        t[3],
     ]
 }
 
-// its ranges and current tables,
+// its current tables,
 pub fn model_tables(m: Model) -> [u64; MODEL_TABLES_WORDS]
     ensures { λ r. ⌜ r ≡ modelTables m ⌝ }
 {
-    let v = triple_words(m.voltage);
-    let t = triple_words(m.temperature.cells);
     let d = table_words(m.pulldown);
     let u = table_words(m.pullup);
     let g = table_words(m.ground);
     let p = table_words(m.power);
     [
-        v[0],
-        v[1],
-        v[2],
-        flag_number(m.temperature.given),
-        t[0],
-        t[1],
-        t[2],
         d[0],
         d[1],
         d[2],

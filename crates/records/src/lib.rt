@@ -244,6 +244,14 @@ pub struct Range {
     pub cells: Triple,
 }
 
+// The die capacitance by structure: C_comp_pullup, C_comp_pulldown, C_comp_power_clamp, C_comp_gnd_clamp.
+pub struct Split {
+    pub pullup: Range,
+    pub pulldown: Range,
+    pub power: Range,
+    pub ground: Range,
+}
+
 pub struct RampTable {
     pub given: bool,
     pub rise: RampTriple,
@@ -258,6 +266,7 @@ pub struct Model {
     pub polarity: Polarity,
     pub enable: Enable,
     pub comp: Triple,
+    pub split: Split,
     pub vinl: Cell,
     pub vinh: Cell,
     pub vmeas: Cell,

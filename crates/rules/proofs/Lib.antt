@@ -6,3 +6,4 @@ pub mod Numberless
 pub mod Keys
 pub mod Tables
 pub mod Sanity
+pub mod Same

@@ -4,7 +4,8 @@ use mathlib.Core.List.{List, [], _∷_}
 use mathlib.Core.Bool.{Bool, true, false, cond, not, _&&_, _||_}
 use lib.ListN.{length}
 use lib.Dec.{eqb, leb}
-use Rattle.laws.specs.Bytes.{isLetter}
+use Rattle.laws.specs.Bytes.{bytes, isLetter}
+use Rattle.laws.specs.Lists.{oneOf}
 use Rattle.laws.specs.Said.{Said, says, fault, faultIn}
 use Rattle.decimal.specs.Decimal.{lessThan, offset}
 use Rattle.decimal.specs.declared.Decimal.{Decimal}
@@ -17,8 +18,8 @@ use Rattle.keywords.specs.declared.CurrentTable.the-variants.{Pulldown, Pullup,
 use Rattle.records.specs.declared.Row.{Row}
 use Rattle.records.specs.declared.Edge.the-variants.{Rising}
 use Rattle.records.specs.declared.ModelType.the-variants.{Terminator}
-use Rattle.line_rules.specs.Fields.{isNamed, lineAt, wordLine, cellsLine, slopesLine, numberLine, takes, threeCells, rowOf}
-use Rattle.line_rules.specs.Tables.{modelLines, modelTypes, polarities, enables, rampLines, fixtures}
+use Rattle.line_rules.specs.Fields.{nameOf, isNamed, lineAt, wordLine, cellsLine, slopesLine, numberLine, takes, threeCells, rowOf}
+use Rattle.line_rules.specs.Tables.{modelLines, capacitances, modelTypes, polarities, enables, rampLines, fixtures}
 use Rattle.given.specs.Given.{noneGiven, has, gave}
 use Rattle.given.specs.declared.Given.{Given}
 use Rattle.rules.specs.Types.{isInput, isDriven, thresholds, isBelow}
@@ -46,13 +47,13 @@ withModelList m l = withParts m (m .parts) (m .waveforms) l
 
 -- ---- the first lines, "in any order, at most once each"
 
--- Model_type, Polarity and Enable take a word of their tables, C_comp three cells, the others `=` and a number
+-- Model_type, Polarity and Enable take a word of their tables, C_comp and its four parts three cells, the others `=` and a number
 unfoldable pub firstFault : List ℕ → ℕ
 firstFault w =
     cond (isNamed "Model_type" w) (faultIn (wordLine modelTypes w))
     (cond (isNamed "Polarity" w) (faultIn (wordLine polarities w))
     (cond (isNamed "Enable" w) (faultIn (wordLine enables w))
-    (cond (isNamed "C_comp" w) (faultIn (cellsLine w))
+    (cond (oneOf (nameOf w) (words (bytes capacitances))) (faultIn (cellsLine w))
     (faultIn (numberLine w)))))
 
 -- the type, Vinl and Vinh are remembered for the close

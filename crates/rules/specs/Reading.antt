@@ -17,6 +17,7 @@ use Rattle.records.specs.declared.Row.{Row}
 use Rattle.records.specs.declared.Span.{Span}
 use Rattle.records.specs.declared.Table.{Table}
 use Rattle.records.specs.declared.Range.{Range}
+use Rattle.records.specs.declared.Split.{Split}
 use Rattle.records.specs.declared.RampTable.{RampTable}
 use Rattle.records.specs.declared.Component.{Component}
 use Rattle.records.specs.declared.Pin.{Pin}
@@ -29,7 +30,7 @@ use Rattle.records.specs.declared.Location.the-variants.{AtPin}
 use Rattle.records.specs.declared.Polarity.the-variants.{NoPolarity}
 use Rattle.records.specs.declared.Enable.the-variants.{NoEnable}
 use Rattle.records.specs.declared.ModelType.the-variants.{Terminator}
-use Rattle.line_rules.specs.Fields.{isBracketed, threeCells, rowOf, wordLine, cellsLine, slopesLine, numberLine, lineSays}
+use Rattle.line_rules.specs.Fields.{isBracketed, threeCells, rowOf, wordLine, cellsLine, groupLine, slopesLine, numberLine, lineSays}
 use Rattle.line_rules.specs.Tables.{locations, modelTypes, polarities, enables, tableKeywords}
 use Rattle.rules.specs.Component.{pinIn}
 use Rattle.rules.specs.Types.{thresholds}
@@ -112,6 +113,19 @@ rampIn w ls =
 abbrev pub noRamp : RampTable
 noRamp = record { given = false; rise = noSlopes; fall = noSlopes; load = Missing }
 
+abbrev pub noSplit : Split
+noSplit = record { pullup = noRange; pulldown = noRange; power = noRange; ground = noRange }
+
+-- "each present with a typ number or absent as a whole": what lines say of each, or what was said before
+unfoldable pub splitSays : Split → List (List ℕ) → Split
+splitSays before ls =
+    record {
+      pullup = lineSays "C_comp_pullup" groupLine (before .pullup) ls;
+      pulldown = lineSays "C_comp_pulldown" groupLine (before .pulldown) ls;
+      power = lineSays "C_comp_power_clamp" groupLine (before .power) ls;
+      ground = lineSays "C_comp_gnd_clamp" groupLine (before .ground) ls;
+    }
+
 unfoldable pub modelIn : ℕ → (String → Table) → Span → List ℕ → List Text → Model
 modelIn n table waveforms name ts =
     let first = under ts in
@@ -124,6 +138,7 @@ modelIn n table waveforms name ts =
       polarity = lineSays "Polarity" (wordLine polarities) NoPolarity first;
       enable = lineSays "Enable" (wordLine enables) NoEnable first;
       comp = lineSays "C_comp" cellsLine noCells first;
+      split = splitSays noSplit first;
       vinl = t .vinl;
       vinh = t .vinh;
       vmeas = numberSaid "Vmeas" first;

@@ -26,13 +26,14 @@ use Rattle.records.specs.declared.Choice.{Choice}
 use Rattle.records.specs.declared.Model.{Model}
 use Rattle.records.specs.declared.Waveform.{Waveform}
 use Rattle.records.specs.declared.Range.{Range}
+use Rattle.records.specs.declared.Split.{Split}
 use Rattle.records.specs.declared.RampTable.{RampTable}
 use Rattle.record_words.specs.Values.{flagNumber, dividendWord, divisorWord}
-use Rattle.record_words.specs.Records.{spanWords, tripleWords, slopeWords, tableWords, componentWords, pinWords, selectorWords, choiceWords, modelWords, waveformWords}
+use Rattle.record_words.specs.Records.{spanWords, tripleWords, rangeWords, slopeWords, tableWords, componentWords, pinWords, selectorWords, choiceWords, modelWords, waveformWords}
 use Rattle.table_records.specs.declared.StoredRow.the-variants.{Kept}
 use Rattle.table_records.specs.Values.{cellAt, slopeIn}
-use Rattle.table_records.specs.Records.{spanFrom, tripleFrom, slopesFrom, tableFrom, rangeFrom, rampFrom, componentFrom, pinFrom, selectorFrom, choiceFrom, modelFrom, waveformFrom, asRow, rowFrom}
-use Rattle.table_records.specs.Fine.{FineTriple, FineSlope, FineSlopes, FineComponent, FinePin, FineSelector, FineChoice, FineModel, FineWaveform, FineRow}
+use Rattle.table_records.specs.Records.{spanFrom, tripleFrom, slopesFrom, tableFrom, rangeFrom, splitFrom, rampFrom, componentFrom, pinFrom, selectorFrom, choiceFrom, modelFrom, waveformFrom, asRow, rowFrom}
+use Rattle.table_records.specs.Fine.{FineTriple, FineSplit, FineSlope, FineSlopes, FineComponent, FinePin, FineSelector, FineChoice, FineModel, FineWaveform, FineRow}
 use Rattle.table_records.proofs.Types.{type-back}
 use Rattle.table_records.proofs.Back.{flag-back, location-back, polarity-back, enable-back, edge-back, name-back, text-back}
 use Rattle.table_records.proofs.Whole.{component-is, pin-is, selector-is, choice-is, model-is, waveform-is}
@@ -88,9 +89,14 @@ pub row-back : (r : Row) → FineRow r → rowFrom (rowWords r) ≡ Kept r
 unfolding rowFrom cellAt tripleFrom
 row-back r f = rw (kept (Number (r .number)) (f .number), kept (r .cells .typ) (f .cells .typ), kept (r .cells .min) (f .cells .min), kept (r .cells .max) (f .cells .max)) refl
 
-range-back : (r : Range) (rest : List ℕ) → FineTriple (r .cells) → rangeFrom (flagNumber (r .given) ∷ (tripleWords (r .cells) ++ rest)) ≡ r
+range-back : (r : Range) (rest : List ℕ) → FineTriple (r .cells) → rangeFrom (rangeWords r ++ rest) ≡ r
 unfolding rangeFrom
 range-back r rest f = ap₂ (λ (g : Bool) (t : Triple). record { given = g; cells = t }) (flag-back (r .given)) (triple-back (r .cells) rest f)
+
+split-back : (s : Split) (rest : List ℕ) → FineSplit s → splitFrom (rangeWords (s .pullup) ++ (rangeWords (s .pulldown) ++ (rangeWords (s .power) ++ (rangeWords (s .ground) ++ rest)))) ≡ s
+unfolding splitFrom
+split-back s rest f =
+    rw (range-back (s .pullup) (rangeWords (s .pulldown) ++ (rangeWords (s .power) ++ (rangeWords (s .ground) ++ rest))) (f .pullup), range-back (s .pulldown) (rangeWords (s .power) ++ (rangeWords (s .ground) ++ rest)) (f .pulldown), range-back (s .power) (rangeWords (s .ground) ++ rest) (f .power), range-back (s .ground) rest (f .ground)) refl
 
 ramp-back : (r : RampTable) (rest : List ℕ) → FineSlopes (r .rise) → FineSlopes (r .fall) → FineCell (r .load) → rampFrom (flagNumber (r .given) ∷ (slopeWords (r .rise) ++ (slopeWords (r .fall) ++ (wordOf (r .load) ∷ rest)))) ≡ r
 unfolding rampFrom cellAt
@@ -100,7 +106,7 @@ ramp-back r rest rise fall load =
 pub model-back : (m : Model) → FineModel m → modelFrom (modelWords m) ≡ m
 unfolding cellAt
 model-back m f =
-    sym (model-is (modelWords m) _ _ _ _ _ _ _ _ _ _ _ _ _ _ _ _ _ _ _ _ refl (sym (name-back (m .name) _ (f .name))) (sym (type-back (m .kind))) (sym (polarity-back (m .polarity))) (sym (enable-back (m .enable))) (sym (triple-back (m .comp) _ (f .comp)))
+    sym (model-is (modelWords m) _ _ _ _ _ _ _ _ _ _ _ _ _ _ _ _ _ _ _ _ _ refl (sym (name-back (m .name) _ (f .name))) (sym (type-back (m .kind))) (sym (polarity-back (m .polarity))) (sym (enable-back (m .enable))) (sym (triple-back (m .comp) _ (f .comp))) (sym (split-back (m .split) _ (f .split)))
     (sym (kept (m .vinl) (f .vinl))) (sym (kept (m .vinh) (f .vinh))) (sym (kept (m .vmeas) (f .vmeas))) (sym (kept (m .cref) (f .cref))) (sym (kept (m .rref) (f .rref))) (sym (kept (m .vref) (f .vref)))
     (sym (triple-back (m .voltage) _ (f .voltage))) (sym (range-back (m .temperature) _ (f .temperature))) (sym (table-back (m .pulldown) _)) (sym (table-back (m .pullup) _)) (sym (table-back (m .ground) _)) (sym (table-back (m .power) _))
     (sym (ramp-back (m .ramp) _ (f .rise) (f .fall) (f .load))) (sym (span-back (m .waveforms) _)))

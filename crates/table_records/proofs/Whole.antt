@@ -15,6 +15,7 @@ use Rattle.records.specs.declared.Polarity.{Polarity}
 use Rattle.records.specs.declared.RampTable.{RampTable}
 use Rattle.records.specs.declared.Range.{Range}
 use Rattle.records.specs.declared.Span.{Span}
+use Rattle.records.specs.declared.Split.{Split}
 use Rattle.records.specs.declared.Table.{Table}
 use Rattle.records.specs.declared.Triple.{Triple}
 use Rattle.records.specs.declared.Waveform.{Waveform}
@@ -23,17 +24,17 @@ use Rattle.records.specs.declared.Pin.{Pin}
 use Rattle.records.specs.declared.Selector.{Selector}
 use Rattle.records.specs.declared.Choice.{Choice}
 use Rattle.table_records.specs.Values.{numberAt, cellAt, locationIn, polarityIn, enableIn, edgeIn, typeIn}
-use Rattle.table_records.specs.Records.{nameFrom, spanFrom, tripleFrom, tableFrom, rangeFrom, rampFrom, textFrom, componentFrom, pinFrom, selectorFrom, choiceFrom, modelFrom, waveformFrom}
+use Rattle.table_records.specs.Records.{nameFrom, spanFrom, tripleFrom, tableFrom, rangeFrom, splitFrom, rampFrom, textFrom, componentFrom, pinFrom, selectorFrom, choiceFrom, modelFrom, waveformFrom}
 
 pub component-is : (ws : List ℕ) (section : ℕ) (name : Name) (si timing : Location) (manufacturer : Name) (resistance inductance capacitance : Triple) (pins : Span) → section ≡ numberAt ws 0 → name ≡ nameFrom (drop 1 ws) → si ≡ locationIn (numberAt ws 7) → timing ≡ locationIn (numberAt ws 8) → manufacturer ≡ nameFrom (drop 9 ws) → resistance ≡ tripleFrom (drop 15 ws) → inductance ≡ tripleFrom (drop 18 ws) → capacitance ≡ tripleFrom (drop 21 ws) → pins ≡ spanFrom (drop 24 ws)
     → record { section = section; name = name; si = si; timing = timing; manufacturer = manufacturer; resistance = resistance; inductance = inductance; capacitance = capacitance; pins = pins } ≡ componentFrom ws
 unfolding componentFrom
 component-is ws section name si timing manufacturer resistance inductance capacitance pins h0 h1 h2 h3 h4 h5 h6 h7 h8 = rw (h0, h1, h2, h3, h4, h5, h6, h7, h8) refl
 
-pub model-is : (ws : List ℕ) (section : ℕ) (name : Name) (kind : ModelType) (polarity : Polarity) (enable : Enable) (comp : Triple) (vinl vinh vmeas cref rref vref : Cell) (voltage : Triple) (temperature : Range) (pulldown pullup ground power : Table) (ramp : RampTable) (waveforms : Span) → section ≡ numberAt ws 0 → name ≡ nameFrom (drop 1 ws) → kind ≡ typeIn (numberAt ws 7) → polarity ≡ polarityIn (numberAt ws 8) → enable ≡ enableIn (numberAt ws 9) → comp ≡ tripleFrom (drop 10 ws) → vinl ≡ cellAt ws 13 → vinh ≡ cellAt ws 14 → vmeas ≡ cellAt ws 15 → cref ≡ cellAt ws 16 → rref ≡ cellAt ws 17 → vref ≡ cellAt ws 18 → voltage ≡ tripleFrom (drop 19 ws) → temperature ≡ rangeFrom (drop 22 ws) → pulldown ≡ tableFrom (drop 26 ws) → pullup ≡ tableFrom (drop 29 ws) → ground ≡ tableFrom (drop 32 ws) → power ≡ tableFrom (drop 35 ws) → ramp ≡ rampFrom (drop 38 ws) → waveforms ≡ spanFrom (drop 52 ws)
-    → record { section = section; name = name; kind = kind; polarity = polarity; enable = enable; comp = comp; vinl = vinl; vinh = vinh; vmeas = vmeas; cref = cref; rref = rref; vref = vref; voltage = voltage; temperature = temperature; pulldown = pulldown; pullup = pullup; ground = ground; power = power; ramp = ramp; waveforms = waveforms } ≡ modelFrom ws
+pub model-is : (ws : List ℕ) (section : ℕ) (name : Name) (kind : ModelType) (polarity : Polarity) (enable : Enable) (comp : Triple) (split : Split) (vinl vinh vmeas cref rref vref : Cell) (voltage : Triple) (temperature : Range) (pulldown pullup ground power : Table) (ramp : RampTable) (waveforms : Span) → section ≡ numberAt ws 0 → name ≡ nameFrom (drop 1 ws) → kind ≡ typeIn (numberAt ws 7) → polarity ≡ polarityIn (numberAt ws 8) → enable ≡ enableIn (numberAt ws 9) → comp ≡ tripleFrom (drop 10 ws) → split ≡ splitFrom (drop 13 ws) → vinl ≡ cellAt ws 29 → vinh ≡ cellAt ws 30 → vmeas ≡ cellAt ws 31 → cref ≡ cellAt ws 32 → rref ≡ cellAt ws 33 → vref ≡ cellAt ws 34 → voltage ≡ tripleFrom (drop 35 ws) → temperature ≡ rangeFrom (drop 38 ws) → pulldown ≡ tableFrom (drop 42 ws) → pullup ≡ tableFrom (drop 45 ws) → ground ≡ tableFrom (drop 48 ws) → power ≡ tableFrom (drop 51 ws) → ramp ≡ rampFrom (drop 54 ws) → waveforms ≡ spanFrom (drop 68 ws)
+    → record { section = section; name = name; kind = kind; polarity = polarity; enable = enable; comp = comp; split = split; vinl = vinl; vinh = vinh; vmeas = vmeas; cref = cref; rref = rref; vref = vref; voltage = voltage; temperature = temperature; pulldown = pulldown; pullup = pullup; ground = ground; power = power; ramp = ramp; waveforms = waveforms } ≡ modelFrom ws
 unfolding modelFrom
-model-is ws section name kind polarity enable comp vinl vinh vmeas cref rref vref voltage temperature pulldown pullup ground power ramp waveforms h0 h1 h2 h3 h4 h5 h6 h7 h8 h9 h10 h11 h12 h13 h14 h15 h16 h17 h18 h19 = rw (h0, h1, h2, h3, h4, h5, h6, h7, h8, h9, h10, h11, h12, h13, h14, h15, h16, h17, h18, h19) refl
+model-is ws section name kind polarity enable comp split vinl vinh vmeas cref rref vref voltage temperature pulldown pullup ground power ramp waveforms h0 h1 h2 h3 h4 h5 h6 h7 h8 h9 h10 h11 h12 h13 h14 h15 h16 h17 h18 h19 h20 = rw (h0, h1, h2, h3, h4, h5, h6, h7, h8, h9, h10, h11, h12, h13, h14, h15, h16, h17, h18, h19, h20) refl
 
 pub waveform-is : (ws : List ℕ) (edge : Edge) (rfixture vfixture vmin vmax cfixture lfixture rdut ldut cdut : Cell) (rows : Span) → edge ≡ edgeIn (numberAt ws 0) → rfixture ≡ cellAt ws 1 → vfixture ≡ cellAt ws 2 → vmin ≡ cellAt ws 3 → vmax ≡ cellAt ws 4 → cfixture ≡ cellAt ws 5 → lfixture ≡ cellAt ws 6 → rdut ≡ cellAt ws 7 → ldut ≡ cellAt ws 8 → cdut ≡ cellAt ws 9 → rows ≡ spanFrom (drop 10 ws)
     → record { edge = edge; rfixture = rfixture; vfixture = vfixture; vmin = vmin; vmax = vmax; cfixture = cfixture; lfixture = lfixture; rdut = rdut; ldut = ldut; cdut = cdut; rows = rows } ≡ waveformFrom ws

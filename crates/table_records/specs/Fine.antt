@@ -8,6 +8,7 @@ use Rattle.records.specs.declared.Triple.{Triple}
 use Rattle.records.specs.declared.RampCell.{RampCell}
 use Rattle.records.specs.declared.RampCell.the-variants.{Ratio, Absent}
 use Rattle.records.specs.declared.RampTriple.{RampTriple}
+use Rattle.records.specs.declared.Split.{Split}
 use Rattle.records.specs.declared.Row.{Row}
 use Rattle.records.specs.declared.Name.{Name}
 use Rattle.records.specs.declared.Words.{Words}
@@ -36,6 +37,12 @@ pub record FineTriple (t : Triple) : Type 0 where
   pub typ : FineCell (t .typ)
   pub min : FineCell (t .min)
   pub max : FineCell (t .max)
+
+pub record FineSplit (s : Split) : Type 0 where
+  pub pullup : FineTriple (s .pullup .cells)
+  pub pulldown : FineTriple (s .pulldown .cells)
+  pub power : FineTriple (s .power .cells)
+  pub ground : FineTriple (s .ground .cells)
 
 abbrev pub FineSlope : RampCell → Type 0
 FineSlope (Ratio a b) = Fine a × Fine b
@@ -71,6 +78,7 @@ pub record FineChoice (c : Choice) : Type 0 where
 pub record FineModel (m : Model) : Type 0 where
   pub name : FineName (m .name)
   pub comp : FineTriple (m .comp)
+  pub split : FineSplit (m .split)
   pub vinl : FineCell (m .vinl)
   pub vinh : FineCell (m .vinh)
   pub vmeas : FineCell (m .vmeas)

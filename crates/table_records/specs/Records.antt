@@ -9,6 +9,7 @@ use Rattle.records.specs.declared.Triple.{Triple}
 use Rattle.records.specs.declared.RampTriple.{RampTriple}
 use Rattle.records.specs.declared.RampTable.{RampTable}
 use Rattle.records.specs.declared.Range.{Range}
+use Rattle.records.specs.declared.Split.{Split}
 use Rattle.records.specs.declared.Span.{Span}
 use Rattle.records.specs.declared.Table.{Table}
 use Rattle.records.specs.declared.Name.{Name}
@@ -49,6 +50,10 @@ tableFrom ws = record { given = flagIn (numberAt ws 0); rows = spanFrom (drop 1 
 unfoldable pub rangeFrom : List ℕ → Range
 rangeFrom ws = record { given = flagIn (numberAt ws 0); cells = tripleFrom (drop 1 ws) }
 
+unfoldable pub splitFrom : List ℕ → Split
+splitFrom ws =
+    record { pullup = rangeFrom ws; pulldown = rangeFrom (drop 4 ws); power = rangeFrom (drop 8 ws); ground = rangeFrom (drop 12 ws) }
+
 unfoldable pub rampFrom : List ℕ → RampTable
 rampFrom ws = record { given = flagIn (numberAt ws 0); rise = slopesFrom (drop 1 ws); fall = slopesFrom (drop 7 ws); load = cellAt ws 13 }
 
@@ -87,20 +92,21 @@ modelFrom ws =
       polarity = polarityIn (numberAt ws 8);
       enable = enableIn (numberAt ws 9);
       comp = tripleFrom (drop 10 ws);
-      vinl = cellAt ws 13;
-      vinh = cellAt ws 14;
-      vmeas = cellAt ws 15;
-      cref = cellAt ws 16;
-      rref = cellAt ws 17;
-      vref = cellAt ws 18;
-      voltage = tripleFrom (drop 19 ws);
-      temperature = rangeFrom (drop 22 ws);
-      pulldown = tableFrom (drop 26 ws);
-      pullup = tableFrom (drop 29 ws);
-      ground = tableFrom (drop 32 ws);
-      power = tableFrom (drop 35 ws);
-      ramp = rampFrom (drop 38 ws);
-      waveforms = spanFrom (drop 52 ws);
+      split = splitFrom (drop 13 ws);
+      vinl = cellAt ws 29;
+      vinh = cellAt ws 30;
+      vmeas = cellAt ws 31;
+      cref = cellAt ws 32;
+      rref = cellAt ws 33;
+      vref = cellAt ws 34;
+      voltage = tripleFrom (drop 35 ws);
+      temperature = rangeFrom (drop 38 ws);
+      pulldown = tableFrom (drop 42 ws);
+      pullup = tableFrom (drop 45 ws);
+      ground = tableFrom (drop 48 ws);
+      power = tableFrom (drop 51 ws);
+      ramp = rampFrom (drop 54 ws);
+      waveforms = spanFrom (drop 68 ws);
     }
 
 unfoldable pub waveformFrom : List ℕ → Waveform

@@ -2,7 +2,7 @@
 ghost use mathlib.Core.Path.{_≡_};
 ghost use Prim.Native.Nat.{min};
 ghost use lib.ListN.{drop};
-ghost use Rattle.table_records.specs.Records.{nameFrom, textFrom, spanFrom, tripleFrom, slopesFrom, tableFrom, rangeFrom, rampFrom};
+ghost use Rattle.table_records.specs.Records.{nameFrom, textFrom, spanFrom, tripleFrom, slopesFrom, tableFrom, rangeFrom, splitFrom, rampFrom};
 use crate::values::cell_at;
 use crate::values::flag_in;
 use crate::values::number_at;
@@ -14,6 +14,7 @@ use records::RampTable;
 use records::RampTriple;
 use records::Range;
 use records::Span;
+use records::Split;
 use records::Table;
 use records::Triple;
 use records::Words;
@@ -93,6 +94,17 @@ pub(crate) fn range_from(words: &[u64]) -> Range
     Range {
         given: flag_in(number_at(words, 0)),
         cells: triple_from(words_from(words, 1)),
+    }
+}
+
+pub(crate) fn split_from(words: &[u64]) -> Split
+    ensures { λ r. ⌜ r ≡ splitFrom (now (words .entry)) ⌝ }
+{
+    Split {
+        pullup: range_from(words),
+        pulldown: range_from(words_from(words, 4)),
+        power: range_from(words_from(words, 8)),
+        ground: range_from(words_from(words, 12)),
     }
 }
 

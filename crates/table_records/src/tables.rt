@@ -9,6 +9,7 @@ use crate::parts::name_from;
 use crate::parts::ramp_from;
 use crate::parts::range_from;
 use crate::parts::span_at;
+use crate::parts::split_from;
 use crate::parts::table_at;
 use crate::parts::text_from;
 use crate::parts::triple_at;
@@ -144,20 +145,21 @@ fn model_from(words: &[u64]) -> Model
         polarity: polarity_in(number_at(words, 8)),
         enable: enable_in(number_at(words, 9)),
         comp: triple_at(words, 10),
-        vinl: cell_at(words, 13),
-        vinh: cell_at(words, 14),
-        vmeas: cell_at(words, 15),
-        cref: cell_at(words, 16),
-        rref: cell_at(words, 17),
-        vref: cell_at(words, 18),
-        voltage: triple_at(words, 19),
-        temperature: range_from(words_from(words, 22)),
-        pulldown: table_at(words, 26),
-        pullup: table_at(words, 29),
-        ground: table_at(words, 32),
-        power: table_at(words, 35),
-        ramp: ramp_from(words_from(words, 38)),
-        waveforms: span_at(words, 52),
+        split: split_from(words_from(words, 13)),
+        vinl: cell_at(words, 29),
+        vinh: cell_at(words, 30),
+        vmeas: cell_at(words, 31),
+        cref: cell_at(words, 32),
+        rref: cell_at(words, 33),
+        vref: cell_at(words, 34),
+        voltage: triple_at(words, 35),
+        temperature: range_from(words_from(words, 38)),
+        pulldown: table_at(words, 42),
+        pullup: table_at(words, 45),
+        ground: table_at(words, 48),
+        power: table_at(words, 51),
+        ramp: ramp_from(words_from(words, 54)),
+        waveforms: span_at(words, 68),
     }
 }
 

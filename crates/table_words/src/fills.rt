@@ -1,15 +1,18 @@
 // Tables as words: the records of an accepted file, made from its notes, one after the other from the front.
 ghost use mathlib.Core.Path.{_≡_};
 ghost use Prim.Native.Nat.{_+_, _*_, _≤_};
+ghost use mathlib.Core.List.{_++_};
 ghost use lib.ListN.{length};
 ghost use lib.Seq.{sets};
 ghost use Rattle.records.specs.Stored.{over};
 ghost use Rattle.from_notes.specs.Made.{componentAt, pinAt, selectorAt, choiceAt, modelAt, waveformAt};
-ghost use Rattle.record_words.specs.Records.{componentWords, pinWords, selectorWords, choiceWords, modelWords, waveformWords, componentSize, pinSize, selectorSize, choiceSize, modelSize, waveformSize};
+ghost use Rattle.record_words.specs.Records.{componentWords, pinWords, selectorWords, choiceWords, modelFirst, modelSplit, modelLevels, modelWords, waveformWords, componentSize, pinSize, selectorSize, choiceSize, modelSize, waveformSize};
 ghost use Rattle.table_words.specs.Packed.{wordsTo};
 use record_words::CHOICE_WORDS;
 use record_words::COMPONENT_WORDS;
 use record_words::MODEL_FIRST_WORDS;
+use record_words::MODEL_LINES_WORDS;
+use record_words::MODEL_SPLIT_WORDS;
 use record_words::MODEL_TABLES_WORDS;
 use record_words::MODEL_WORDS;
 use record_words::PIN_WORDS;
@@ -18,15 +21,19 @@ use record_words::WAVEFORM_WORDS;
 use record_words::tables::choice_words;
 use record_words::tables::component_words;
 use record_words::tables::model_first;
+use record_words::tables::model_levels;
 use record_words::tables::model_ramp;
+use record_words::tables::model_split;
 use record_words::tables::model_tables;
 use record_words::tables::pin_words;
 use record_words::tables::selector_words;
 use record_words::tables::waveform_words;
 use records::Model;
 
-// Where the words of a model's ramp begin.
-const RAMP_FROM: usize = MODEL_FIRST_WORDS + MODEL_TABLES_WORDS;
+// Where a model's numbers and its ramp begin.
+const LEVELS_FROM: usize = MODEL_FIRST_WORDS + MODEL_SPLIT_WORDS;
+
+const RAMP_FROM: usize = MODEL_LINES_WORDS + MODEL_TABLES_WORDS;
 
 pub(crate) fn put(out: &mut [u64], at: usize, words: &[u64])
     requires { ⌜ at + length (now words) ≤ length (now out) ⌝ }
@@ -91,15 +98,27 @@ pub(crate) fn fill_choices(out: &mut [u64], src: &[u8], notes: &[u32], n: usize)
     }
 }
 
+// A model's lines before its tables.
+fn put_model_lines(out: &mut [u64], at: usize, m: Model)
+    requires { ⌜ at + modelSize ≤ length (now out) ⌝ }
+    ensures { λ _. ⌜ now (out .exit) ≡ sets (now (out .entry)) at (modelFirst m ++ modelSplit m ++ modelLevels m) ⌝ }
+{
+    let first = model_first(m);
+    let split = model_split(m);
+    let levels = model_levels(m);
+    put(out, at, &first);
+    put(out, at + MODEL_FIRST_WORDS, &split);
+    put(out, at + LEVELS_FROM, &levels);
+}
+
 fn put_model(out: &mut [u64], at: usize, m: Model)
     requires { ⌜ at + modelSize ≤ length (now out) ⌝ }
     ensures { λ _. ⌜ now (out .exit) ≡ sets (now (out .entry)) at (modelWords m) ⌝ }
 {
-    let first = model_first(m);
     let tables = model_tables(m);
     let ramp = model_ramp(m);
-    put(out, at, &first);
-    put(out, at + MODEL_FIRST_WORDS, &tables);
+    put_model_lines(out, at, m);
+    put(out, at + MODEL_LINES_WORDS, &tables);
     put(out, at + RAMP_FROM, &ramp);
 }
 

@@ -1,9 +1,10 @@
 -- What counts and what does not, by computing: files that differ in the order of two tables say the same, though their rows lie elsewhere; files that
--- differ in one digit do not; files that differ in all else that is not kept have equal tables, so they say the same by `kept`.
+-- differ in one digit do not, nor do an absent part of C_comp and one of zero; files that differ in all else that is not kept have equal tables, so they say the same by `kept`.
 use Prim.Native.Nat.{ℕ}
 use Prim.Native.String.{String, _++_ as _++ˢ_}
 use mathlib.Core.Path.{_≡_, refl, ap}
 use mathlib.Core.List.{List, [], _∷_}
+use mathlib.Core.Bool.{cond}
 use mathlib.Core.Option.{Option, none, some}
 use native.Mathlib.Omega.{arith}
 use lib.ListN.{drop}
@@ -27,10 +28,14 @@ use Rattle.tables_say.proofs.Kept.{kept}
 
 -- ---- the files
 
+-- a model with these lines behind C_comp, and these tables
+abbrev withLines : String → String → String
+withLines lines tables =
+    "[IBIS Ver] 5.0\n[File Name] lk.ibs\n[File Rev] 1\n[Component] LK1\n[Manufacturer] House\n[Package]\nR_pkg 1 NA NA\nL_pkg 1 NA NA\nC_pkg 1 NA NA\n[Pin] signal_name model_name\n1 DOOR end\n[Model] end\nModel_type Terminator\nC_comp 5pF NA NA\n"
+    ++ˢ lines ++ˢ "[Voltage Range] 3.3 NA NA\n" ++ˢ tables ++ˢ "[End]\n"
+
 abbrev withTables : String → String
-withTables tables =
-    "[IBIS Ver] 5.0\n[File Name] lk.ibs\n[File Rev] 1\n[Component] LK1\n[Manufacturer] House\n[Package]\nR_pkg 1 NA NA\nL_pkg 1 NA NA\nC_pkg 1 NA NA\n[Pin] signal_name model_name\n1 DOOR end\n[Model] end\nModel_type Terminator\nC_comp 5pF NA NA\n[Voltage Range] 3.3 NA NA\n"
-    ++ˢ tables ++ˢ "[End]\n"
+withTables tables = withLines "" tables
 
 abbrev down : String
 down = "[Pulldown]\n-1 -50mA NA NA\n0 0 NA NA\n5 60mA NA NA\n"
@@ -51,6 +56,9 @@ otherDigit = withTables (down ++ˢ "[Pullup]\n-1 40mA NA NA\n5 -71mA NA NA\n")
 abbrev plainly : String
 plainly = withTables up
 
+abbrev zeroPullup : String
+zeroPullup = withLines "C_comp_pullup 0 NA NA\n" up
+
 abbrev oddly : String
 oddly =
     "[ibis_ver] 5.0 | here it begins\n[File Rev]  1\n[Notes] none\nof these count\n[File Name] lk.ibs\n[COMPONENT] LK1\n[Pin] signal_name model_name R_pin L_pin C_pin\n1 DOOR end\n[Package]\nC_pkg 1e0 na NA\nL_pkg 1.0 NA NA\nR_pkg 1 NA NA\n[Manufacturer] House\n"
@@ -59,9 +67,9 @@ oddly =
 abbrev Passes : String → Type 0
 Passes s = verdict (outcome atBounds (bytes s)) ≡ Accepted
 
-pub all-accepted : Passes downFirst × Passes upFirst × Passes otherDigit × Passes plainly × Passes oddly
+pub all-accepted : Passes downFirst × Passes upFirst × Passes otherDigit × Passes plainly × Passes zeroPullup × Passes oddly
 unfolding computing
-all-accepted = (refl, refl, refl, refl, refl)
+all-accepted = (refl, refl, refl, refl, refl, refl)
 
 abbrev read : String → FileIs
 read s = fileIn (textsOf (bytes s))
@@ -126,6 +134,16 @@ digit-counts h =
     let x = tableOf (tablesIn (textsOfSection 12 downFirst)) "pullup" in
     let y = tableOf (tablesIn (textsOfSection 12 otherDigit)) "pullup" in
     let f : _≡_ {A = ℕ} 7 71 = ap secondTyp {x = x} {y = y} (h .sections .1 .0 .pullup) in
+    omega arith
+
+-- ---- a part of C_comp that is zero is not absent
+
+pub zero-is-given : SaysTheSame (read plainly) (read zeroPullup) → ⊥
+unfolding computing
+zero-is-given h =
+    let x = modelIn 0 noTable nowhere (bytes "end") (textsOfSection 12 plainly) in
+    let y = modelIn 0 noTable nowhere (bytes "end") (textsOfSection 12 zeroPullup) in
+    let f : _≡_ {A = ℕ} 0 1 = ap (λ (m : Model). cond (m .split .pullup .given) 1 0) {x = x} {y = y} (h .sections .1 .0 .model) in
     omega arith
 
 -- ---- all else that is not kept does not count

@@ -110,6 +110,7 @@ bare m =
       polarity = m .polarity;
       enable = m .enable;
       comp = m .comp;
+      split = m .split;
       vinl = m .vinl;
       vinh = m .vinh;
       vmeas = m .vmeas;

@@ -4,8 +4,8 @@ use mathlib.Core.Path.{ap, _∙_}
 use borrow.Author.Needs.{needs}
 use Rattle.records.specs.declared.Answer.{Answer}
 use Rattle.table_words.specs.Packed.{faultNumber, answerWords}
-use Rattle.olhovest.proofs.olhovest_read.Statement.{statement}
-use Rattle.olhovest.proofs.olhovest_read.Tie as tie
+use Rattle.olhovest.proofs.olhovest_read_2.Statement.{statement}
+use Rattle.olhovest.proofs.olhovest_read_2.Tie as tie
 
 read-requires : tie.Need-read-requires
 read-requires c κs = tt
@@ -46,8 +46,8 @@ returns c =
       tables = r .tables;
     }
 
-pub olhovest-read-spec : {M : Type 1} → statement M
-olhovest-read-spec =
+pub olhovest-read-2-spec : {M : Type 1} → statement M
+olhovest-read-2-spec =
     tie.close
     (tie.spec
     read-requires

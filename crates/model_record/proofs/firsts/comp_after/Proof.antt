@@ -1,42 +1,16 @@
--- Another line, what the line says, or a fault.
-use mathlib.Core.Path.{sym, ap, _∙_}
-use borrow.Author.Tests.{eq-eqb, ne-eqb}
+-- The cells of a group that was given before.
+use mathlib.Core.Path.{ap, _∙_}
 use denote.Ref.{now}
-use borrow.Author.Needs.{needs}
-use Rattle.laws.proofs.Tests.{cond-yes, cond-no}
-use Rattle.laws.specs.Said.{orElse}
-use Rattle.line_rules.specs.Answers.{tripleSays}
-use Rattle.line_rules.proofs.Answers.{triple-said}
-use Rattle.line_rules.specs.Fields.{cellsLine}
+use Rattle.records.specs.declared.Range.{Range}
+use Rattle.model_record.proofs.FirstLaws.{group-cells}
 use Rattle.model_record.proofs.firsts.comp_after.Statement.{statement}
 use Rattle.model_record.proofs.firsts.comp_after.Tie as tie
 
+group-after-requires : tie.Need-group-after-requires
+group-after-requires c κs = tt
+
 returns : tie.Need-returns
-returns c = sym (cond-no _ _ (ne-eqb _ _ (c .if1 .taken)))
-
-cells-line-requires : tie.Need-cells-line-requires
-cells-line-requires c κs = tt
-
-enum-known-cells : tie.Need-enum-known-cells
-enum-known-cells c = search needs
-
-enum-told : tie.Need-enum-told
-enum-told c = search needs
-
-returns-2 : tie.Need-returns-2
-returns-2 c =
-    let w = now (c .before .before .before .before .before .before .args .w) in
-    let before = c .before .before .before .before .before .before .args .before in
-    ap (λ r. orElse before (tripleSays r)) (sym (c .before .cells .given .1)) ∙ ap (orElse before) (triple-said _ (cellsLine w) (c .before .before .before .cells-line .ensures))
-    ∙ sym (cond-yes _ _ (eq-eqb _ _ (c .before .before .before .before .if1 .left)))
-
-returns-3 : tie.Need-returns-3
-returns-3 c =
-    let w = now (c .before .before .before .before .before .args .w) in
-    let before = c .before .before .before .before .before .args .before in
-    ap (λ r. orElse before (tripleSays r)) (sym (c .enum-told .given .1)) ∙ ap (orElse before) (triple-said _ (cellsLine w) (c .before .before .cells-line .ensures))
-    ∙ sym (cond-yes _ _ (eq-eqb _ _ (c .before .before .before .if1 .left)))
+returns c = ap (λ (r : Range). r .cells) (c .before .group-after .ensures) ∙ group-cells 3 (c .before .before .before .args .n) (c .before .before .before .args .before) (now (c .before .before .before .args .w))
 
 pub comp-after-spec : {M : Type 1} → statement M
-comp-after-spec =
-    tie.close (tie.spec returns cells-line-requires enum-known-cells enum-told returns-2 returns-3)
+comp-after-spec = tie.close (tie.spec group-after-requires returns)

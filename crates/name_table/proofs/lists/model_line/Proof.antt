@@ -10,11 +10,11 @@ use Rattle.name_table.proofs.Laws.{name-past, at-place}
 use Rattle.name_table.proofs.lists.model_line.Statement.{statement}
 use Rattle.name_table.proofs.lists.model_line.Tie as tie
 
-past : tie.Need-returns-11
+past : tie.Need-returns-15
 unfolding words grown ontoWord isBlank bytesFrom listedName
 past c =
     let k = c .before .args .k in
-    name-past ModelLines k (apart-le 10 k (c .match .rest))
+    name-past ModelLines k (apart-le 14 k (c .match .rest))
 
 pub model-line-spec : {M : Type 1} → statement M
 unfolding words grown ontoWord isBlank word byteIn bytesFrom listedName
@@ -31,4 +31,8 @@ model-line-spec =
     (λ c. at-place ModelLines (c .match .keys8) refl)
     (λ c. at-place ModelLines (c .match .keys9) refl)
     (λ c. at-place ModelLines (c .match .keys10) refl)
+    (λ c. at-place ModelLines (c .match .keys11) refl)
+    (λ c. at-place ModelLines (c .match .keys12) refl)
+    (λ c. at-place ModelLines (c .match .keys13) refl)
+    (λ c. at-place ModelLines (c .match .keys14) refl)
     past)

@@ -1,7 +1,7 @@
 -- The place that was found.
 use Prim.Native.Nat.{_-_}
-use Rattle.olhovest.proofs.asked.olhovest_find_model.Statement.{statement}
-use Rattle.olhovest.proofs.asked.olhovest_find_model.Tie as tie
+use Rattle.olhovest.proofs.asked.olhovest_find_model_2.Statement.{statement}
+use Rattle.olhovest.proofs.asked.olhovest_find_model_2.Tie as tie
 
 model-named-requires : tie.Need-model-named-requires
 model-named-requires c κs = tt
@@ -12,5 +12,5 @@ place-number-requires c κs = tt
 returns : tie.Need-returns
 returns c = cc
 
-pub olhovest-find-model-spec : {M : Type 1} → statement M
-olhovest-find-model-spec = tie.close (tie.spec model-named-requires place-number-requires returns)
+pub olhovest-find-model-2-spec : {M : Type 1} → statement M
+olhovest-find-model-2-spec = tie.close (tie.spec model-named-requires place-number-requires returns)

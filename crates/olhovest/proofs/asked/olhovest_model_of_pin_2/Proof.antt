@@ -1,7 +1,7 @@
 -- The place that was found.
 use Prim.Native.Nat.{_-_}
-use Rattle.olhovest.proofs.asked.olhovest_model_of_pin.Statement.{statement}
-use Rattle.olhovest.proofs.asked.olhovest_model_of_pin.Tie as tie
+use Rattle.olhovest.proofs.asked.olhovest_model_of_pin_2.Statement.{statement}
+use Rattle.olhovest.proofs.asked.olhovest_model_of_pin_2.Tie as tie
 
 model-of-pin-requires : tie.Need-model-of-pin-requires
 model-of-pin-requires c κs = tt
@@ -12,6 +12,6 @@ place-number-requires c κs = tt
 returns : tie.Need-returns
 returns c = cc
 
-pub olhovest-model-of-pin-spec : {M : Type 1} → statement M
-olhovest-model-of-pin-spec =
+pub olhovest-model-of-pin-2-spec : {M : Type 1} → statement M
+olhovest-model-of-pin-2-spec =
     tie.close (tie.spec model-of-pin-requires place-number-requires returns)

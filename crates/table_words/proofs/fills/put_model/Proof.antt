@@ -1,26 +1,27 @@
--- In three parts.
+-- Its lines, then its tables and its ramp.
 use mathlib.Core.Path.{refl}
+use mathlib.Core.List.{_++_}
 use borrow.Author.Needs.{needs}
 use denote.Ref.{now}
-use Rattle.record_words.specs.Records.{modelFirst, modelTables, modelRamp}
+use Rattle.record_words.specs.Records.{modelFirst, modelSplit, modelLevels, modelTables, modelRamp}
 use Rattle.table_words.proofs.Laws.{sets-three}
 use Rattle.table_words.proofs.fills.put_model.Statement.{statement}
 use Rattle.table_words.proofs.fills.put_model.Tie as tie
 use Rattle.table_words.proofs.fills.put_model.Reads as reads
 use Rattle.table_words.proofs.fills.put_model.Lts as lts
 use Rattle.table_words.proofs.fills.put.Reads as put-reads
-use Rattle.record_words.proofs.tables.model_first.Reads as model-first-reads
+use Rattle.table_words.proofs.fills.put_model_lines.Reads as put-model-lines-reads
 use Rattle.record_words.proofs.tables.model_ramp.Reads as model-ramp-reads
 use Rattle.record_words.proofs.tables.model_tables.Reads as model-tables-reads
-
-model-first-requires : tie.Need-model-first-requires
-model-first-requires c κs = tt
 
 model-tables-requires : tie.Need-model-tables-requires
 model-tables-requires c κs = tt
 
 model-ramp-requires : tie.Need-model-ramp-requires
 model-ramp-requires c κs = tt
+
+put-model-lines-requires : tie.Need-put-model-lines-requires
+put-model-lines-requires c κs = search needs
 
 slice-aggregate-put : tie.Need-slice-aggregate-put
 slice-aggregate-put c = search needs
@@ -40,32 +41,31 @@ put-requires-2 c κs = search needs
 add-put-2 : tie.Need-add-put-2
 add-put-2 c = search needs
 
-slice-aggregate-put-3 : tie.Need-slice-aggregate-put-3
-slice-aggregate-put-3 c = search needs
-
-put-requires-3 : tie.Need-put-requires-3
-put-requires-3 c κs = search needs
-
 same-length : tie.Need-same-length
 same-length c = search needs
 
 returns : tie.Need-returns
-returns c = let m = c .before .before .before .before .before .before .before .before .before .before .before .before .before .before .before .before .before .before .before .args .m in sets-three (now (c .before .before .before .before .before .before .before .before .before .before .before .before .before .before .before .before .before .before .before .args .out)) (c .before .before .before .before .before .before .before .before .before .before .before .before .put .last .0) (c .before .before .before .before .before .before .before .put2 .last .0) (c .before .before .put3 .last .0) (c .before .before .before .before .before .before .before .before .before .before .before .before .before .before .before .before .before .model-first .result) (c .before .before .before .before .before .before .before .before .before .before .before .before .before .before .before .before .model-tables .result) (c .before .before .before .before .before .before .before .before .before .before .before .before .before .before .before .model-ramp .result) (modelFirst m) (modelTables m) (modelRamp m) (c .before .before .before .before .before .before .before .before .before .before .before .before .before .before .before .before .before .before .before .args .at) 19 38 (c .before .before .before .before .before .before .before .before .before .before .before .before .put .ensures) (c .before .before .before .before .before .before .before .put2 .ensures) (c .before .before .put3 .ensures) (c .before .before .before .before .before .before .before .before .before .before .before .before .before .before .before .before .before .model-first .ensures) (c .before .before .before .before .before .before .before .before .before .before .before .before .before .before .before .before .model-tables .ensures) (c .before .before .before .before .before .before .before .before .before .before .before .before .before .before .before .model-ramp .ensures) refl refl
+returns c =
+    let m = c .before .before .before .before .before .before .before .before .before .before .before .before .before .before .before .before .before .args .m in
+    let lines = modelFirst m ++ modelSplit m ++ modelLevels m in
+    sets-three (now (c .before .before .before .before .before .before .before .before .before .before .before .before .before .before .before .before .before .args .out)) (c .before .before .before .before .before .before .before .before .before .before .before .before .put-model-lines .last .0) (c .before .before .before .before .before .before .before .put .last .0) (c .before .before .put2 .last .0)
+    lines (c .before .before .before .before .before .before .before .before .before .before .before .before .before .before .before .model-tables .result) (c .before .before .before .before .before .before .before .before .before .before .before .before .before .before .model-ramp .result) lines (modelTables m) (modelRamp m)
+    (c .before .before .before .before .before .before .before .before .before .before .before .before .before .before .before .before .before .args .at) 42 54
+    (c .before .before .before .before .before .before .before .before .before .before .before .before .put-model-lines .ensures) (c .before .before .before .before .before .before .before .put .ensures) (c .before .before .put2 .ensures)
+    refl (c .before .before .before .before .before .before .before .before .before .before .before .before .before .before .before .model-tables .ensures) (c .before .before .before .before .before .before .before .before .before .before .before .before .before .before .model-ramp .ensures) refl refl
 
 pub put-model-spec : {M : Type 1} → statement M
 put-model-spec =
     tie.close
     (tie.spec
-    model-first-requires
     model-tables-requires
     model-ramp-requires
+    put-model-lines-requires
+    add-put
     slice-aggregate-put
     put-requires
-    add-put
+    add-put-2
     slice-aggregate-put-2
     put-requires-2
-    add-put-2
-    slice-aggregate-put-3
-    put-requires-3
     same-length
     returns)
