@@ -1,5 +1,5 @@
 #!/usr/bin/env bash
-# What explain tells of document 01's example and of a file for every fault, held to the verdict of dump, the file's own line and the listing.
+# What explain tells of document 01's example and of a file for every fault, held to the verdict of dump, the file's own line, the listing and the values of dump.
 # shellcheck disable=SC2016,SC2094
 set -u
 cd "$(dirname "$0")/.." || exit 2
@@ -40,13 +40,25 @@ refused() {
     [ "$lines" -eq 2 ] || hold "source line of $1" "$(source_line "$1" "$3")" "$(sed -n 2p <<<"$told")"
 }
 
-# accepted FILE: the first line, and each pin as the listing has it
+# capacitances FILE: of each model its name and its five typ values in picofarads, from what dump tells in farads; a power of ten is added to
+# and nothing multiplied, so that equal decimals stay equal
+capacitances() {
+    programs/run dump <"$1" | awk '
+        function picofarads(cell, parts) { return split(cell, parts, "e") < 2 ? cell : sprintf("%.17g", parts[1] "e" parts[2] + 12) }
+        $1 == "MODEL" { printf "%s", $3 }
+        /^C_COMP/ { printf " %s", picofarads($2) }
+        $1 == "C_COMP_GND_CLAMP" { print "" }'
+}
+
+# accepted FILE: the first line, each pin as the listing has it, and each model's capacitances as dump has them
 accepted() {
-    local told
+    local told title='die capacitance, typ (pF)'
     told=$(programs/run explain "$1" <"$1")
     hold "first line of $1" "$1: accepted" "$(head -n 1 <<<"$told")"
     hold "pins of $1" "$(programs/run listing <"$1" | awk '$1 == "P" { print $2, $3, $4, ($5 == "NA" ? "-" : $5 + 0), ($6 == "NA" ? "-" : $6 + 0) }')" \
-        "$(awk '/^  / && $NF != "(V)" { print $1, $2, $3, ($5 == "-" ? "-" : $5 + 0), ($6 == "-" ? "-" : $6 + 0) }' <<<"$told")"
+        "$(sed "/^$title\$/,\$d" <<<"$told" | awk '/^  / && $NF != "(V)" { print $1, $2, $3, ($5 == "-" ? "-" : $5 + 0), ($6 == "-" ? "-" : $6 + 0) }')"
+    hold "capacitances of $1" "$(capacitances "$1")" \
+        "$(sed "1,/^$title\$/d" <<<"$told" | awk 'NR > 1 { for (i = 2; i <= NF; i++) $i = $i == "-" ? "-" : sprintf("%.17g", $i); print }')"
 }
 
 # compare FILE: by the verdict of dump
@@ -86,6 +98,10 @@ damage 17 "/2 VSS/a $(printf 'p%s S NC\\n' {1..512})"
 damage 19 /End/d
 damage 20 '/Model_type/a Vinl = 2'
 damage 21 's/Package/Packages/'
+damage structures '/C_comp/a C_comp_pullup 2pF NA NA\nC_comp_pulldown -1.5pF NA NA\nC_comp_power_clamp 0 NA NA\nC_comp_gnd_clamp 0.25fF NA NA'
+damage clamp '/C_comp/i C_comp_power_clamp 1.25nF 2 -3'
+damage extremes 's/in1/the_widest_of_all_names/; s/C_comp 5pF/C_comp -123456789012345e24/; /C_comp/i C_comp_gnd_clamp 1e-40 NA NA'
+damage bare 's/DOOR in1/DOOR NC/; /\[Model]/,/Voltage/d'
 damage selector 's/DOOR in1/DOOR choice/; /\[Model]/i [Model Selector] choice\nin1 the only one'
 damage carriage 's/$/\r/; s/DOOR/GNDX/'
 damage middle 's/DOOR/DO\rOR/'

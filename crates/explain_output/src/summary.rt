@@ -1,4 +1,5 @@
-// The summary of an accepted file on standard output: the file, and each component with its pins in columns as wide as their names.
+// The summary of an accepted file on standard output: the file, each component with its pins in columns as wide as their names, and the die
+// capacitance of each model.
 ghost use mathlib.Core.Bool.{cond};
 ghost use mathlib.Core.Path.{_≡_};
 ghost use lib.Dec.{ltb};
@@ -131,7 +132,21 @@ fn put_components(
     next
 }
 
-// The components in tables that hold no other records than those in use.
+// ---- models and their die capacitance
+
+fn put_capacitances(out: &mut [u8], at: usize, width: usize, models: &[u64]) -> usize {
+    let n = records_in(models, MODEL_WORDS);
+    let mut next = explain_text::put_capacitance_heading(out, at, width);
+    for i in 0..n {
+        let line = explain_text::put_capacitances(out, next, width, model_in(models, i));
+        next = flushed(out, line);
+    }
+    next
+}
+
+// ---- all of it
+
+// The components and the models in tables that hold no other records than those in use.
 fn put_tables(
     out: &mut [u8],
     at: usize,
@@ -141,8 +156,13 @@ fn put_tables(
     choices: &[u64],
     models: &[u64],
 ) -> usize {
-    let w = widths_of(pins, model_width(models));
-    put_components(out, at, w, components, pins, selectors, choices, models)
+    let width = model_width(models);
+    let w = widths_of(pins, width);
+    let last = put_components(out, at, w, components, pins, selectors, choices, models);
+    if models.len() == 0 {
+        return last;
+    }
+    put_capacitances(out, last, width, models)
 }
 
 // The summary of an accepted file.

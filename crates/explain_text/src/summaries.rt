@@ -69,7 +69,7 @@ fn less(a: usize, b: usize) -> usize
 }
 
 // What fills a column whose text was put from start up to at.
-fn put_gap(out: &mut [u8], at: usize, start: usize, width: usize) -> usize
+pub(crate) fn put_gap(out: &mut [u8], at: usize, start: usize, width: usize) -> usize
     ensures { λ r. ⌜ Put (now (out .entry)) (now (out .exit)) at (gapText width (at - start)) r ⌝ }
 {
     let count = less(at, start);
@@ -77,14 +77,14 @@ fn put_gap(out: &mut [u8], at: usize, start: usize, width: usize) -> usize
     put_bytes(out, filled, b"  ")
 }
 
-fn put_column(out: &mut [u8], at: usize, text: &[u8], width: usize) -> usize
+pub(crate) fn put_column(out: &mut [u8], at: usize, text: &[u8], width: usize) -> usize
     ensures { λ r. ⌜ Put (now (out .entry)) (now (out .exit)) at (column width (now (text .entry))) r ⌝ }
 {
     let end = put_bytes(out, at, text);
     put_gap(out, end, at, width)
 }
 
-fn put_name_column(out: &mut [u8], at: usize, name: Name, width: usize) -> usize
+pub(crate) fn put_name_column(out: &mut [u8], at: usize, name: Name, width: usize) -> usize
     ensures { λ r. ⌜ Put (now (out .entry)) (now (out .exit)) at (column width (nameText name)) r ⌝ }
 {
     let end = put_name(out, at, name);
