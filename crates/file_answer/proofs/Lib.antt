@@ -1,5 +1,6 @@
 -- Laws of what is answered.
 pub mod ScanLaws
+pub mod RowLaws
 pub mod Laws
 pub mod UpTo
 pub mod SortedLaws

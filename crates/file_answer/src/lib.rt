@@ -2,13 +2,28 @@
 use cut_lines::Cursor;
 use noted_events::Tally;
 use records::Fault;
+use rules::RowsSeen;
 use rules::Stage;
 
+pub mod rows; // rows.rt: the rows of an open table, in a loop of their own
 pub mod reading; // reading.rt: line after line, up to the first fault
 pub mod settling; // settling.rt: bytes, lines, names, last checks, one after the other
 
 pub use settling::check;
 pub use settling::outlined;
+
+// A row of the open table, and the cursor behind it.
+pub enum NextRow {
+    Row { rows: RowsSeen, next: Cursor },
+    NoRow,
+}
+
+// Behind rows of the open table: where the reading stands, and how many rows the file has up to there.
+pub struct Passed {
+    pub cursor: Cursor,
+    pub rows: RowsSeen,
+    pub count: usize,
+}
 
 // Where the reading stands.
 pub struct Standing {

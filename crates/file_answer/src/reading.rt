@@ -16,6 +16,7 @@ use crate::Ending;
 use crate::Scanned;
 use crate::Standing;
 use crate::Turn;
+use crate::rows::behind_rows;
 use cut_lines::Cursor;
 use cut_lines::Next;
 use noted_events::Spot;
@@ -142,7 +143,7 @@ pub fn scan(notes: &mut [u32], src: &[u8], l: Lengths) -> Scanned
     loop {
         match turn(notes, src, l, x) {
             Turn::On(y) => {
-                x = y;
+                x = behind_rows(src, l, y);
             }
             Turn::End(z) => {
                 return z;

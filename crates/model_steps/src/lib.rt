@@ -13,6 +13,7 @@ pub use parts::model_shut;
 pub use rows::row_step;
 pub use rows::table_fault;
 pub use state::new_model;
+pub use state::with_list;
 
 // The rows with one more, or the line's fault.
 pub enum RowStep {

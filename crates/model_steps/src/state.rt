@@ -28,7 +28,8 @@ pub fn new_model(k: u64) -> ModelState
     }
 }
 
-pub(crate) fn with_list(m: ModelState, list: ModelList) -> ModelState
+// The state with another list or table open.
+pub fn with_list(m: ModelState, list: ModelList) -> ModelState
     ensures { λ r. ⌜ r ≡ withModelList m list ⌝ }
 {
     let first = m.first;

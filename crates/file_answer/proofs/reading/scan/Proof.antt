@@ -31,19 +31,27 @@ turn-requires c κs = c .before .loop .inv .0
 enum-known-y : tie.Need-enum-known-y Inv-loop μ-loop
 enum-known-y c = search needs
 
-loop-less : tie.Need-loop-less Inv-loop μ-loop
-loop-less c =
+behind-rows-requires : tie.Need-behind-rows-requires Inv-loop μ-loop
+behind-rows-requires c κs =
     let a = c .before .before .before .before .before .before .before .before .before .before .before .before .args in
     let h = subst (TurnIs (a .l) (now (a .src)) (c .before .before .before .before .before .before .before .loop .notes) (c .before .before .before .before .before .before .before .loop .x) (c .before .before .before .before .before .turn .last .0)) (c .before .y .given .1) (c .before .before .before .before .before .turn .ensures) in
-    omega (arith, h .rises, h .placed .within)
+    record { placed = h .placed; within = h .within; rows = h .rows }
+
+loop-less : tie.Need-loop-less Inv-loop μ-loop
+loop-less c =
+    let a = c .before .before .before .before .before .before .before .before .before .before .before .before .before .args in
+    let h = subst (TurnIs (a .l) (now (a .src)) (c .before .before .before .before .before .before .before .before .loop .notes) (c .before .before .before .before .before .before .before .before .loop .x) (c .before .before .before .before .before .before .turn .last .0)) (c .before .before .y .given .1) (c .before .before .before .before .before .before .turn .ensures) in
+    let p = c .behind-rows .ensures in
+    omega (arith, h .rises, h .placed .within, p .from, p .steady .placed .within)
 
 loop-again : tie.Need-loop-again Inv-loop μ-loop
 loop-again c =
-    let a = c .before .before .before .before .before .before .before .before .before .before .before .before .args in
-    let i = c .before .before .before .before .before .before .before .loop .inv in
-    let n = c .before .before .before .before .notes .given in
-    let h = subst (TurnIs (a .l) (now (a .src)) (c .before .before .before .before .before .before .before .loop .notes) (c .before .before .before .before .before .before .before .loop .x) (c .before .before .before .before .before .turn .last .0)) (c .before .y .given .1) (c .before .before .before .before .before .turn .ensures) in
-    (record { placed = h .placed; small = i .0 .small; store = omega (arith, n, i .0 .store); within = h .within; rows = h .rows }, n ∙ i .1, i .2 ∙ h .says)
+    let a = c .before .before .before .before .before .before .before .before .before .before .before .before .before .args in
+    let i = c .before .before .before .before .before .before .before .before .loop .inv in
+    let n = c .before .before .before .before .before .notes .given in
+    let h = subst (TurnIs (a .l) (now (a .src)) (c .before .before .before .before .before .before .before .before .loop .notes) (c .before .before .before .before .before .before .before .before .loop .x) (c .before .before .before .before .before .before .turn .last .0)) (c .before .before .y .given .1) (c .before .before .before .before .before .before .turn .ensures) in
+    let p = c .behind-rows .ensures in
+    (record { placed = p .steady .placed; small = i .0 .small; store = omega (arith, n, i .0 .store); within = p .steady .within; rows = p .steady .rows }, n ∙ i .1, i .2 ∙ h .says ∙ p .says _)
 
 enum-known-z : tie.Need-enum-known-z Inv-loop μ-loop
 enum-known-z c = search needs
@@ -69,6 +77,7 @@ scan-spec =
     loop-holds
     turn-requires
     enum-known-y
+    behind-rows-requires
     loop-less
     loop-again
     enum-known-z

@@ -1,0 +1,133 @@
+-- A row's line in an open table changes the rows that were seen and the file's count of rows, and nothing else of where the reading stands.
+use Prim.Native.Nat.{ℕ, _+_, _≤_, _<_}
+use mathlib.Core.Path.{_≡_, refl, sym, ap, _∙_, subst}
+use mathlib.Core.List.{List, _∷_}
+use mathlib.Core.Bool.{Bool, true, false, cond}
+use native.Mathlib.Omega.{arith}
+use lib.Dec.{leb}
+use borrow.Author.Tests.{lt-leb}
+use Rattle.laws.specs.Said.{Said, says, fault}
+use Rattle.laws.proofs.Tests.{by-test, cond-yes, cond-no, impossible}
+use Rattle.words.specs.Words.{word, words}
+use Rattle.line_rules.specs.Fields.{isBracketed, rowOf}
+use Rattle.cut_lines.specs.Texts.{Text, plain}
+use Rattle.cut_lines.specs.Cursors.{rest, past, Placed, Goes, TextIs}
+use Rattle.cut_lines.specs.declared.Cursor.{Cursor}
+use Rattle.records.specs.declared.Lengths.{Lengths}
+use Rattle.records.specs.declared.Row as line
+use Rattle.rules.specs.Model.{withModelList, rowLine, beginsLetter, waveformLine, modelLine}
+use Rattle.rules.specs.Steps.{onPlain}
+use Rattle.rules.proofs.Lettered.{letter-no-row}
+use Rattle.given.specs.declared.Given.{Given}
+use Rattle.rules.specs.declared.RowsSeen.{RowsSeen}
+use Rattle.rules.specs.declared.ModelList.{ModelList}
+use Rattle.rules.specs.declared.ModelList.the-variants.{CurrentRows, WaveformRows}
+use Rattle.rules.specs.declared.ModelState.{ModelState}
+use Rattle.rules.specs.declared.Stage.the-variants.{InModel}
+use Rattle.rules.specs.declared.Event.the-variants.{TableRow}
+use Rattle.rules.specs.declared.Went.the-variants.{On}
+use Rattle.model_steps.specs.Rows.{rowStep, rowWent}
+use Rattle.model_steps.specs.declared.RowStep.the-variants as step
+use Rattle.model_steps.proofs.Laws.{row-line}
+use Rattle.notes.specs.Noted.{runLog}
+use Rattle.note_words.specs.Store.{logIn}
+use Rattle.noted_events.specs.Events.{logOf, Within}
+use Rattle.noted_events.specs.declared.Tally.{Tally}
+use Rattle.file_answer.specs.Scans.{runFrom}
+use Rattle.file_answer.specs.Rows.{RowIs, RowIn, BeginsWith, NextRowIs, HoldsRows, withRows, standingAt, inTable, PassedIs, Steady, PassesOn}
+use Rattle.file_answer.specs.declared.NextRow.{NextRow}
+use Rattle.file_answer.specs.declared.NextRow.the-variants.{Row, NoRow}
+use Rattle.file_answer.specs.declared.Passed.{Passed}
+use Rattle.file_answer.specs.declared.Standing.{Standing}
+
+-- ---- the tables
+
+pub current-holds : (o : ℕ) → HoldsRows (CurrentRows o)
+current-holds o m k w r y e = ap (rowLine (CurrentRows o) m r k) e
+
+pub waveform-holds : (o : ℕ) (g : Given) → HoldsRows (WaveformRows o g)
+unfolding waveformLine
+waveform-holds o g m k w r y e =
+    by-test (beginsLetter (word 0 (words w)))
+    (λ b. let z = sym (letter-no-row (words w) b) ∙ e in impossible (cc))
+    (λ b. cond-no _ _ b ∙ ap (rowLine (WaveformRows o g) m r k) e)
+
+-- ---- one row
+
+row-said : (r more : RowsSeen) (x : Said line.Row) → rowStep r x ≡ step.Next more → (y : line.Row) × (x ≡ says y)
+row-said r more (says y) h = (y, refl)
+row-said r more (fault n) h = impossible (cc)
+
+module _ (m : ModelState) (table : RowsSeen → ModelList) (holds : HoldsRows table) (w : List ℕ) (r more : RowsSeen) (n next : Cursor) (row : RowIs w r n more next) where
+  row-on : (k : ℕ) → onPlain (InModel (withModelList m (table r))) k w ≡ On (InModel (withModelList m (table more))) TableRow
+  unfolding onPlain
+  row-on k =
+      let y = row-said r more (rowOf (words w)) (row .row) in
+      cond-no _ _ (row .unbracketed)
+      ∙ holds (withModelList m (table r)) k w r (y .0) (y .1)
+      ∙ row-line table (withModelList m (table r)) r k (says (y .0))
+      ∙ ap (rowWent table (withModelList m (table r)) k) (ap (rowStep r) (sym (y .1)) ∙ row .row)
+
+  row-runs : (l : Lengths) (s xs : List ℕ) (t : Tally) (p k c : ℕ) (ts : List Text) → c < l .rows
+      → runLog l p (InModel (withModelList m (table r))) (logOf s xs (withRows t c)) (plain k w ∷ ts) ≡ runLog l p (InModel (withModelList m (table more))) (logOf s xs (withRows t (c + 1))) ts
+  unfolding runLog logIn
+  row-runs l s xs t p k c ts h = rw (row-on k) rw (lt-leb (l .rows) c h) refl
+
+-- ---- rows of a table, passed one after another
+
+module _ (l : Lengths) (s : List ℕ) (c : Cursor) (r : RowsSeen) (n : ℕ) where
+  pub passed-none : Placed s c → PassedIs l s c r n (record { cursor = c; rows = r; count = n })
+  passed-none h = record { says = λ xs m table t holds. refl; placed = h; from = omega arith; counted = omega arith }
+
+  pub passed-more : (d : Cursor) (rows : RowsSeen) (count : ℕ) (more : RowsSeen) (next : Cursor) → count < l .rows → BeginsWith s d rows more next
+      → PassedIs l s c r n (record { cursor = d; rows = rows; count = count }) → PassedIs l s c r n (record { cursor = next; rows = more; count = count + 1 })
+  passed-more d rows count more next h b p =
+      record {
+        says = λ xs m table t holds.
+            p .says xs m table t holds
+            ∙ (rw (b .texts) (row-runs m table holds (b .text) rows more next next (b .is) l s xs t (past s d) (b .line) count (rest s next) h))
+            ∙ ap (λ (e : ℕ). runLog l e (InModel (withModelList m (table more))) (logOf s xs (withRows t (count + 1))) (rest s next)) (b .goes .ends);
+        placed = b .goes .placed;
+        from = omega (arith, p .from, b .goes .rises);
+        counted = omega (arith, p .counted, b .goes .rises);
+      }
+
+-- ---- the next text, if it is a row
+
+pub begins : (s : List ℕ) (c : Cursor) (k a e : ℕ) (n : Cursor) (w : List ℕ) (r : RowsSeen) (x : NextRow) → TextIs s c k a e n → rest s c ≡ plain k w ∷ rest s n → RowIn w r n x → NextRowIs s c r x
+begins s c k a e n w r (Row more next) h texts row =
+    let b : n ≡ next = sym (row .behind) in
+    record {
+      line = k;
+      text = w;
+      texts = subst (λ (x : Cursor). rest s c ≡ plain k w ∷ rest s x) b texts;
+      goes = subst (Goes s c) b (h .goes);
+      is = record { unbracketed = row .unbracketed; row = row .row; behind = refl };
+    }
+begins s c k a e n w r NoRow h texts row = tt
+
+-- ---- where the reading stands
+
+steady-behind : (l : Lengths) (s : List ℕ) (x : Standing) (m : ModelState) (list : ModelList) (r : RowsSeen) (p : Passed) → Steady s x → PassedIs l s (x .cursor) r (x .tally .counts .rows) p
+    → Steady s (standingAt m list (x .tally) p)
+steady-behind l s x m list r p h q =
+    record {
+      placed = q .placed;
+      within = record { names = h .within .names; components = h .within .components; pins = h .within .pins; selectors = h .within .selectors; choices = h .within .choices; models = h .within .models; waveforms = h .within .waveforms };
+      rows = omega (arith, q .counted, h .rows);
+    }
+
+pub passes-table : (l : Lengths) (s : List ℕ) (x y : Standing) (m : ModelState) (table : RowsSeen → ModelList) (r : RowsSeen) (p : Passed) → HoldsRows table → x .stage ≡ InModel m → m .list ≡ table r
+    → Steady s x → PassedIs l s (x .cursor) r (x .tally .counts .rows) p → y ≡ standingAt m (table (p .rows)) (x .tally) p → PassesOn l s x y
+passes-table l s x y m table r p holds stage list h q e =
+    let here : x ≡ inTable m table (x .tally) (record { cursor = x .cursor; rows = r; count = x .tally .counts .rows }) =
+    (rw (sym list) rw (sym stage) refl) in
+    subst (PassesOn l s x) (sym e)
+    (record {
+      says = λ xs. ap (runFrom l s xs) here ∙ q .says xs m table (x .tally) holds;
+      steady = steady-behind l s x m (table (p .rows)) r p h q;
+      from = q .from;
+    })
+
+pub passes-none : (l : Lengths) (s : List ℕ) (x : Standing) → Steady s x → PassesOn l s x x
+passes-none l s x h = record { says = λ xs. refl; steady = h; from = omega arith }

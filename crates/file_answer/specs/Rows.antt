@@ -1,0 +1,88 @@
+-- The rows of an open table, passed one after another, as the code answers it.
+use Prim.Native.Nat.{ℕ, _+_, _≤_}
+use mathlib.Core.Path.{_≡_}
+use mathlib.Core.List.{List, _∷_}
+use mathlib.Core.Bool.{false}
+use Rattle.laws.specs.Said.{says}
+use Rattle.words.specs.Words.{words}
+use Rattle.line_rules.specs.Fields.{isBracketed, rowOf}
+use Rattle.cut_lines.specs.Texts.{plain}
+use Rattle.cut_lines.specs.Cursors.{rest, Placed, Goes}
+use Rattle.cut_lines.specs.declared.Cursor.{Cursor}
+use Rattle.records.specs.declared.Lengths.{Lengths}
+use Rattle.records.specs.declared.Row as line
+use Rattle.rules.specs.Model.{withModelList, rowLine, modelLine}
+use Rattle.rules.specs.declared.RowsSeen.{RowsSeen}
+use Rattle.rules.specs.declared.ModelList.{ModelList}
+use Rattle.rules.specs.declared.ModelState.{ModelState}
+use Rattle.rules.specs.declared.Stage.the-variants.{InModel}
+use Rattle.model_steps.specs.Rows.{rowStep}
+use Rattle.model_steps.specs.declared.RowStep.the-variants as step
+use Rattle.noted_events.specs.Events.{Within}
+use Rattle.noted_events.specs.declared.Tally.{Tally}
+use Rattle.file_answer.specs.Scans.{runFrom}
+use Rattle.file_answer.specs.declared.NextRow.{NextRow}
+use Rattle.file_answer.specs.declared.NextRow.the-variants.{Row, NoRow}
+use Rattle.file_answer.specs.declared.Passed.{Passed}
+use Rattle.file_answer.specs.declared.Standing.{Standing}
+
+-- ---- one row
+
+-- w is a row after r; n stands behind it
+pub record RowIs (w : List ℕ) (r : RowsSeen) (n : Cursor) (more : RowsSeen) (next : Cursor) : Type 0 where
+  pub unbracketed : isBracketed w ≡ false
+  pub row : rowStep r (rowOf (words w)) ≡ step.Next more
+  pub behind : next ≡ n
+
+abbrev pub RowIn : List ℕ → RowsSeen → Cursor → NextRow → Type 0
+RowIn w r n (Row more next) = RowIs w r n more next
+RowIn w r n NoRow = Unit {0}
+
+-- the texts from c on begin with a row
+pub record BeginsWith (s : List ℕ) (c : Cursor) (r more : RowsSeen) (next : Cursor) : Type 0 where
+  pub line : ℕ
+  pub text : List ℕ
+  pub texts : rest s c ≡ plain line text ∷ rest s next
+  pub goes : Goes s c next
+  pub is : RowIs text r next more next
+
+abbrev pub NextRowIs : List ℕ → Cursor → RowsSeen → NextRow → Type 0
+NextRowIs s c r (Row more next) = BeginsWith s c r more next
+NextRowIs s c r NoRow = Unit {0}
+
+-- ---- rows of a table
+
+-- the list of a model's state whose lines are rows
+abbrev pub HoldsRows : (RowsSeen → ModelList) → Type 0
+HoldsRows table = (m : ModelState) (k : ℕ) (w : List ℕ) (r : RowsSeen) (y : line.Row) → rowOf (words w) ≡ says y → modelLine m k w (table r) ≡ rowLine table m r k (says y)
+
+-- with n rows in the file
+abbrev pub withRows : Tally → ℕ → Tally
+withRows t n =
+    record { names = t .names; counts = record { components = t .counts .components; pins = t .counts .pins; selectors = t .counts .selectors; choices = t .counts .choices; models = t .counts .models; waveforms = t .counts .waveforms; rows = n } }
+
+abbrev pub standingAt : ModelState → ModelList → Tally → Passed → Standing
+standingAt m list t p = record { stage = InModel (withModelList m list); cursor = p .cursor; tally = withRows t (p .count) }
+
+abbrev pub inTable : ModelState → (RowsSeen → ModelList) → Tally → Passed → Standing
+inTable m table t p = standingAt m (table (p .rows)) t p
+
+-- from behind the rows the lines say what they say from before them, in whatever table; every row has a byte
+pub record PassedIs (l : Lengths) (s : List ℕ) (c : Cursor) (r : RowsSeen) (n : ℕ) (p : Passed) : Type 0 where
+  pub says : (xs : List ℕ) (m : ModelState) (table : RowsSeen → ModelList) (t : Tally) → HoldsRows table
+      → runFrom l s xs (inTable m table t (record { cursor = c; rows = r; count = n })) ≡ runFrom l s xs (inTable m table t p)
+  pub placed : Placed s (p .cursor)
+  pub from : c .at ≤ p .cursor .at
+  pub counted : p .count + c .at ≤ n + p .cursor .at
+
+-- ---- where the reading stands
+
+pub record Steady (s : List ℕ) (x : Standing) : Type 0 where
+  pub placed : Placed s (x .cursor)
+  pub within : Within (x .tally)
+  pub rows : x .tally .counts .rows ≤ x .cursor .at
+
+pub record PassesOn (l : Lengths) (s : List ℕ) (x y : Standing) : Type 0 where
+  pub says : (xs : List ℕ) → runFrom l s xs x ≡ runFrom l s xs y
+  pub steady : Steady s y
+  pub from : x .cursor .at ≤ y .cursor .at
