@@ -35,7 +35,7 @@ eightAt b i = fourAt b i + 4294967296 * fourAt b (i + 4)
 
 abbrev pub eightsAt : List ℕ → ℕ → List ℕ
 eightsAt b i =
-    eightAt b i ∷ eightAt b (i + 8) ∷ eightAt b (i + 16) ∷ eightAt b (i + 24) ∷ eightAt b (i + 32) ∷ eightAt b (i + 40) ∷ eightAt b (i + 48) ∷ eightAt b (i + 56) ∷ []
+    eightAt b i ∷ eightAt b (i + 8) ∷ eightAt b (i + 16) ∷ eightAt b (i + 24) ∷ eightAt b (i + 32) ∷ []
 
 -- ---- a number for each case
 

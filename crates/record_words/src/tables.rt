@@ -57,24 +57,25 @@ pub fn text_words(t: Words) -> [u64; TEXT_WORDS]
     ensures { λ r. ⌜ r ≡ textWords t ⌝ }
 {
     let b = t.bytes;
-    let v = eights_at(&b, 0);
-    let w = eights_at(&b, 64);
+    let u = eights_at(&b, 0);
+    let v = eights_at(&b, 40);
+    let w = eights_at(&b, 80);
     [
+        u[0],
+        u[1],
+        u[2],
+        u[3],
+        u[4],
         v[0],
         v[1],
         v[2],
         v[3],
         v[4],
-        v[5],
-        v[6],
-        v[7],
         w[0],
         w[1],
         w[2],
         w[3],
         w[4],
-        w[5],
-        w[6],
         t.len as u64,
     ]
 }

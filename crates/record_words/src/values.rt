@@ -1,7 +1,7 @@
 // Values as words: bytes eight to a word, cells, and a number for each case of an enum.
 ghost use mathlib.Core.Path.{_≡_};
 ghost use Prim.Native.Nat.{_+_, _*_, _≤_, _<_};
-ghost use lib.ListN.{getD};
+ghost use lib.ListN.{length, getD};
 ghost use Rattle.record_words.specs.Values.{twoAt, fourAt, eightAt, eightsAt, locationNumber, polarityNumber, enableNumber, edgeNumber, flagNumber, dividendWord, divisorWord};
 ghost use Rattle.decimal.specs.Decimal.{wordOf};
 use decimal::Cell;
@@ -12,21 +12,19 @@ use records::Polarity;
 use records::RampCell;
 use records::Triple;
 
-// ---- eight bytes of a text, the first one lowest; 0 for those that are not there
+// ---- eight bytes of a text, the first one lowest
 
 fn byte_at(bytes: &[u8], i: usize) -> u64
+    requires { ⌜ i < length (now bytes) ⌝ }
     ensures { λ r. ⌜ r ≡ getD (now (bytes .entry)) i 0 ⌝ }
     ensures { λ r. ⌜ r < 256 ⌝ }
 {
-    if i < bytes.len() {
-        let b = bytes[i];
-        return b as u64;
-    }
-    0
+    let b = bytes[i];
+    b as u64
 }
 
 fn two_at(bytes: &[u8], i: usize) -> u64
-    requires { ⌜ i ≤ 126 ⌝ }
+    requires { ⌜ (i + 2 ≤ length (now bytes)) × (i ≤ 118) ⌝ }
     ensures { λ r. ⌜ r ≡ twoAt (now (bytes .entry)) i ⌝ }
     ensures { λ r. ⌜ r < 65536 ⌝ }
 {
@@ -34,7 +32,7 @@ fn two_at(bytes: &[u8], i: usize) -> u64
 }
 
 fn four_at(bytes: &[u8], i: usize) -> u64
-    requires { ⌜ i ≤ 124 ⌝ }
+    requires { ⌜ (i + 4 ≤ length (now bytes)) × (i ≤ 116) ⌝ }
     ensures { λ r. ⌜ r ≡ fourAt (now (bytes .entry)) i ⌝ }
     ensures { λ r. ⌜ r < 4294967296 ⌝ }
 {
@@ -42,15 +40,15 @@ fn four_at(bytes: &[u8], i: usize) -> u64
 }
 
 fn eight_at(bytes: &[u8], i: usize) -> u64
-    requires { ⌜ i ≤ 120 ⌝ }
+    requires { ⌜ (i + 8 ≤ length (now bytes)) × (i ≤ 112) ⌝ }
     ensures { λ r. ⌜ r ≡ eightAt (now (bytes .entry)) i ⌝ }
 {
     four_at(bytes, i) + 4294967296 * four_at(bytes, i + 4)
 }
 
-// Eight such words, one after the other.
-pub(crate) fn eights_at(bytes: &[u8], i: usize) -> [u64; 8]
-    requires { ⌜ i ≤ 64 ⌝ }
+// Five such words, one after the other: the bytes of a name.
+pub(crate) fn eights_at(bytes: &[u8], i: usize) -> [u64; 5]
+    requires { ⌜ (i + 40 ≤ length (now bytes)) × (i ≤ 80) ⌝ }
     ensures { λ r. ⌜ r ≡ eightsAt (now (bytes .entry)) i ⌝ }
 {
     [
@@ -59,9 +57,6 @@ pub(crate) fn eights_at(bytes: &[u8], i: usize) -> [u64; 8]
         eight_at(bytes, i + 16),
         eight_at(bytes, i + 24),
         eight_at(bytes, i + 32),
-        eight_at(bytes, i + 40),
-        eight_at(bytes, i + 48),
-        eight_at(bytes, i + 56),
     ]
 }
 

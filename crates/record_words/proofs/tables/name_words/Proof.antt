@@ -1,5 +1,6 @@
 -- By eight bytes at a time.
 use borrow.Author.Needs.{needs}
+use native.Mathlib.Omega.{arith}
 use Rattle.record_words.proofs.tables.name_words.Statement.{statement}
 use Rattle.record_words.proofs.tables.name_words.Tie as tie
 use Rattle.record_words.proofs.tables.name_words.Reads as reads
@@ -10,7 +11,7 @@ slice-aggregate-eights-at : tie.Need-slice-aggregate-eights-at
 slice-aggregate-eights-at c = search needs
 
 eights-at-requires : tie.Need-eights-at-requires
-eights-at-requires c κs = search needs
+eights-at-requires c κs = (omega (arith, slice-aggregate-eights-at c), omega arith)
 
 array-read-t9 : tie.Need-array-read-t9
 array-read-t9 c = search needs

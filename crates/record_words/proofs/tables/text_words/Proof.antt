@@ -1,4 +1,5 @@
 -- By eight bytes at a time.
+use native.Mathlib.Omega.{arith}
 use borrow.Author.Needs.{needs}
 use Rattle.record_words.proofs.tables.text_words.Statement.{statement}
 use Rattle.record_words.proofs.tables.text_words.Tie as tie
@@ -10,16 +11,19 @@ slice-aggregate-eights-at : tie.Need-slice-aggregate-eights-at
 slice-aggregate-eights-at c = search needs
 
 eights-at-requires : tie.Need-eights-at-requires
-eights-at-requires c κs = search needs
+eights-at-requires c κs = (omega (arith, slice-aggregate-eights-at c), omega arith)
 
 slice-aggregate-eights-at-2 : tie.Need-slice-aggregate-eights-at-2
 slice-aggregate-eights-at-2 c = search needs
 
 eights-at-requires-2 : tie.Need-eights-at-requires-2
-eights-at-requires-2 c κs = search needs
+eights-at-requires-2 c κs = (omega (arith, slice-aggregate-eights-at-2 c), omega arith)
 
-array-read-t12 : tie.Need-array-read-t12
-array-read-t12 c = search needs
+slice-aggregate-eights-at-3 : tie.Need-slice-aggregate-eights-at-3
+slice-aggregate-eights-at-3 c = search needs
+
+eights-at-requires-3 : tie.Need-eights-at-requires-3
+eights-at-requires-3 c κs = (omega (arith, slice-aggregate-eights-at-3 c), omega arith)
 
 array-read-t15 : tie.Need-array-read-t15
 array-read-t15 c = search needs
@@ -63,11 +67,14 @@ array-read-t51 c = search needs
 array-read-t54 : tie.Need-array-read-t54
 array-read-t54 c = search needs
 
-cast-t55 : tie.Need-cast-t55
-cast-t55 c = search needs
+array-read-t57 : tie.Need-array-read-t57
+array-read-t57 c = search needs
+
+cast-t58 : tie.Need-cast-t58
+cast-t58 c = search needs
 
 returns : tie.Need-returns
-returns c = rw (c .before .before .before .eights-at .ensures, c .before .eights-at2 .ensures)
+returns c = rw (c .before .before .before .before .before .eights-at .ensures, c .before .before .before .eights-at2 .ensures, c .before .eights-at3 .ensures)
 
 pub text-words-spec : {M : Type 1} → statement M
 text-words-spec =
@@ -77,7 +84,8 @@ text-words-spec =
     eights-at-requires
     slice-aggregate-eights-at-2
     eights-at-requires-2
-    array-read-t12
+    slice-aggregate-eights-at-3
+    eights-at-requires-3
     array-read-t15
     array-read-t18
     array-read-t21
@@ -92,5 +100,6 @@ text-words-spec =
     array-read-t48
     array-read-t51
     array-read-t54
-    cast-t55
+    array-read-t57
+    cast-t58
     returns)
