@@ -59,7 +59,7 @@ fn names_pass(w: &[u8], pin: Word, signal: Word, model: Word) -> bool
 }
 
 // Three names; cells behind them stand under the long heading alone.
-fn pin_fault(w: &[u8], long: bool) -> u8
+pub fn pin_fault(w: &[u8], long: bool) -> u8
     ensures { λ r. ⌜ r ≡ pinFault long (words (now (w .entry))) ⌝ }
 {
     let pin = words::word_at(w, 0);

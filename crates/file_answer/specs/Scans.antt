@@ -68,12 +68,16 @@ StepIs l n s xs f t c (End z) = Ends s xs f z
 abbrev pub runFrom : Lengths → List ℕ → List ℕ → Standing → Finish
 runFrom l s xs x = runLog l (past s (x .cursor)) (x .stage) (logOf s xs (x .tally)) (rest s (x .cursor))
 
-pub record Sound (s xs : List ℕ) (x : Standing) : Type 0 where
-  pub placed : Placed s (x .cursor)
+-- a place in the file, with room in the store for what comes
+pub record Ground (s xs : List ℕ) (c : Cursor) (t : Tally) : Type 0 where
+  pub placed : Placed s c
   pub small : length s ≤ 65536
   pub store : storeLength ≤ length xs
-  pub within : Within (x .tally)
-  pub rows : x .tally .counts .rows ≤ x .cursor .at
+  pub within : Within t
+  pub rows : t .counts .rows ≤ c .at
+
+abbrev pub Sound : List ℕ → List ℕ → Standing → Type 0
+Sound s xs x = Ground s xs (x .cursor) (x .tally)
 
 pub record Moves (l : Lengths) (s xs : List ℕ) (x : Standing) (ys : List ℕ) (y : Standing) : Type 0 where
   pub says : runFrom l s xs x ≡ runFrom l s ys y

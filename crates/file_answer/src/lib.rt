@@ -6,6 +6,7 @@ use rules::RowsSeen;
 use rules::Stage;
 
 pub mod rows; // rows.rt: the rows of an open table, in a loop of their own
+pub mod pins; // pins.rt: the rows of [Pin], in a loop of their own
 pub mod reading; // reading.rt: line after line, up to the first fault
 pub mod settling; // settling.rt: bytes, lines, names, last checks, one after the other
 
@@ -23,6 +24,18 @@ pub struct Passed {
     pub cursor: Cursor,
     pub rows: RowsSeen,
     pub count: usize,
+}
+
+// A row of [Pin], noted and counted, and the cursor behind it.
+pub enum NextPin {
+    Pin { tally: Tally, next: Cursor },
+    NoPin,
+}
+
+// Behind rows of [Pin]: where the reading stands, and what is noted and counted up to there.
+pub struct PinsPassed {
+    pub cursor: Cursor,
+    pub tally: Tally,
 }
 
 // Where the reading stands.

@@ -16,6 +16,7 @@ use crate::Ending;
 use crate::Scanned;
 use crate::Standing;
 use crate::Turn;
+use crate::pins::behind_pins;
 use crate::rows::behind_rows;
 use cut_lines::Cursor;
 use cut_lines::Next;
@@ -143,7 +144,8 @@ pub fn scan(notes: &mut [u32], src: &[u8], l: Lengths) -> Scanned
     loop {
         match turn(notes, src, l, x) {
             Turn::On(y) => {
-                x = behind_rows(src, l, y);
+                let z = behind_rows(src, l, y);
+                x = behind_pins(notes, src, l, z);
             }
             Turn::End(z) => {
                 return z;
