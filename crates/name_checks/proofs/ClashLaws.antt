@@ -1,4 +1,4 @@
--- Names used twice: an earlier name taken in front of the rest, and a clash that stays.
+-- Names used twice: an earlier name taken in front of the rest, keys that equal names share where they are compared, and a clash that stays.
 use Prim.Native.Nat.{ℕ, zero, suc, _+_, _-_, _*_, _%_, _≤_, _<_}
 use mathlib.Core.Path.{_≡_, refl, sym, ap, _∙_}
 use mathlib.Core.List.{List, [], _∷_}
@@ -6,25 +6,26 @@ use mathlib.Core.Bool.{Bool, true, false, cond, _&&_, _||_}
 use mathlib.Core.Option.{Option, none, some}
 use native.Mathlib.Omega.{arith}
 use native.Mathlib.Numerals.{add-one}
-use lib.ListN.{length, drop, getD, set, replicate, drop-of-length-le, length-set, length-replicate}
-use lib.Seq.{getD-set-same, getD-set-other}
+use lib.ListN.{length, drop, getD, replicate, drop-of-length-le, length-replicate}
 use lib.Dec.{eqb}
-use borrow.Author.Tests.{eqb-false}
+use borrow.Author.Tests.{eqb-true}
 use Rattle.laws.proofs.Lists.{from-cons}
 use Rattle.laws.proofs.Same.{eqs-eq}
-use Rattle.laws.specs.Lists.{front, eqs}
-use Rattle.laws.proofs.Tests.{by-test, by-order, impossible}
+use Rattle.laws.specs.Lists.{front, part, eqs}
+use Rattle.laws.proofs.Tests.{by-test, by-order, cond-yes, cond-no, never, impossible}
+use Rattle.words.specs.declared.Word.{Word}
 use Rattle.rules.specs.Outline.{Entry, place, is, named, isUsed}
 use Rattle.records.specs.declared.Kind.{Kind}
 use Rattle.records.specs.declared.Kind.the-variants.{OfComponent, OfPin, OfSelector, OfChoice, OfModel}
 use Rattle.notes.specs.Noted.{orUsed, clash}
-use Rattle.note_words.specs.Store.{mostNames, notedLine, nameAt, noteAt, notesTo}
+use Rattle.note_words.specs.Store.{wordsPerName, notedLine, nameAt, noteAt, notesTo}
 use Rattle.note_words.proofs.Laws.{note-name, note-line}
 use Rattle.name_checks.specs.declared.Clash.the-variants.{At, NoClash}
 use Rattle.name_checks.specs.declared.Meeting.{Meeting}
 use Rattle.name_checks.specs.declared.Meeting.the-variants.{Equal, Differing, Beyond}
-use Rattle.name_checks.specs.Lookup.{placeAt, entryAt, entriesTo, modelOrSelector, rivals, enclosed, meeting, meetingAt, keyFrom, keyAt, keysTo, Keyed, clashOf}
-use Rattle.name_checks.proofs.NoteLaws.{note-kind}
+use Rattle.name_checks.specs.Lookup.{placeAt, partSaid, entryAt, entriesTo, modelOrSelector, rivals, enclosed, meeting, meetingAt, sectionBehind, sectionTo, startOf, keyFrom, keyAt, seenWords, isSeen, withSeen, clashOf}
+use Rattle.name_checks.proofs.NoteLaws.{note-kind, name-said}
+use Rattle.name_checks.proofs.SeenLaws.{seen-long, seen-own, seen-stays}
 
 -- ---- a name among earlier ones, the nearest of them taken first
 
@@ -83,10 +84,17 @@ module _ (s xs : List ℕ) (i : ℕ) where
       used-cons (noteAt s xs i .kind) (noteAt s xs i .name) (entryAt s xs j) (entriesTo s xs j)
       ∙ rw (note-kind s xs i) rw (note-kind s xs j) rw (note-name s xs i) rw (note-name s xs j) refl
 
-  pub used-turn : (j : ℕ) (m v : Meeting) → 0 < j → m ≡ meetingAt s xs i (j - 1) → m ≡ v → usedAt j ≡ met v (usedAt (j - 1))
-  used-turn j m v h g k =
-      let e : j ≡ suc (j - 1) = omega (arith, h) in
-      ap usedAt e ∙ used-suc (j - 1) ∙ ap (λ (x : Meeting). met x (usedAt (j - 1))) (sym g ∙ k)
+  -- of its kind k, and its name at w
+  module _ (k : ℕ) (w : Word) (kind : k ≡ placeAt xs i) (said : w ≡ partSaid xs (wordsPerName * i + 2)) where
+    pub used-turn : (j : ℕ) (m v : Meeting) → 0 < j → m ≡ meeting k (placeAt xs (j - 1)) (eqs (part (w .start) (w .end) s) (nameAt s xs (j - 1))) → m ≡ v → usedAt j ≡ met v (usedAt (j - 1))
+    unfolding meetingAt
+    used-turn j m v h g t =
+        let e : j ≡ suc (j - 1) = omega (arith, h) in
+        let same : m ≡ meetingAt s xs i (j - 1) = g ∙ rw kind rw (name-said s xs w i said) refl in
+        ap usedAt e ∙ used-suc (j - 1) ∙ ap (λ (x : Meeting). met x (usedAt (j - 1))) (sym same ∙ t)
+
+    pub key-own : (section key : ℕ) → section ≡ sectionTo xs i → key ≡ keyFrom (startOf k section) (part (w .start) (w .end) s) → key ≡ keyAt s xs i
+    key-own section key h g = g ∙ rw kind rw h rw (name-said s xs w i said) refl
 
   pub used-zero : usedAt 0 ≡ false
   unfolding notesTo
@@ -99,14 +107,14 @@ module _ (s xs : List ℕ) (i : ℕ) where
 
 -- ---- a meeting by its tests
 
-module _ (s xs : List ℕ) (i j k l : ℕ) (kindI : k ≡ placeAt xs i) (kindJ : l ≡ placeAt xs j) where
-  pub meets-rival : (t : Bool) → rivals k l ≡ true → t ≡ eqs (nameAt s xs i) (nameAt s xs j) → cond t Equal Differing ≡ meetingAt s xs i j
-  unfolding meetingAt meeting
-  meets-rival t h e = rw (← kindI) rw (← kindJ) rw h rw e refl
+module _ (s xs : List ℕ) (j k l : ℕ) (name : List ℕ) (kind : l ≡ placeAt xs j) where
+  pub meets-rival : (t : Bool) → rivals k l ≡ true → t ≡ eqs name (nameAt s xs j) → cond t Equal Differing ≡ meeting k (placeAt xs j) (eqs name (nameAt s xs j))
+  unfolding meeting
+  meets-rival t h e = rw (← kind) rw h rw e refl
 
-  pub meets-other : (t : Bool) → rivals k l ≡ false → t ≡ enclosed k → cond t Beyond Differing ≡ meetingAt s xs i j
-  unfolding meetingAt meeting
-  meets-other t h e = rw (← kindI) rw (← kindJ) rw h rw e refl
+  pub meets-other : (t : Bool) → rivals k l ≡ false → t ≡ enclosed k → cond t Beyond Differing ≡ meeting k (placeAt xs j) (eqs name (nameAt s xs j))
+  unfolding meeting
+  meets-other t h e = rw (← kind) rw h rw e refl
 
 -- ---- keys
 
@@ -118,44 +126,112 @@ pub key-end : (k : ℕ) (s : List ℕ) (i : ℕ) → length s ≤ i → k ≡ ke
 unfolding keyFrom
 key-end k s i h = rw (drop-of-length-le s h) refl
 
-keyed-next : (s xs keys : List ℕ) (i v : ℕ) → i < length keys → v ≡ keyAt s xs i → Keyed s xs i keys → Keyed s xs (i + 1) (set keys i v)
-keyed-next s xs keys i v h e k j g =
-    by-order i j
-    (λ a.
-    let z : j ≡ i = omega (arith, a, g) in
-    rw z (getD-set-same keys i v 0 h ∙ e))
-    (λ a. getD-set-other keys i j v 0 (λ y. omega (arith, a, y)) ∙ k j a)
+-- ---- where keys start
 
-module _ (s xs : List ℕ) where
-  pub keys-none : replicate mostNames 0 ≡ keysTo s xs 0
-  unfolding keysTo
-  keys-none = refl
+pub section-none : (xs : List ℕ) → 0 ≡ sectionTo xs 0
+unfolding sectionTo
+section-none xs = refl
 
-  pub keys-turn : (keys : List ℕ) (i v : ℕ) → keys ≡ keysTo s xs i → v ≡ keyAt s xs i → set keys i v ≡ keysTo s xs (i + 1)
-  unfolding keysTo
-  keys-turn keys i v e f = rw (add-one i) rw e rw f refl
+pub section-next : (xs : List ℕ) (i k section r : ℕ) → k ≡ placeAt xs i → section ≡ sectionTo xs i → r ≡ sectionBehind k i section → r ≡ sectionTo xs (i + 1)
+unfolding sectionTo
+section-next xs i k section r kind h e = rw (add-one i) (e ∙ ap (λ (l : ℕ). sectionBehind l i section) kind ∙ ap (sectionBehind (placeAt xs i) i) h)
 
-  keys-long : (n : ℕ) → length (keysTo s xs n) ≡ mostNames
-  unfolding keysTo
-  keys-long zero = length-replicate {A = ℕ} mostNames 0
-  keys-long (suc n) = length-set (keysTo s xs n) n (keyAt s xs n) ∙ keys-long n
+rivals-share : (k l section : ℕ) → rivals k l ≡ true → startOf l section ≡ startOf k section
+unfolding rivals startOf
+rivals-share k l section r =
+    by-test (modelOrSelector k)
+    (λ t.
+    let u : modelOrSelector l ≡ true = sym (cond-yes (modelOrSelector l) (eqb k l) t) ∙ r in
+    rw t rw u refl)
+    (λ t. ap (λ (m : ℕ). startOf m section) (sym (eqb-true k l (sym (cond-no (modelOrSelector l) (eqb k l) t) ∙ r))))
 
-  keys-are : (n : ℕ) → n ≤ mostNames → Keyed s xs n (keysTo s xs n)
-  keys-are zero h = λ j g. absurd (omega (arith, g))
-  keys-are (suc n) h =
-      let k = keyed-next s xs (keysTo s xs n) n (keyAt s xs n) (omega (arith, h, keys-long n)) refl (keys-are n (omega (arith, h))) in
-      let e : set (keysTo s xs n) n (keyAt s xs n) ≡ keysTo s xs (suc n) = keys-turn (keysTo s xs n) n (keyAt s xs n) refl refl ∙ ap (keysTo s xs) (add-one n) in
-      λ j g. ap (λ (l : List ℕ). getD l j 0) (sym e) ∙ k j (omega (arith, g))
+-- of a kind that is not compared within a section alone the section does not matter
+outside-shares : (k m n : ℕ) → enclosed k ≡ false → startOf k m ≡ startOf k n
+unfolding startOf
+outside-shares k m n h = rw h refl
 
-  pub keys-said : (n : ℕ) (keys : List ℕ) → n ≤ mostNames → keys ≡ keysTo s xs n → Keyed s xs n keys
-  keys-said n keys h e = rw e (keys-are n h)
+-- a rival opens no other section for its rivals
+rival-stays : (xs : List ℕ) (k j : ℕ) → rivals k (placeAt xs j) ≡ true → startOf k (sectionTo xs (suc j)) ≡ startOf k (sectionTo xs j)
+unfolding sectionTo sectionBehind
+rival-stays xs k j r =
+    by-test (enclosed (placeAt xs j))
+    (λ t. ap (startOf k) (cond-yes (sectionTo xs j) j t))
+    (λ t.
+    let l = placeAt xs j in
+    sym (rivals-share k l (sectionTo xs (suc j)) r) ∙ outside-shares l (sectionTo xs (suc j)) (sectionTo xs j) t ∙ rivals-share k l (sectionTo xs j) r)
 
--- names whose keys differ
-pub keys-apart : (w v : List ℕ) → eqb (keyFrom 0 w) (keyFrom 0 v) ≡ false → false ≡ eqs w v
-keys-apart w v h =
-    by-test (eqs w v)
-    (λ t. absurd (eqb-false (keyFrom 0 w) (keyFrom 0 v) h (ap (keyFrom 0) (eqs-eq w v t))))
-    (λ t. sym t)
+-- ---- keys that were seen
+
+-- the bits of the keys of the first n names are set
+pub record Seen (s xs : List ℕ) (n : ℕ) (seen : List ℕ) : Type 0 where
+  pub long : length seen ≡ seenWords
+  pub each : (j : ℕ) → j < n → isSeen seen (keyAt s xs j) ≡ true
+
+pub seen-none : (s xs : List ℕ) → Seen s xs 0 (replicate seenWords 0)
+seen-none s xs = record { long = length-replicate {A = ℕ} seenWords 0; each = λ j g. absurd (omega (arith, g)) }
+
+-- a name that differs is not met
+unmet : (k l : ℕ) (u : Bool) → u ≡ false → met (meeting k l false) u ≡ false
+unfolding meeting
+unmet k l u h = by-test (rivals k l) (λ r. simp (r, h)) (λ r. by-test (enclosed k) (λ e. simp (r, e)) (λ e. simp (r, e, h)))
+
+-- nor is one that is no rival, where those before it are not or are not looked at
+unmet-other : (k l : ℕ) (same u : Bool) → rivals k l ≡ false → (enclosed k ≡ false → u ≡ false) → met (meeting k l same) u ≡ false
+unfolding meeting
+unmet-other k l same u r h = by-test (enclosed k) (λ e. simp (r, e)) (λ e. simp (r, e, h e))
+
+module _ (s xs seen : List ℕ) (i key : ℕ) (own : key ≡ keyAt s xs i) (h : Seen s xs i seen) where
+  -- where the key of this name would start in the section of the names before place j
+  abbrev startTo : ℕ → ℕ
+  startTo j = startOf (placeAt xs i) (sectionTo xs j)
+
+  unseen-apart : (j : ℕ) → j < i → isSeen seen key ≡ false → startOf (placeAt xs j) (sectionTo xs j) ≡ startTo i → eqs (nameAt s xs i) (nameAt s xs j) ≡ false
+  unseen-apart j g u e =
+      by-test (eqs (nameAt s xs i) (nameAt s xs j))
+      (λ t.
+      let shared : key ≡ keyAt s xs j = own ∙ ap (keyFrom (startTo i)) (eqs-eq (nameAt s xs i) (nameAt s xs j) t) ∙ ap (λ (k : ℕ). keyFrom k (nameAt s xs j)) (sym e) in
+      absurd (never (isSeen seen key) (ap (isSeen seen) shared ∙ h .each j g) u))
+      (λ t. t)
+
+  unseen-unused : (j : ℕ) → j ≤ i → isSeen seen key ≡ false → startTo j ≡ startTo i → usedAt s xs i j ≡ false
+  unfolding meetingAt
+  unseen-unused zero g u e = used-zero s xs i
+  unseen-unused (suc j) g u e =
+      let k = placeAt xs i in
+      let l = placeAt xs j in
+      used-suc s xs i j
+      ∙ by-test (rivals k l)
+      (λ r.
+      let stays : startTo j ≡ startTo i = sym (rival-stays xs k j r) ∙ e in
+      ap (λ (b : Bool). met (meeting k l b) (usedAt s xs i j)) (unseen-apart j g u (rivals-share k l (sectionTo xs j) r ∙ stays))
+      ∙ unmet k l (usedAt s xs i j) (unseen-unused j (omega (arith, g)) u stays))
+      (λ r.
+      unmet-other k l (eqs (nameAt s xs i) (nameAt s xs j)) (usedAt s xs i j) r
+      (λ o. unseen-unused j (omega (arith, g)) u (outside-shares k (sectionTo xs j) (sectionTo xs i) o)))
+
+  -- whether all before it or none are looked at, the name is among these if it is among all
+  pub used-before : (n : ℕ) → n ≡ cond (isSeen seen key) i 0 → (n ≤ i) × (usedAt s xs i n ≡ usedAt s xs i i)
+  used-before n e =
+      by-test (isSeen seen key)
+      (λ t.
+      let all : n ≡ i = e ∙ cond-yes i 0 t in
+      (omega (arith, all), ap (usedAt s xs i) all))
+      (λ t.
+      let nothing : n ≡ 0 = e ∙ cond-no i 0 t in
+      (omega (arith, nothing), ap (usedAt s xs i) nothing ∙ used-zero s xs i ∙ sym (unseen-unused i (omega arith) t refl)))
+
+  pub seen-next : (ys : List ℕ) → ys ≡ withSeen seen key → Seen s xs (i + 1) ys
+  seen-next ys e =
+      rw e
+      (record {
+        long = seen-long seen key ∙ h .long;
+        each = λ j g.
+            by-order i j
+            (λ a.
+            let z : i ≡ j = omega (arith, a, g) in
+            ap (isSeen (withSeen seen key)) (sym (own ∙ ap (keyAt s xs) z)) ∙ seen-own seen key (h .long))
+            (λ a. seen-stays seen key (h .long) (keyAt s xs j) (h .each j a));
+      })
 
 -- ---- the first name that is used twice
 

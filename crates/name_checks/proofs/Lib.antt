@@ -1,5 +1,6 @@
 -- Laws of what is looked up.
 pub mod NoteLaws
+pub mod SeenLaws
 pub mod ClashLaws
 pub mod OutsideLaws
 pub mod SortLaws

@@ -1,5 +1,5 @@
 -- The number of a kind; a part of the file moved into it.
-use Prim.Native.Nat.{ℕ, zero, suc, _+_, _-_, _≤_, _<_}
+use Prim.Native.Nat.{ℕ, zero, suc, _+_, _-_, _*_, _≤_, _<_}
 use mathlib.Core.Path.{_≡_, refl, sym, ap, _∙_}
 use mathlib.Core.List.{List, []}
 use mathlib.Core.Bool.{Bool, false}
@@ -12,7 +12,7 @@ use Rattle.laws.proofs.Lists.{part-length}
 use Rattle.laws.proofs.Same.{eqs-apart}
 use Rattle.words.specs.declared.Word.{Word}
 use Rattle.rules.specs.Outline.{place}
-use Rattle.note_words.specs.Store.{kindOf, noteAt}
+use Rattle.note_words.specs.Store.{wordsPerName, kindOf, nameAt, noteAt}
 use Rattle.note_words.proofs.Laws as stored
 use Rattle.name_checks.specs.Lookup.{placeAt, partSaid, movedIn, Within}
 
@@ -98,3 +98,8 @@ parts-said s xs w v a b p q t h e f x y =
 pub part-said : (s xs : List ℕ) (p w : Word) (a : ℕ) → p ≡ partSaid xs a → Within s (p .start) (p .end) w
     → (e : ℕ) → e ≡ a + 1 → part (w .start) (w .end) s ≡ part (getD xs a 0) (getD xs e 0) s
 part-said s xs p w a q h e x = h .same ∙ rw x (ap (λ (z : Word). part (z .start) (z .end) s) q)
+
+pub name-said : (s xs : List ℕ) (w : Word) (i : ℕ) → w ≡ partSaid xs (wordsPerName * i + 2) → part (w .start) (w .end) s ≡ nameAt s xs i
+name-said s xs w i q =
+    let e : wordsPerName * i + 2 + 1 ≡ wordsPerName * i + 3 = omega arith in
+    ap (λ (z : Word). part (z .start) (z .end) s) q ∙ ap (λ (k : ℕ). part (getD xs (wordsPerName * i + 2) 0) (getD xs k 0) s) e

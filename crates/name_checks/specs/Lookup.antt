@@ -1,16 +1,18 @@
 -- What is looked up among the noted names, by the words of the store: which two meet, which one is named, which are of a kind.
-use Prim.Native.Nat.{ℕ, zero, suc, _+_, _*_, _%_, _≤_, _<_}
+use Prim.Native.Nat.{ℕ, zero, suc, _+_, _*_, _/_, _%_, _≤_, _<_}
 use mathlib.Core.Path.{_≡_}
 use mathlib.Core.List.{List, [], _∷_, map, reverse}
 use mathlib.Core.Bool.{Bool, false, cond, not, _&&_, _||_}
 use mathlib.Core.Option.{Option, none, some}
-use lib.ListN.{length, getD, set, replicate}
+use lib.ListN.{length, getD, set}
 use lib.Dec.{eqb, ltb, leb}
 use Rattle.laws.specs.Lists.{part, eqs}
 use Rattle.words.specs.declared.Word.{Word}
 use Rattle.name_table.specs.declared.Found.{Found}
 use Rattle.name_table.specs.declared.Found.the-variants as answer
 use Rattle.line_rules.specs.Fields.{needsNoModel}
+use Rattle.given.specs.Given.{has, with}
+use Rattle.given.specs.declared.Given.{Given}
 use Rattle.rules.specs.Outline.{Entry, place, is, lists, firstFailing}
 use Rattle.rules.specs.Whole.{Outcome, refused, lastChecks}
 use Rattle.rules.specs.Last.{found}
@@ -18,7 +20,7 @@ use Rattle.records.specs.Bounds.{most}
 use Rattle.records.specs.declared.Kind.{Kind}
 use Rattle.records.specs.declared.Kind.the-variants.{OfComponent, OfPin, OfSelector, OfChoice, OfModel}
 use Rattle.notes.specs.Noted.{Note, entryOf}
-use Rattle.note_words.specs.Store.{mostNames, byKindFrom, listFrom, wavesFrom, storeLength, kindOf, kindAt, notedLine, nameAt, rowAt, noteAt, notesTo}
+use Rattle.note_words.specs.Store.{byKindFrom, listFrom, wavesFrom, storeLength, kindOf, kindAt, notedLine, nameAt, rowAt, noteAt, notesTo}
 use Rattle.layout_by_notes.specs.Lies.{pick, isOf}
 use Rattle.name_checks.specs.declared.Clash.{Clash}
 use Rattle.name_checks.specs.declared.Clash.the-variants.{At, NoClash}
@@ -93,22 +95,44 @@ meeting k l same = cond (rivals k l) (cond same Equal Differing) (cond (enclosed
 unfoldable pub meetingAt : List ℕ → List ℕ → ℕ → ℕ → Meeting
 meetingAt s xs i j = meeting (placeAt xs i) (placeAt xs j) (eqs (nameAt s xs i) (nameAt s xs j))
 
+-- the place of the section that a pin or a selector row right behind place i lies in, k being the kind at place i and section the one for place i itself
+unfoldable pub sectionBehind : ℕ → ℕ → ℕ → ℕ
+sectionBehind k i section = cond (enclosed k) section i
+
+-- the one for place i: that of the last name before it that is neither a pin nor a selector row
+unfoldable pub sectionTo : List ℕ → ℕ → ℕ
+sectionTo xs zero = 0
+sectionTo xs (suc i) = sectionBehind (placeAt xs i) i (sectionTo xs i)
+
+-- where a name's key starts: names that are compared share it, and those of two sections seldom do
+unfoldable pub startOf : ℕ → ℕ → ℕ
+startOf k section = cond (modelOrSelector k) (place OfModel) (cond (enclosed k) (section % 65536 * 3317) k)
+
 -- a number that equal names share: where two differ, the names do
 unfoldable pub keyFrom : ℕ → List ℕ → ℕ
 keyFrom k [] = k
 keyFrom k (b ∷ bs) = keyFrom (k % 67108864 * 33 + b) bs
 
 abbrev pub keyAt : List ℕ → List ℕ → ℕ → ℕ
-keyAt s xs i = keyFrom 0 (nameAt s xs i)
+keyAt s xs i = keyFrom (startOf (placeAt xs i) (sectionTo xs i)) (nameAt s xs i)
 
--- room for the key of every name, with the keys of the first n
-unfoldable pub keysTo : List ℕ → List ℕ → ℕ → List ℕ
-keysTo s xs zero = replicate mostNames 0
-keysTo s xs (suc n) = set (keysTo s xs n) n (keyAt s xs n)
+-- where a key's bit lies, in words of 64 bits: keys that differ may share a bit
+abbrev pub seenWords : ℕ
+seenWords = 128
 
--- the keys of the first n names
-abbrev pub Keyed : List ℕ → List ℕ → ℕ → List ℕ → Type 0
-Keyed s xs n keys = (j : ℕ) → j < n → getD keys j 0 ≡ keyAt s xs j
+abbrev pub seenWord : ℕ → ℕ
+seenWord key = key / 64 % seenWords
+
+abbrev pub seenBits : List ℕ → ℕ → Given
+seenBits seen key = record { bits = getD seen (seenWord key) 0 }
+
+-- the key's bit is set
+unfoldable pub isSeen : List ℕ → ℕ → Bool
+isSeen seen key = has (seenBits seen key) (key % 64)
+
+-- and from here on
+unfoldable pub withSeen : List ℕ → ℕ → List ℕ
+withSeen seen key = set seen (seenWord key) (with (seenBits seen key) (key % 64) .bits)
 
 abbrev pub clashOf : Option ℕ → Clash
 clashOf (some k) = At k

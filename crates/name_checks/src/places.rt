@@ -1,12 +1,10 @@
 // A note's words: its kind by number, its line, and where its names lie.
 ghost use mathlib.Core.Path.{_≡_};
-ghost use Prim.Native.Nat.{_≤_, _<_};
+ghost use Prim.Native.Nat.{_≤_};
 ghost use Rattle.laws.specs.Lists.{part, eqs};
-ghost use Rattle.note_words.specs.Store.{namesHeld, mostNames, byKindFrom, notedLine};
-ghost use Rattle.name_checks.specs.Lookup.{placeAt, partSaid, Within, keyFrom, keyAt, keysTo};
+ghost use Rattle.note_words.specs.Store.{namesHeld, byKindFrom, notedLine};
+ghost use Rattle.name_checks.specs.Lookup.{placeAt, partSaid, Within};
 use note_words::LINE;
-use note_words::MOST_NAMES;
-use note_words::NAME;
 use note_words::OF_MODEL;
 use note_words::WORDS_PER_NAME;
 use words::Word;
@@ -59,50 +57,6 @@ pub fn within(src: &[u8], w: Word) -> Word
         };
     }
     Word { start: 0, end: 0 }
-}
-
-// A number that equal names share.
-fn name_key(name: &[u8]) -> u32
-    ensures { λ r. ⌜ r ≡ keyFrom 0 (now (name .entry)) ⌝ }
-{
-    let mut key: u32 = 0;
-    let mut i = 0;
-    while i < name.len() {
-        key = key % 67108864 * 33 + widen(name[i]);
-        i += 1;
-    }
-    key
-}
-
-// The key of the name at place i.
-fn key_at(src: &[u8], notes: &[u32], i: usize) -> u32
-    requires { ⌜ i ≤ namesHeld ⌝ }
-    ensures { λ r. ⌜ r ≡ keyAt (now (src .entry)) (now (notes .entry)) i ⌝ }
-{
-    let w = within(src, part_at(notes, WORDS_PER_NAME * i + NAME));
-    let a = w.start;
-    let e = w.end;
-    name_key(&src[a..e])
-}
-
-// The keys of the first n names; zeros behind them.
-pub fn keys_of(src: &[u8], notes: &[u32], n: usize) -> [u32; MOST_NAMES]
-    requires { ⌜ n ≤ mostNames ⌝ }
-    ensures { λ r. ⌜ r ≡ keysTo (now (src .entry)) (now (notes .entry)) n ⌝ }
-{
-    let mut keys = [0u32; MOST_NAMES];
-    let mut i = 0;
-    while i < n {
-        keys[i] = key_at(src, notes, i);
-        i += 1;
-    }
-    keys
-}
-
-fn widen(b: u8) -> u32
-    ensures { λ r. ⌜ (r ≡ b) × (r < 256) ⌝ }
-{
-    b as u32
 }
 
 // Two parts of the file have the same bytes: their lengths are compared first.

@@ -7,14 +7,14 @@ use borrow.Author.Needs.{needs}
 use denote.Ref.{now}
 use Rattle.name_checks.specs.Lookup.{keyFrom}
 use Rattle.name_checks.proofs.ClashLaws.{key-next, key-end}
-use Rattle.name_checks.proofs.places.name_key.Statement.{statement}
-use Rattle.name_checks.proofs.places.name_key.Tie as tie
+use Rattle.name_checks.proofs.keys.name_key.Statement.{statement}
+use Rattle.name_checks.proofs.keys.name_key.Tie as tie
 
 abbrev Inv-loop : tie.InvT-loop
-Inv-loop name key₀ i₀ key i = (i ≤ length name) × (keyFrom key (drop i name) ≡ keyFrom 0 name)
+Inv-loop start name key₀ i₀ key i = (i ≤ length name) × (keyFrom key (drop i name) ≡ keyFrom start name)
 
 abbrev μ-loop : tie.MeasureT-loop
-μ-loop name key₀ i₀ key i = length name - i
+μ-loop start name key₀ i₀ key i = length name - i
 
 loop-holds : tie.Need-loop-holds Inv-loop μ-loop
 loop-holds c = (omega arith, refl)
