@@ -23,7 +23,7 @@ use Rattle.rules.specs.declared.Went.the-variants.{On, Stop}
 use Rattle.notes.specs.Noted.{Finish, going, full, broken, outOfLines, runLog, emptyLog, nothingUsed}
 use Rattle.note_words.specs.Store.{logIn, notesTo, wavesTo, storeLength}
 use Rattle.noted_events.specs.Events.{logOf, loggedAt, Within, KeptCounts, Ready}
-use Rattle.file_answer.specs.Scans.{finishIs, textStep, changeStep, GoesOn, Ends, StepIs, runFrom, Sound, Moves, TurnIs}
+use Rattle.file_answer.specs.Scans.{finishIs, textStep, changeStep, GoesOn, Ends, StepIs, Onward, runFrom, Sound, Moves, TurnIs}
 use Rattle.noted_events.specs.declared.Spot.{Spot}
 use Rattle.noted_events.specs.declared.Tally.{Tally}
 use Rattle.file_answer.specs.declared.Standing.{Standing}
@@ -45,6 +45,12 @@ module _ (l : Lengths) (n : ℕ) (s xs ys : List ℕ) (g : Stage) (t : Tally) (p
 
   pub plain-stop : (f : Fault) → onPlain g (p .line) (part (p .start) (p .end) s) ≡ Stop f → textStep l n s xs g t p ≡ finishIs s xs (record { ending = Broken f; tally = t })
   plain-stop f h = rw h refl
+
+pub onward-step : (l : Lengths) (n : ℕ) (s xs : List ℕ) (f : Finish) (t : Tally) (c : Cursor) (y : Standing) (r : Turn) → Onward y r → GoesOn l n s xs f t c y → StepIs l n s xs f t c r
+onward-step l n s xs f t c y (turned.On z) e h = subst (GoesOn l n s xs f t c) (sym e) h
+onward-step l n s xs f t c y (turned.InRows z) e h = subst (GoesOn l n s xs f t c) (sym e) h
+onward-step l n s xs f t c y (turned.InPins z) e h = subst (GoesOn l n s xs f t c) (sym e) h
+onward-step l n s xs f t c y (turned.End z) e h = absurd e
 
 -- ---- a [Comment Char] line adds nothing
 
@@ -93,9 +99,9 @@ module _ (l : Lengths) (s xs : List ℕ) (x : Standing) where
   unfolding runLog
   run-out k h = rw (h .more) rw (h .ends) refl
 
-  pub turn-is : (ys : List ℕ) (f : Finish) (n : Cursor) → runFrom l s xs x ≡ f → Goes s (x .cursor) n → x .tally .counts .rows ≤ x .cursor .at
-      → (r : Turn) → StepIs l (past s (x .cursor)) s ys f (x .tally) n r → TurnIs l s xs x ys r
-  turn-is ys f n e g b (turned.On y) h =
+  moves : (ys : List ℕ) (f : Finish) (n : Cursor) → runFrom l s xs x ≡ f → Goes s (x .cursor) n → x .tally .counts .rows ≤ x .cursor .at
+      → (y : Standing) → GoesOn l (past s (x .cursor)) s ys f (x .tally) n y → Moves l s xs x ys y
+  moves ys f n e g b y h =
       let p : past s (x .cursor) ≡ past s (y .cursor) = g .ends ∙ ap (past s) (sym (h .cursor)) in
       record {
         says = e ∙ h .says ∙ ap (λ (m : ℕ). runLog l m (y .stage) (logOf s ys (y .tally)) (rest s (y .cursor))) p;
@@ -104,6 +110,12 @@ module _ (l : Lengths) (s xs : List ℕ) (x : Standing) where
         rows = omega (arith, h .kept .rows, b, g .rises, ap (λ (c : Cursor). c .at) (h .cursor));
         rises = omega (arith, g .rises, ap (λ (c : Cursor). c .at) (h .cursor));
       }
+
+  pub turn-is : (ys : List ℕ) (f : Finish) (n : Cursor) → runFrom l s xs x ≡ f → Goes s (x .cursor) n → x .tally .counts .rows ≤ x .cursor .at
+      → (r : Turn) → StepIs l (past s (x .cursor)) s ys f (x .tally) n r → TurnIs l s xs x ys r
+  turn-is ys f n e g b (turned.On y) h = moves ys f n e g b y h
+  turn-is ys f n e g b (turned.InRows y) h = moves ys f n e g b y h
+  turn-is ys f n e g b (turned.InPins y) h = moves ys f n e g b y h
   turn-is ys f n e g b (turned.End z) h = record { says = e ∙ h .says; names = h .names; within = h .within }
 
   pub ready : (p : Spot) → Sound s xs x → TextIs s (x .cursor) (p .line) (p .start) (p .end) (p .next) → Ready s xs (x .tally) p

@@ -22,7 +22,7 @@ use Rattle.file_answer.specs.declared.Scanned.{Scanned}
 use Rattle.file_answer.specs.declared.Ending.{Ending}
 use Rattle.file_answer.specs.declared.Ending.the-variants.{Whole, Broken}
 use Rattle.file_answer.specs.declared.Turn.{Turn}
-use Rattle.file_answer.specs.declared.Turn.the-variants.{On, End}
+use Rattle.file_answer.specs.declared.Turn.the-variants.{On, InRows, InPins, End}
 
 abbrev pub faultOfEnding : Ending → Option Fault
 faultOfEnding Whole = none
@@ -61,7 +61,16 @@ pub record Ends (s xs : List ℕ) (f : Finish) (z : Scanned) : Type 0 where
 
 abbrev pub StepIs : Lengths → ℕ → List ℕ → List ℕ → Finish → Tally → Cursor → Turn → Type 0
 StepIs l n s xs f t c (On y) = GoesOn l n s xs f t c y
+StepIs l n s xs f t c (InRows y) = GoesOn l n s xs f t c y
+StepIs l n s xs f t c (InPins y) = GoesOn l n s xs f t c y
 StepIs l n s xs f t c (End z) = Ends s xs f z
+
+-- on from here, whatever was read
+abbrev pub Onward : Standing → Turn → Type 0
+Onward x (On y) = y ≡ x
+Onward x (InRows y) = y ≡ x
+Onward x (InPins y) = y ≡ x
+Onward x (End z) = ⊥
 
 -- ---- from a place on
 
@@ -88,4 +97,6 @@ pub record Moves (l : Lengths) (s xs : List ℕ) (x : Standing) (ys : List ℕ) 
 
 abbrev pub TurnIs : Lengths → List ℕ → List ℕ → Standing → List ℕ → Turn → Type 0
 TurnIs l s xs x ys (On y) = Moves l s xs x ys y
+TurnIs l s xs x ys (InRows y) = Moves l s xs x ys y
+TurnIs l s xs x ys (InPins y) = Moves l s xs x ys y
 TurnIs l s xs x ys (End z) = Ends s ys (runFrom l s xs x) z

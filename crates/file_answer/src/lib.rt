@@ -56,8 +56,10 @@ pub struct Scanned {
     pub tally: Tally,
 }
 
-// After a text: on, or the end.
+// After a text: on, behind a row of a table, behind a pin row, or the end.
 pub enum Turn {
     On(Standing),
+    InRows(Standing),
+    InPins(Standing),
     End(Scanned),
 }

@@ -11,7 +11,7 @@ ghost use Rattle.notes.specs.Noted.{runLog, emptyLog, outOfLines};
 ghost use Rattle.file_answer.specs.declared.Ending.the-variants.{Broken};
 ghost use Rattle.note_words.specs.Store.{mostNames, storeLength};
 ghost use Rattle.noted_events.specs.Events.{logOf, Ready, Within};
-ghost use Rattle.file_answer.specs.Scans.{textStep, changeStep, finishIs, StepIs, TurnIs, WithinAt, Sound};
+ghost use Rattle.file_answer.specs.Scans.{textStep, changeStep, finishIs, Onward, StepIs, TurnIs, WithinAt, Sound};
 use crate::Ending;
 use crate::Scanned;
 use crate::Standing;
@@ -26,6 +26,7 @@ use noted_events::Told;
 use noted_events::events::note_event;
 use records::Fault;
 use records::Lengths;
+use rules::Event;
 use rules::Stage;
 use rules::Went;
 
@@ -35,6 +36,21 @@ fn broken(f: Fault, t: Tally) -> Scanned
     Scanned {
         ending: Ending::Broken(f),
         tally: t,
+    }
+}
+
+// On, by what the line added: rows and pins come in numbers.
+fn onward(e: Event, y: Standing) -> Turn
+    ensures { λ r. ⌜ Onward y r ⌝ }
+{
+    match e {
+        Event::TableRow => Turn::InRows(y),
+        Event::PinRow => Turn::InPins(y),
+        Event::Quiet => Turn::On(y),
+        Event::Opened(_) => Turn::On(y),
+        Event::ChoiceRow => Turn::On(y),
+        Event::WaveformOpened => Turn::On(y),
+        Event::Ended(_) => Turn::On(y),
     }
 }
 
@@ -48,11 +64,14 @@ fn plain_turn(notes: &mut [u32], src: &[u8], l: Lengths, s: Stage, t: Tally, p: 
     let next = p.next;
     match steps::on_plain(s, p.line, &src[start..end]) {
         Went::On(u, e) => match note_event(notes, src, l, t, p, e) {
-            Told::Going(v) => Turn::On(Standing {
-                stage: u,
-                cursor: next,
-                tally: v,
-            }),
+            Told::Going(v) => onward(
+                e,
+                Standing {
+                    stage: u,
+                    cursor: next,
+                    tally: v,
+                },
+            ),
             Told::Full(n, v) => Turn::End(broken(
                 Fault {
                     number: n,
@@ -144,8 +163,13 @@ pub fn scan(notes: &mut [u32], src: &[u8], l: Lengths) -> Scanned
     loop {
         match turn(notes, src, l, x) {
             Turn::On(y) => {
-                let z = behind_rows(src, l, y);
-                x = behind_pins(notes, src, l, z);
+                x = y;
+            }
+            Turn::InRows(y) => {
+                x = behind_rows(src, l, y);
+            }
+            Turn::InPins(y) => {
+                x = behind_pins(notes, src, l, y);
             }
             Turn::End(z) => {
                 return z;

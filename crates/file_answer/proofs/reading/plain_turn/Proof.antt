@@ -5,7 +5,7 @@ use borrow.Author.Needs.{needs}
 use denote.Ref.{now}
 use Rattle.noted_events.specs.Events.{toldIs, KeptBy}
 use Rattle.noted_events.proofs.EventLaws.{names-small}
-use Rattle.file_answer.proofs.ScanLaws.{plain-going, plain-full, plain-stop}
+use Rattle.file_answer.proofs.ScanLaws.{plain-going, plain-full, plain-stop, onward-step}
 use Rattle.file_answer.proofs.reading.plain_turn.Statement.{statement}
 use Rattle.file_answer.proofs.reading.plain_turn.Tie as tie
 
@@ -30,6 +30,9 @@ note-event-requires c κs = c .before .before .before .before .before .before .b
 enum-known-v : tie.Need-enum-known-v
 enum-known-v c = search needs
 
+onward-requires : tie.Need-onward-requires
+onward-requires c κs = tt
+
 enum-known-n : tie.Need-enum-known-n
 enum-known-n c = search needs
 
@@ -47,10 +50,10 @@ same-length c = search needs
 
 returns : tie.Need-returns
 returns c =
-    let a = c .before .before .before .before .before .before .before .before .before .before .before .before .before .before .before .args in
+    let a = c .before .before .before .before .before .before .before .before .before .before .before .before .before .before .before .before .args in
     let s = now (a .src) in
-    let ys = c .before .before .before .before .before .note-event .last .0 in
-    λ n. record { says = plain-going (a .l) n s (now (a .notes)) ys (a .s) (a .t) (a .p) _ _ _ (sym (c .before .before .before .before .before .before .before .before .before .before .on-plain .ensures) ∙ c .before .before .before .before .before .before .before .before .u .given .1) (c .before .before .before .before .before .note-event .ensures .0 ∙ ap (toldIs s ys (a .p .line)) (c .before .v .given .1)); cursor = refl; kept = subst (KeptBy (a .t)) (c .before .v .given .1) (c .before .before .before .before .before .note-event .ensures .1) }
+    let ys = c .before .before .before .before .before .before .note-event .last .0 in
+    λ n. onward-step (a .l) n s ys _ (a .t) (a .p .next) _ (c .onward .result) (c .onward .ensures) (record { says = plain-going (a .l) n s (now (a .notes)) ys (a .s) (a .t) (a .p) _ _ _ (sym (c .before .before .before .before .before .before .before .before .before .before .before .on-plain .ensures) ∙ c .before .before .before .before .before .before .before .before .before .u .given .1) (c .before .before .before .before .before .before .note-event .ensures .0 ∙ ap (toldIs s ys (a .p .line)) (c .before .before .v .given .1)); cursor = refl; kept = subst (KeptBy (a .t)) (c .before .before .v .given .1) (c .before .before .before .before .before .before .note-event .ensures .1) })
 
 same-length-2 : tie.Need-same-length-2
 same-length-2 c = search needs
@@ -79,6 +82,7 @@ plain-turn-spec =
     enum-known-u
     note-event-requires
     enum-known-v
+    onward-requires
     enum-known-n
     broken-requires
     enum-known-f

@@ -31,32 +31,69 @@ turn-requires c κs = c .before .loop .inv .0
 enum-known-y : tie.Need-enum-known-y Inv-loop μ-loop
 enum-known-y c = search needs
 
-behind-rows-requires : tie.Need-behind-rows-requires Inv-loop μ-loop
-behind-rows-requires c κs =
-    let a = c .before .before .before .before .before .before .before .before .before .before .before .before .args in
-    let h = subst (TurnIs (a .l) (now (a .src)) (c .before .before .before .before .before .before .before .loop .notes) (c .before .before .before .before .before .before .before .loop .x) (c .before .before .before .before .before .turn .last .0)) (c .before .y .given .1) (c .before .before .before .before .before .turn .ensures) in
-    record { placed = h .placed; within = h .within; rows = h .rows }
-
-behind-pins-requires : tie.Need-behind-pins-requires Inv-loop μ-loop
-behind-pins-requires c κs =
-    let i = c .before .before .before .before .before .before .before .before .before .loop .inv in
-    let p = c .before .behind-rows .ensures in
-    record { placed = p .steady .placed; small = i .0 .small; store = omega (arith, c .before .before .before .before .before .before .notes .given, i .0 .store); within = p .steady .within; rows = p .steady .rows }
-
 loop-less : tie.Need-loop-less Inv-loop μ-loop
 loop-less c =
-    let a = c .before .before .before .before .before .before .before .before .before .before .before .before .before .before .before .before .before .args in
-    let h = subst (TurnIs (a .l) (now (a .src)) (c .before .before .before .before .before .before .before .before .before .before .before .before .loop .notes) (c .before .before .before .before .before .before .before .before .before .before .before .before .loop .x) (c .before .before .before .before .before .before .before .before .before .before .turn .last .0)) (c .before .before .before .before .before .before .y .given .1) (c .before .before .before .before .before .before .before .before .before .before .turn .ensures) in
-    let q = c .before .before .behind-pins .ensures in
-    omega (arith, h .rises, c .before .before .before .before .behind-rows .ensures .from, q .from, q .sound .placed .within)
+    let a = c .before .before .before .before .before .before .before .before .before .before .before .before .args in
+    let h = subst (TurnIs (a .l) (now (a .src)) (c .before .before .before .before .before .before .before .loop .notes) (c .before .before .before .before .before .before .before .loop .x) (c .before .before .before .before .before .turn .last .0)) (c .before .y .given .1) (c .before .before .before .before .before .turn .ensures) in
+    omega (arith, h .rises, h .placed .within)
 
 loop-again : tie.Need-loop-again Inv-loop μ-loop
 loop-again c =
-    let a = c .before .before .before .before .before .before .before .before .before .before .before .before .before .before .before .before .before .args in
-    let i = c .before .before .before .before .before .before .before .before .before .before .before .before .loop .inv in
-    let h = subst (TurnIs (a .l) (now (a .src)) (c .before .before .before .before .before .before .before .before .before .before .before .before .loop .notes) (c .before .before .before .before .before .before .before .before .before .before .before .before .loop .x) (c .before .before .before .before .before .before .before .before .before .before .turn .last .0)) (c .before .before .before .before .before .before .y .given .1) (c .before .before .before .before .before .before .before .before .before .before .turn .ensures) in
+    let a = c .before .before .before .before .before .before .before .before .before .before .before .before .args in
+    let i = c .before .before .before .before .before .before .before .loop .inv in
+    let n = c .before .before .before .before .notes .given in
+    let h = subst (TurnIs (a .l) (now (a .src)) (c .before .before .before .before .before .before .before .loop .notes) (c .before .before .before .before .before .before .before .loop .x) (c .before .before .before .before .before .turn .last .0)) (c .before .y .given .1) (c .before .before .before .before .before .turn .ensures) in
+    (record { placed = h .placed; small = i .0 .small; store = omega (arith, n, i .0 .store); within = h .within; rows = h .rows }, n ∙ i .1, i .2 ∙ h .says)
+
+enum-known-y-2 : tie.Need-enum-known-y-2 Inv-loop μ-loop
+enum-known-y-2 c = search needs
+
+behind-rows-requires : tie.Need-behind-rows-requires Inv-loop μ-loop
+behind-rows-requires c κs =
+    let a = c .before .before .before .before .before .before .before .before .before .before .before .before .args in
+    let h = subst (TurnIs (a .l) (now (a .src)) (c .before .before .before .before .before .before .before .loop .notes) (c .before .before .before .before .before .before .before .loop .x) (c .before .before .before .before .before .turn .last .0)) (c .before .y2 .given .1) (c .before .before .before .before .before .turn .ensures) in
+    record { placed = h .placed; within = h .within; rows = h .rows }
+
+loop-less-2 : tie.Need-loop-less-2 Inv-loop μ-loop
+loop-less-2 c =
+    let a = c .before .before .before .before .before .before .before .before .before .before .before .before .before .args in
+    let h = subst (TurnIs (a .l) (now (a .src)) (c .before .before .before .before .before .before .before .before .loop .notes) (c .before .before .before .before .before .before .before .before .loop .x) (c .before .before .before .before .before .before .turn .last .0)) (c .before .before .y2 .given .1) (c .before .before .before .before .before .before .turn .ensures) in
+    let p = c .behind-rows .ensures in
+    omega (arith, h .rises, p .from, p .steady .placed .within)
+
+loop-again-2 : tie.Need-loop-again-2 Inv-loop μ-loop
+loop-again-2 c =
+    let a = c .before .before .before .before .before .before .before .before .before .before .before .before .before .args in
+    let i = c .before .before .before .before .before .before .before .before .loop .inv in
+    let n = c .before .before .before .before .before .notes .given in
+    let h = subst (TurnIs (a .l) (now (a .src)) (c .before .before .before .before .before .before .before .before .loop .notes) (c .before .before .before .before .before .before .before .before .loop .x) (c .before .before .before .before .before .before .turn .last .0)) (c .before .before .y2 .given .1) (c .before .before .before .before .before .before .turn .ensures) in
+    let p = c .behind-rows .ensures in
+    (record { placed = p .steady .placed; small = i .0 .small; store = omega (arith, n, i .0 .store); within = p .steady .within; rows = p .steady .rows }, n ∙ i .1, i .2 ∙ h .says ∙ p .says _)
+
+enum-known-y-3 : tie.Need-enum-known-y-3 Inv-loop μ-loop
+enum-known-y-3 c = search needs
+
+behind-pins-requires : tie.Need-behind-pins-requires Inv-loop μ-loop
+behind-pins-requires c κs =
+    let a = c .before .before .before .before .before .before .before .before .before .before .before .before .before .args in
+    let i = c .before .before .before .before .before .before .before .before .loop .inv in
+    let h = subst (TurnIs (a .l) (now (a .src)) (c .before .before .before .before .before .before .before .before .loop .notes) (c .before .before .before .before .before .before .before .before .loop .x) (c .before .before .before .before .before .before .turn .last .0)) (c .before .before .y3 .given .1) (c .before .before .before .before .before .before .turn .ensures) in
+    record { placed = h .placed; small = i .0 .small; store = omega (arith, c .before .before .before .before .before .notes .given, i .0 .store); within = h .within; rows = h .rows }
+
+loop-less-3 : tie.Need-loop-less-3 Inv-loop μ-loop
+loop-less-3 c =
+    let a = c .before .before .before .before .before .before .before .before .before .before .before .before .before .before .before .before .args in
+    let h = subst (TurnIs (a .l) (now (a .src)) (c .before .before .before .before .before .before .before .before .before .before .before .loop .notes) (c .before .before .before .before .before .before .before .before .before .before .before .loop .x) (c .before .before .before .before .before .before .before .before .before .turn .last .0)) (c .before .before .before .before .before .y3 .given .1) (c .before .before .before .before .before .before .before .before .before .turn .ensures) in
     let q = c .before .before .behind-pins .ensures in
-    (q .sound, c .before .notes2 .given ∙ c .before .before .before .before .before .before .before .before .before .notes .given ∙ i .1, i .2 ∙ h .says ∙ c .before .before .before .before .behind-rows .ensures .says _ ∙ q .says)
+    omega (arith, h .rises, q .from, q .sound .placed .within)
+
+loop-again-3 : tie.Need-loop-again-3 Inv-loop μ-loop
+loop-again-3 c =
+    let a = c .before .before .before .before .before .before .before .before .before .before .before .before .before .before .before .before .args in
+    let i = c .before .before .before .before .before .before .before .before .before .before .before .loop .inv in
+    let h = subst (TurnIs (a .l) (now (a .src)) (c .before .before .before .before .before .before .before .before .before .before .before .loop .notes) (c .before .before .before .before .before .before .before .before .before .before .before .loop .x) (c .before .before .before .before .before .before .before .before .before .turn .last .0)) (c .before .before .before .before .before .y3 .given .1) (c .before .before .before .before .before .before .before .before .before .turn .ensures) in
+    let q = c .before .before .behind-pins .ensures in
+    (q .sound, c .before .notes2 .given ∙ c .before .before .before .before .before .before .before .before .notes .given ∙ i .1, i .2 ∙ h .says ∙ q .says)
 
 enum-known-z : tie.Need-enum-known-z Inv-loop μ-loop
 enum-known-z c = search needs
@@ -82,10 +119,16 @@ scan-spec =
     loop-holds
     turn-requires
     enum-known-y
-    behind-rows-requires
-    behind-pins-requires
     loop-less
     loop-again
+    enum-known-y-2
+    behind-rows-requires
+    loop-less-2
+    loop-again-2
+    enum-known-y-3
+    behind-pins-requires
+    loop-less-3
+    loop-again-3
     enum-known-z
     same-length
     returns)
