@@ -5,4 +5,5 @@ pub mod ClashLaws
 pub mod OutsideLaws
 pub mod SortLaws
 pub mod TargetLaws
+pub mod ListingLaws
 pub mod MarkLaws

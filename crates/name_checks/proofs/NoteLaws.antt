@@ -14,7 +14,7 @@ use Rattle.words.specs.declared.Word.{Word}
 use Rattle.rules.specs.Outline.{place}
 use Rattle.note_words.specs.Store.{wordsPerName, kindOf, nameAt, noteAt}
 use Rattle.note_words.proofs.Laws as stored
-use Rattle.name_checks.specs.Lookup.{placeAt, partSaid, movedIn, Within}
+use Rattle.name_checks.specs.Lookup.{placeAt, modelAt, partSaid, movedIn, Within}
 
 -- ---- the number of a kind
 
@@ -94,12 +94,22 @@ parts-said s xs w v a b p q t h e f x y =
     (h ∙ ap (λ (z : Word). eqs (part (z .start) (z .end) s) (part (v .start) (v .end) s)) p
     ∙ ap (λ (z : Word). eqs (part (getD xs a 0) (getD xs (a + 1) 0) s) (part (z .start) (z .end) s)) q)
 
+-- the part that a note says, by the word at a and the one behind it
+said : (s xs : List ℕ) (w : Word) (a e : ℕ) → w ≡ partSaid xs a → e ≡ a + 1 → part (w .start) (w .end) s ≡ part (getD xs a 0) (getD xs e 0) s
+said s xs w a e q x = rw x (ap (λ (z : Word). part (z .start) (z .end) s) q)
+
 -- a part that a note says, moved into the file
 pub part-said : (s xs : List ℕ) (p w : Word) (a : ℕ) → p ≡ partSaid xs a → Within s (p .start) (p .end) w
     → (e : ℕ) → e ≡ a + 1 → part (w .start) (w .end) s ≡ part (getD xs a 0) (getD xs e 0) s
-part-said s xs p w a q h e x = h .same ∙ rw x (ap (λ (z : Word). part (z .start) (z .end) s) q)
+part-said s xs p w a q h e x = h .same ∙ said s xs p a e q x
 
-pub name-said : (s xs : List ℕ) (w : Word) (i : ℕ) → w ≡ partSaid xs (wordsPerName * i + 2) → part (w .start) (w .end) s ≡ nameAt s xs i
-name-said s xs w i q =
-    let e : wordsPerName * i + 2 + 1 ≡ wordsPerName * i + 3 = omega arith in
-    ap (λ (z : Word). part (z .start) (z .end) s) q ∙ ap (λ (k : ℕ). part (getD xs (wordsPerName * i + 2) 0) (getD xs k 0) s) e
+module _ (s xs : List ℕ) (w : Word) (i : ℕ) where
+  pub name-said : w ≡ partSaid xs (wordsPerName * i + 2) → part (w .start) (w .end) s ≡ nameAt s xs i
+  name-said q =
+      let e : wordsPerName * i + 3 ≡ wordsPerName * i + 2 + 1 = omega arith in
+      said s xs w (wordsPerName * i + 2) (wordsPerName * i + 3) q e
+
+  pub model-said : w ≡ partSaid xs (wordsPerName * i + 4) → part (w .start) (w .end) s ≡ modelAt s xs i
+  model-said q =
+      let e : wordsPerName * i + 5 ≡ wordsPerName * i + 4 + 1 = omega arith in
+      said s xs w (wordsPerName * i + 4) (wordsPerName * i + 5) q e

@@ -46,7 +46,7 @@ reaches-never k l h =
     let e : eqb k 1 ≡ false = or-left (eqb k 1) (eqb k 3) h in
     by-test (eqb l 4) (λ t. rw t h) (λ t. rw t (by-test (eqb l 2) (λ u. rw u e) (λ u. rw u refl)))
 
-reaches-some : (k l : ℕ) → reaches k l ≡ true → modelOrSelector l ≡ true
+pub reaches-some : (k l : ℕ) → reaches k l ≡ true → modelOrSelector l ≡ true
 unfolding reaches modelOrSelector
 reaches-some k l h =
     by-test (eqb l 4) (λ t. rw t refl)

@@ -2,7 +2,7 @@
 use Prim.Native.Nat.{ℕ, zero, suc, _+_, _*_, _/_, _%_, _≤_, _<_}
 use mathlib.Core.Path.{_≡_}
 use mathlib.Core.List.{List, [], _∷_, map, reverse}
-use mathlib.Core.Bool.{Bool, false, cond, not, _&&_, _||_}
+use mathlib.Core.Bool.{Bool, true, false, cond, not, _&&_, _||_}
 use mathlib.Core.Option.{Option, none, some}
 use lib.ListN.{length, getD, set}
 use lib.Dec.{eqb, ltb, leb}
@@ -137,6 +137,38 @@ withSeen seen key = set seen (seenWord key) (with (seenBits seen key) (key % 64)
 abbrev pub clashOf : Option ℕ → Clash
 clashOf (some k) = At k
 clashOf none = NoClash
+
+-- ---- models and selectors by their keys
+
+-- the key of such a name, and of a word that names it
+abbrev pub targetKey : List ℕ → ℕ
+targetKey name = keyFrom (startOf (place OfModel) 0) name
+
+-- the keys seen, with that of the name at place i where it is a model's or a selector's
+unfoldable pub withKey : List ℕ → List ℕ → List ℕ → ℕ → List ℕ
+withKey s xs seen i = cond (modelOrSelector (placeAt xs i)) (withSeen seen (targetKey (nameAt s xs i))) seen
+
+-- a slot for each remainder of a key, with the place of a name that has such a key
+abbrev pub slotCount : ℕ
+slotCount = 512
+
+unfoldable pub withSlot : List ℕ → List ℕ → List ℕ → ℕ → List ℕ
+withSlot s xs slots i = cond (modelOrSelector (placeAt xs i)) (set slots (targetKey (nameAt s xs i) % slotCount) i) slots
+
+-- a table after a step for each of the first n places
+unfoldable pub after : (List ℕ → ℕ → List ℕ) → List ℕ → ℕ → List ℕ
+after step t zero = t
+after step t (suc n) = step (after step t n) n
+
+abbrev pub keysTo : List ℕ → List ℕ → List ℕ → ℕ → List ℕ
+keysTo s xs = after (withKey s xs)
+
+abbrev pub slotsTo : List ℕ → List ℕ → List ℕ → ℕ → List ℕ
+slotsTo s xs = after (withSlot s xs)
+
+-- the keys of the models and selectors among the first n names were seen
+abbrev pub Listed : List ℕ → List ℕ → ℕ → List ℕ → Type 0
+Listed s xs n seen = (j : ℕ) → j < n → modelOrSelector (placeAt xs j) ≡ true → isSeen seen (targetKey (nameAt s xs j)) ≡ true
 
 -- ---- what a pin or a selector row names
 

@@ -4,6 +4,7 @@ pub mod keys; // keys.rt: a name's key
 pub mod seen; // seen.rt: the keys that were seen
 pub mod clashes; // clashes.rt: names used twice
 pub mod sorting; // sorting.rt: the names by kind
+pub mod listing; // listing.rt: models and selectors by their keys
 pub mod marking; // marking.rt: names not found, and what nobody lists
 
 pub use clashes::first_clash;

@@ -1,20 +1,27 @@
 // Names not found, and what nobody lists: each pin and selector row marks what it names.
 ghost use mathlib.Core.Path.{_≡_};
+ghost use mathlib.Core.Bool.{_&&_};
 ghost use mathlib.Core.Option.{none};
 ghost use Prim.Native.Nat.{_≤_, _<_};
 ghost use lib.ListN.{length};
+ghost use lib.Dec.{ltb};
 ghost use Rattle.name_table.specs.declared.Found.the-variants.{Nothing};
 ghost use Rattle.notes.specs.Noted.{clash};
 ghost use Rattle.note_words.specs.Store.{namesHeld, storeLength};
-ghost use Rattle.name_checks.specs.Lookup.{reaches, reachesAt, targetTo, excused, modelAt, placeAt, toldOf, missing, clearedTo, Clear, withMark, entriesTo, Outside, Marked, unmarked, unmarkedFrom, Concludes};
+ghost use Rattle.name_checks.specs.Lookup.{reaches, reachesAt, targetTo, excused, modelAt, placeAt, toldOf, missing, clearedTo, Clear, withMark, entriesTo, Listed, Outside, Marked, unmarked, unmarkedFrom, Concludes};
 use crate::Last;
 use crate::clashes::is_enclosed;
 use crate::clashes::model_or_selector;
+use crate::listing::SLOTS;
+use crate::listing::list_names;
+use crate::listing::target_key;
 use crate::places::kind_at;
 use crate::places::line_at;
 use crate::places::part_at;
 use crate::places::same_parts;
 use crate::places::within;
+use crate::seen::SEEN_WORDS;
+use crate::seen::is_seen;
 use name_table::Found;
 use note_words::BY_KIND_FROM;
 use note_words::NAME;
@@ -54,7 +61,7 @@ fn names_it(src: &[u8], notes: &[u32], i: usize, j: usize) -> bool
 }
 
 // The last of n names that the one at place i names. Most files have their models behind the pins.
-fn find_target(src: &[u8], notes: &[u32], n: usize, i: usize) -> Found
+fn search_target(src: &[u8], notes: &[u32], n: usize, i: usize) -> Found
     requires { ⌜ (n ≤ namesHeld) × (i ≤ namesHeld) ⌝ }
     ensures { λ r. ⌜ r ≡ targetTo (now (src .entry)) (now (notes .entry)) i n ⌝ }
 {
@@ -66,6 +73,48 @@ fn find_target(src: &[u8], notes: &[u32], n: usize, i: usize) -> Found
         }
     }
     Found::Nothing
+}
+
+// The name at place i names the one at place j, which is one of n.
+fn is_target(src: &[u8], notes: &[u32], n: usize, i: usize, j: usize) -> bool
+    requires { ⌜ (n ≤ namesHeld) × (i ≤ namesHeld) ⌝ }
+    ensures { λ r. ⌜ r ≡ (ltb j n && reachesAt (now (src .entry)) (now (notes .entry)) i j) ⌝ }
+{
+    if j < n {
+        return names_it(src, notes, i, j);
+    }
+    false
+}
+
+fn place_of(slot: u16) -> usize
+    ensures { λ r. ⌜ r ≡ slot ⌝ }
+{
+    slot as usize
+}
+
+// What the name at place i names, of n: nothing where the key was not seen, else the name in the key's slot, else what is searched for.
+fn find_target(
+    src: &[u8],
+    notes: &[u32],
+    n: usize,
+    i: usize,
+    seen: &[u64; SEEN_WORDS],
+    slots: &[u16; SLOTS],
+) -> Found
+    requires { ⌜ (n ≤ namesHeld) × (i ≤ namesHeld) ⌝ }
+    requires { ⌜ (clash (entriesTo (now src) (now notes) n) ≡ none) × Listed (now src) (now notes) n (now seen) ⌝ }
+    ensures { λ r. ⌜ r ≡ targetTo (now (src .entry)) (now (notes .entry)) i n ⌝ }
+{
+    let model = part_at(notes, WORDS_PER_NAME * i + ROW_MODEL);
+    let key = target_key(src, model);
+    if !is_seen(seen, key) {
+        return Found::Nothing;
+    }
+    let place = place_of(slots[key % SLOTS]);
+    if is_target(src, notes, n, i, place) {
+        return Found::At(place);
+    }
+    search_target(src, notes, n, i)
 }
 
 // A fault is told at its line; where there is no line there is none.
@@ -94,15 +143,24 @@ fn is_excused(src: &[u8], notes: &[u32], i: usize) -> bool
 }
 
 // Marks what the name at place i names. The fault of the first from there on that names nothing, given that of the later ones.
-fn mark_target(src: &[u8], notes: &mut [u32], n: usize, i: usize, later: Last) -> Last
+fn mark_target(
+    src: &[u8],
+    notes: &mut [u32],
+    n: usize,
+    i: usize,
+    seen: &[u64; SEEN_WORDS],
+    slots: &[u16; SLOTS],
+    later: Last,
+) -> Last
     requires { ⌜ (n ≤ namesHeld) × (i < n) × (storeLength ≤ length (now notes)) ⌝ }
+    requires { ⌜ (clash (entriesTo (now src) (now notes) n) ≡ none) × Listed (now src) (now notes) n (now seen) ⌝ }
     ensures { λ r. ⌜ r ≡ missing (now (src .entry)) (now (notes .entry)) i later (targetTo (now (src .entry)) (now (notes .entry)) i n) ⌝ }
     ensures { λ r. ⌜ now (notes .exit) ≡ withMark (now (notes .entry)) (targetTo (now (src .entry)) (now (notes .entry)) i n) ⌝ }
 {
     if !is_enclosed(kind_at(notes, i)) {
         return later;
     }
-    let target = find_target(src, notes, n, i);
+    let target = find_target(src, notes, n, i, seen, slots);
     let Found::At(j) = target else {
         if is_excused(src, notes, i) {
             return later;
@@ -134,11 +192,14 @@ fn mark_targets(src: &[u8], notes: &mut [u32], n: usize) -> Last
     requires { ⌜ Clear (now notes) n ⌝ }
     ensures { λ r. ⌜ Marked (now (src .entry)) (now (notes .entry)) (now (notes .exit)) n r ⌝ }
 {
+    let mut seen = [0u64; SEEN_WORDS];
+    let mut slots = [0u16; SLOTS];
+    list_names(src, notes, n, &mut seen, &mut slots);
     let mut first = Last::Fine;
     let mut i = n;
     while 0 < i {
         i -= 1;
-        first = mark_target(src, notes, n, i, first);
+        first = mark_target(src, notes, n, i, &seen, &slots, first);
     }
     first
 }

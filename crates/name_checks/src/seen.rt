@@ -1,4 +1,4 @@
-// The keys that were seen: a bit for each remainder of a key, set if an earlier name had such a key.
+// The keys that were seen: a bit for each remainder of a key, set if some name had such a key.
 ghost use mathlib.Core.Path.{_≡_};
 ghost use mathlib.Core.Bool.{cond};
 ghost use Rattle.name_checks.specs.Lookup.{isSeen, withSeen};
@@ -7,7 +7,7 @@ use given::Given;
 // 8,192 bits: 512 different names seldom meet in one.
 pub const SEEN_WORDS: usize = 128;
 
-fn is_seen(seen: &[u64; SEEN_WORDS], key: usize) -> bool
+pub fn is_seen(seen: &[u64; SEEN_WORDS], key: usize) -> bool
     ensures { λ r. ⌜ r ≡ isSeen (now (seen .entry)) key ⌝ }
 {
     let bits = seen[key / 64 % SEEN_WORDS];

@@ -1,54 +1,73 @@
--- From the last name up: the last of those so far is the last of all.
-use Prim.Native.Nat.{_≤_}
-use mathlib.Core.Path.{_≡_, refl, sym, _∙_}
-use native.Mathlib.Omega.{arith}
+-- A key that was not seen names nothing; where no name is used twice, a name in the slot that is named is what the search would find.
+use mathlib.Core.Path.{sym, ap, _∙_}
 use borrow.Author.Needs.{needs}
+use borrow.Author.Tests.{not-true}
 use denote.Ref.{now}
-use Rattle.name_checks.specs.Lookup.{targetTo}
-use Rattle.name_checks.proofs.TargetLaws.{turn-here, turn-sooner, target-none}
+use Rattle.name_checks.specs.Lookup.{targetKey}
+use Rattle.name_checks.proofs.NoteLaws.{model-said}
+use Rattle.name_checks.proofs.ListingLaws.{unseen-nothing, hit-target}
 use Rattle.name_checks.proofs.marking.find_target.Statement.{statement}
 use Rattle.name_checks.proofs.marking.find_target.Tie as tie
-use Rattle.name_checks.proofs.marking.find_target.Reads as reads
-use Rattle.name_checks.proofs.marking.find_target.Lts as lts
-use Rattle.name_checks.proofs.marking.names_it.Reads as names-it-reads
 
-abbrev Inv-loop : tie.InvT-loop
-Inv-loop src notes n i j₀ j = (j ≤ n) × (targetTo src notes i j ≡ targetTo src notes i n)
+mul-part-at : tie.Need-mul-part-at
+mul-part-at c = search needs
 
-abbrev μ-loop : tie.MeasureT-loop
-μ-loop src notes n i j₀ j = j
+add-part-at : tie.Need-add-part-at
+add-part-at c = search needs
 
-loop-holds : tie.Need-loop-holds Inv-loop μ-loop
-loop-holds c = (omega arith, refl)
+part-at-requires : tie.Need-part-at-requires
+part-at-requires c κs = search needs
 
-sub-j : tie.Need-sub-j Inv-loop μ-loop
-sub-j c = search needs
+target-key-requires : tie.Need-target-key-requires
+target-key-requires c κs = tt
 
-names-it-requires : tie.Need-names-it-requires Inv-loop μ-loop
-names-it-requires c κs = search needs
+is-seen-requires : tie.Need-is-seen-requires
+is-seen-requires c κs = tt
 
-returns : tie.Need-returns Inv-loop μ-loop
-returns c = turn-here (now (c .before .before .before .before .before .before .args .src)) (now (c .before .before .before .before .before .before .args .notes)) (c .before .before .before .before .before .before .args .i) (c .before .before .before .loop .j) (c .before .before .loop-test .taken) (sym (c .before .names-it .ensures) ∙ c .if1 .taken) ∙ c .before .before .before .loop .inv .1
+returns : tie.Need-returns
+returns c =
+    let a = c .before .before .before .before .before .before .args in
+    unseen-nothing (now (a .src)) (now (a .notes)) (a .i) (a .n) (now (a .seen)) (c .before .before .before .before .before .before .pre .1 .1) (c .before .before .target-key .result)
+    (c .before .before .target-key .ensures ∙ ap targetKey (model-said (now (a .src)) (now (a .notes)) (c .before .before .before .part-at .result) (a .i) (c .before .before .before .part-at .ensures)))
+    (sym (c .before .is-seen .ensures) ∙ not-true (c .before .is-seen .result) (c .if1 .taken))
 
-loop-less : tie.Need-loop-less Inv-loop μ-loop
-loop-less c = search needs
+mul-place-of : tie.Need-mul-place-of
+mul-place-of c = search needs
 
-loop-again : tie.Need-loop-again Inv-loop μ-loop
-loop-again c = (omega (arith, c .before .before .before .loop .inv .0), turn-sooner (now (c .before .before .before .before .before .before .args .src)) (now (c .before .before .before .before .before .before .args .notes)) (c .before .before .before .before .before .before .args .i) (c .before .before .before .loop .j) (c .before .before .loop-test .taken) (sym (c .before .names-it .ensures) ∙ c .if1 .left) ∙ c .before .before .before .loop .inv .1)
+element-copy-out-place-of : tie.Need-element-copy-out-place-of
+element-copy-out-place-of c = search needs
 
-returns-2 : tie.Need-returns-2 Inv-loop μ-loop
-returns-2 c = target-none (now (c .before .before .before .before .args .src)) (now (c .before .before .before .before .args .notes)) (c .before .before .before .before .args .i) (c .before .loop .j) (c .loop-test .left) ∙ c .before .loop .inv .1
+place-of-requires : tie.Need-place-of-requires
+place-of-requires c κs = tt
+
+is-target-requires : tie.Need-is-target-requires
+is-target-requires c κs = search needs
+
+returns-2 : tie.Need-returns-2
+returns-2 c =
+    let a = c .before .before .before .before .before .before .before .before .before .before .args in
+    hit-target (now (a .src)) (now (a .notes)) (a .i) (a .n) (c .before .before .before .before .before .before .before .before .before .before .pre .1 .0) (c .before .before .place-of .result) (sym (c .before .is-target .ensures) ∙ c .if2 .taken)
+
+search-target-requires : tie.Need-search-target-requires
+search-target-requires c κs = search needs
+
+returns-3 : tie.Need-returns-3
+returns-3 c = c .search-target .ensures
 
 pub find-target-spec : {M : Type 1} → statement M
 find-target-spec =
     tie.close
     (tie.spec
-    Inv-loop
-    μ-loop
-    loop-holds
-    sub-j
-    names-it-requires
+    mul-part-at
+    add-part-at
+    part-at-requires
+    target-key-requires
+    is-seen-requires
     returns
-    loop-less
-    loop-again
-    returns-2)
+    mul-place-of
+    element-copy-out-place-of
+    place-of-requires
+    is-target-requires
+    returns-2
+    search-target-requires
+    returns-3)

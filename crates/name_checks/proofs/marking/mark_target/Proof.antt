@@ -25,7 +25,9 @@ returns c =
     section-marks (now (a .src)) (now (a .notes)) (a .i) (c .before .before .kind-at .result) (c .before .before .kind-at .ensures) (a .later) (a .n) (sym (c .before .is-enclosed .ensures) ∙ not-true (c .before .is-enclosed .result) (c .if1 .taken))
 
 find-target-requires : tie.Need-find-target-requires
-find-target-requires c κs = search needs
+find-target-requires c κs =
+    let p = c .before .before .before .before .before .before .before .pre in
+    (omega (arith, p .0), p .1)
 
 enum-known-target : tie.Need-enum-known-target
 enum-known-target c = search needs
