@@ -80,7 +80,7 @@ trim-ends [] h = inl refl
 trim-ends (b ∷ bs) h =
     keep-ends b (trim isZero bs) (and-first (isDigit b) (all isDigit bs) h) (trim-ends bs (and-second (isDigit b) (all isDigit bs) h))
 
-significant-ends : (ds : List ℕ) → all isDigit ds ≡ true → (numeral (significant ds) ≡ 0) ⊎ (numeral (significant ds) % 10 ≡ 0 → ⊥)
+pub significant-ends : (ds : List ℕ) → all isDigit ds ≡ true → (numeral (significant ds) ≡ 0) ⊎ (numeral (significant ds) % 10 ≡ 0 → ⊥)
 unfolding numeral numeralFrom significant
 significant-ends ds h = ⊎-elim (λ e. inl (ap (numeralFrom 0) e)) (λ f. inr (f 0)) (trim-ends ds h)
 
@@ -90,7 +90,7 @@ places-all [] = refl
 places-all (b ∷ bs) =
     cond-all (λ l. all isDigit l ≡ true) (eqb b (code ".")) (front isDigit bs) [] (λ h. front-all isDigit bs) (λ h. refl)
 
-figures-all : (s : List ℕ) → all isDigit (figures s) ≡ true
+pub figures-all : (s : List ℕ) → all isDigit (figures s) ≡ true
 unfolding figures
 figures-all s = all-append isDigit (front isDigit s) (pointPlaces (after isDigit s)) (front-all isDigit s) (places-all (after isDigit s))
 

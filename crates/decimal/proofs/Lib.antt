@@ -3,8 +3,9 @@
 pub mod Capped
 pub mod Numerals
 pub mod Parts
+pub mod Fine
 pub mod Results
+pub mod Settled
 pub mod Order
 pub mod Cells
-pub mod Fine
 pub mod Answers

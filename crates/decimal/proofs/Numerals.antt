@@ -20,6 +20,16 @@ unfolding numeralFrom
 numeral-append n [] ys = refl
 numeral-append n (d ∷ xs) ys = numeral-append (n * 10 + (d - code "0")) xs ys
 
+-- capping first changes nothing
+pub numeral-capped : (n : ℕ) (ds : List ℕ) → min (numeralFrom (min n cap) ds) cap ≡ min (numeralFrom n ds) cap
+unfolding numeralFrom
+numeral-capped n [] = omega arith
+numeral-capped n (d ∷ ds) =
+    let e : min (min n cap * 10 + (d - 48)) cap ≡ min (n * 10 + (d - 48)) cap = omega arith in
+    sym (numeral-capped (min n cap * 10 + (d - 48)) ds)
+    ∙ ap (λ (k : ℕ). min (numeralFrom k ds) cap) e
+    ∙ numeral-capped (n * 10 + (d - 48)) ds
+
 -- ---- "no trailing zero"
 
 zero-is : (b : ℕ) → isZero b ≡ true → b ≡ code "0"
@@ -95,10 +105,3 @@ stands-digit n z b g r ds h s e q =
       number = pushed g (numeral ds) (b - 48) cap r v q ∙ ap (λ (k : ℕ). min k cap) (sym (ap (numeralFrom 0) t ∙ numeral-append 0 ds (b ∷ [])));
       cut = omega (arith, ap length t);
     }
-
--- all digits with their zeros
-pub stands-whole : (n z g : ℕ) (ds : List ℕ) → StandsFor n z ds → g ≡ min (n * 10 ^ z) cap → g ≡ min (numeral ds) cap
-stands-whole n z g ds s e =
-    grown n (numeral (significant ds)) z cap g (s .number) e
-    ∙ ap (λ (k : ℕ). min (numeral (significant ds) * 10 ^ k) cap) (s .cut)
-    ∙ ap (λ (k : ℕ). min k cap) (sym (significant-numeral ds))

@@ -3,22 +3,26 @@ use Prim.Native.Nat.{ℕ, _+_, _-_, _*_, _^_, _≤_, _<_, min}
 use Prim.Native.Char.{code}
 use mathlib.Core.Path.{_≡_, refl, sym, ap, subst, _∙_}
 use mathlib.Core.List.{List, [], _∷_, _++_, append-assoc, append-nil}
-use mathlib.Core.Bool.{true, false}
+use mathlib.Core.Bool.{true, false, _||_}
 use mathlib.Core.Logic.{_⊎_, ⊎-elim}
+use native.Mathlib.Nat.{lt-of-lt-of-le, min-eq-left, pow-le-pow-right, pow-suc}
+use native.Mathlib.Numerals.{add-one}
 use native.Mathlib.Omega.{arith}
 use lib.ListN.{length, drop, getD, drop-of-length-le, length-append}
+use lib.Dec.{eqb}
 use borrow.Author.Tests.{eq-eqb, ne-eqb}
-use Rattle.laws.specs.Bytes.{isDigit}
-use Rattle.laws.specs.Lists.{front, after, part}
-use Rattle.laws.proofs.Tests.{cond-yes, cond-no}
+use Rattle.laws.specs.Bytes.{isDigit, isLetter}
+use Rattle.laws.specs.Lists.{front, after, all, part}
+use Rattle.laws.proofs.Tests.{by-order, cond-yes, cond-no, cond-all, and-first, and-second, never}
 use Rattle.laws.proofs.Lists.{from-cons, part-none, part-more, none-of}
 use Rattle.laws.proofs.Fronts.{front-more, front-at, after-at}
 use Rattle.decimal.specs.declared.word.Sign.{Sign}
 use Rattle.decimal.specs.declared.word.Figures.{Figures}
+use Rattle.decimal.specs.declared.word.Plain.{Plain}
 use Rattle.decimal.specs.Decimal.{isMinus, afterSign, pointPlaces, afterPoint, figures, afterFigures, afterE, exponentDigits, letters, numeral, numeralFrom}
-use Rattle.decimal.specs.Parts.{cap, StandsFor, SignRead, DigitsRead, MantissaRead, ExponentRead, places}
-use Rattle.laws.proofs.Bytes.{digit-yes}
-use Rattle.decimal.proofs.Numerals.{stands-none, stands-zero, stands-digit, stands-whole}
+use Rattle.decimal.specs.Parts.{cap, short, StandsFor, SignRead, DigitsRead, PlainRead, CappedRead, Spans, MantissaRead, ShortRead, ExponentRead}
+use Rattle.laws.proofs.Bytes.{digit-yes, digit-above, letter-below}
+use Rattle.decimal.proofs.Numerals.{numeral-append, numeral-capped, stands-none, stands-zero, stands-digit}
 
 -- ---- digits: those from `at` up to i are passed
 
@@ -83,6 +87,97 @@ module _ (w : List ℕ) (at n zeros : ℕ) where
           few = p .few;
         }
 
+-- ---- digits as they are: the number that they say from i on, after what was read, is that from `at` on
+
+pub record Goes (w : List ℕ) (at n m i : ℕ) : Type 0 where
+  pub number : numeralFrom m (front isDigit (drop i w)) ≡ numeralFrom n (front isDigit (drop at w))
+  pub stop : i + length (front isDigit (drop i w)) ≡ at + length (front isDigit (drop at w))
+  pub from : at ≤ i
+  pub within : i ≤ length w
+  pub small : m < 10 ^ i
+
+ten-short : (i n : ℕ) → i ≤ short → n < 10 ^ i → n < cap
+ten-short i n h k = lt-of-lt-of-le k (pow-le-pow-right (omega arith) h)
+
+pub ten-more : (i m d : ℕ) → m < 10 ^ i → d < 10 → m * 10 + d < 10 ^ (i + 1)
+ten-more i m d h k =
+    let e : 10 ^ (i + 1) ≡ 10 ^ i * 10 = ap (λ (j : ℕ). 10 ^ j) (add-one i) ∙ pow-suc 10 i in
+    omega (arith, h, k, e)
+
+module _ (w : List ℕ) (at n : ℕ) where
+  pub goes-none : at ≤ length w → n < 10 ^ at → Goes w at n n at
+  goes-none h k = record { number = refl; stop = refl; from = omega arith; within = h; small = k }
+
+  module _ (m i : ℕ) (p : Goes w at n m i) where
+    pub goes-digit : i < length w → code "0" ≤ getD w i 0 → getD w i 0 ≤ code "9" → Goes w at n (m * 10 + (getD w i 0 - code "0")) (i + 1)
+    unfolding numeralFrom front
+    goes-digit h a b =
+        let t = digit-yes (getD w i 0) a b in
+        record {
+          number = sym (rw (from-cons w i 0 h, t)) ∙ p .number;
+          stop = front-more isDigit w i 0 h t ∙ p .stop;
+          from = omega (arith, p .from);
+          within = omega arith;
+          small = ten-more i m (getD w i 0 - 48) (p .small) (omega arith);
+        }
+
+    -- within a short word what was read is so small that a digit more fits
+    pub goes-fits : length w ≤ short → i < length w → m * 10 + 9 < cap
+    goes-fits h k = ten-short (i + 1) (m * 10 + 9) (omega arith) (ten-more i m 9 (p .small) (omega arith))
+
+    -- no digit stands at i
+    pub goes-end : i + length (front isDigit (drop i w)) ≡ i → PlainRead w at n (record { number = m; at = i })
+    unfolding numeralFrom
+    goes-end e =
+        record {
+          number = sym (ap (numeralFrom m) (none-of (front isDigit (drop i w)) (omega (arith, e)))) ∙ p .number;
+          stop = sym e ∙ p .stop;
+          within = p .within;
+          small = p .small;
+        }
+
+-- ---- the same, capped
+
+pub record Capped (w : List ℕ) (at m i : ℕ) : Type 0 where
+  pub number : min (numeralFrom m (front isDigit (drop i w))) cap ≡ min (numeral (front isDigit (drop at w))) cap
+  pub stop : i + length (front isDigit (drop i w)) ≡ at + length (front isDigit (drop at w))
+  pub within : i ≤ length w
+  pub small : m ≤ cap
+
+module _ (w : List ℕ) (at : ℕ) where
+  pub capped-none : at ≤ length w → Capped w at 0 at
+  unfolding numeral
+  capped-none h = record { number = refl; stop = refl; within = h; small = omega arith }
+
+  module _ (m i : ℕ) (p : Capped w at m i) where
+    pub capped-digit : (r : ℕ) → i < length w → code "0" ≤ getD w i 0 → getD w i 0 ≤ code "9" → r ≡ min (m * 10 + (getD w i 0 - code "0")) cap
+        → Capped w at r (i + 1)
+    unfolding numeralFrom front
+    capped-digit r h a b e =
+        let t = digit-yes (getD w i 0) a b in
+        record {
+          number =
+              ap (λ (k : ℕ). min (numeralFrom k (front isDigit (drop (i + 1) w))) cap) e
+              ∙ numeral-capped (m * 10 + (getD w i 0 - 48)) (front isDigit (drop (i + 1) w))
+              ∙ sym (rw (from-cons w i 0 h, t))
+              ∙ p .number;
+          stop = front-more isDigit w i 0 h t ∙ p .stop;
+          within = omega arith;
+          small = omega arith;
+        }
+
+    -- no digit stands at i
+    pub capped-end : i + length (front isDigit (drop i w)) ≡ i → CappedRead w at (record { number = m; at = i })
+    unfolding numeralFrom
+    capped-end e =
+        record {
+          number =
+              sym (ap (λ (l : List ℕ). min (numeralFrom m l) cap) (none-of (front isDigit (drop i w)) (omega (arith, e))) ∙ min-eq-left (p .small))
+              ∙ p .number;
+          stop = sym e ∙ p .stop;
+          within = p .within;
+        }
+
 -- ---- the sign at a place: none where the word ends, or another byte stands there
 
 pub sign-end : (w : List ℕ) (at : ℕ) → length w ≤ at → at ≤ length w → SignRead w at (record { minus = false; at = at })
@@ -127,46 +222,97 @@ places-point : (w : List ℕ) (i : ℕ) → i < length w → getD w i 0 ≡ code
 unfolding pointPlaces afterPoint
 places-point w i h k = rw (from-cons w i 0 h, k) (refl, refl)
 
-module _ (w : List ℕ) (at : ℕ) (f : Figures) (d : DigitsRead w at 0 0 f) where
-  behind : after isDigit (drop at w) ≡ drop (f .at) w
-  behind = after-at isDigit w at (f .at) (d .stop)
+-- where the digits with their point lie: those from `at` on end at `stop`
+module _ (w : List ℕ) (at stop : ℕ) (found : stop ≡ at + length (front isDigit (drop at w))) where
+  behind : after isDigit (drop at w) ≡ drop stop w
+  behind = after-at isDigit w at stop found
 
-  -- the digits as they are, with no point
+  -- as they are, with no point
+  module _ (within : stop ≤ length w) (e : (pointPlaces (drop stop w) ≡ []) × (afterPoint (drop stop w) ≡ drop stop w)) where
+    figures-plain : figures (drop at w) ≡ front isDigit (drop at w)
+    unfolding figures
+    figures-plain = ap (λ (l : List ℕ). front isDigit (drop at w) ++ l) (ap pointPlaces behind ∙ e .0) ∙ append-nil _
+
+    spans-plain : (n z : ℕ) → Spans w (drop at w) (record { number = n; zeros = z; count = stop - at; places = 0; at = stop })
+    unfolding afterFigures
+    spans-plain n z =
+        record {
+          count = omega (arith, ap length figures-plain);
+          places = sym (ap length (ap pointPlaces behind ∙ e .0));
+          rest = sym (ap afterPoint behind ∙ e .1);
+          within = within;
+          some = omega arith;
+          short = omega arith;
+        }
+
+  -- before and after the point
+  module _ (h : stop < length w) (k : getD w stop 0 ≡ code ".") (end : ℕ) (more : end ≡ stop + 1 + length (front isDigit (drop (stop + 1) w))) where
+    beyond : pointPlaces (after isDigit (drop at w)) ≡ front isDigit (drop (stop + 1) w)
+    beyond = ap pointPlaces behind ∙ places-point w stop h k .0
+
+    figures-point : figures (drop at w) ≡ front isDigit (drop at w) ++ front isDigit (drop (stop + 1) w)
+    unfolding figures
+    figures-point = ap (λ (l : List ℕ). front isDigit (drop at w) ++ l) beyond
+
+    spans-point : (n z : ℕ) → end ≤ length w
+        → Spans w (drop at w) (record { number = n; zeros = z; count = stop - at + (end - stop - 1); places = end - stop - 1; at = end })
+    unfolding afterFigures
+    spans-point n z within =
+        record {
+          count = omega (arith, ap length figures-point, length-append (front isDigit (drop at w)) (front isDigit (drop (stop + 1) w)));
+          places = omega (arith, ap length beyond);
+          rest = sym (ap afterPoint behind ∙ places-point w stop h k .1 ∙ after-at isDigit w (stop + 1) end more);
+          within = within;
+          some = omega arith;
+          short = omega arith;
+        }
+
+module _ (w : List ℕ) (at : ℕ) (f : Figures) (d : DigitsRead w at 0 0 f) where
   pub mantissa-plain : (pointPlaces (drop (f .at) w) ≡ []) × (afterPoint (drop (f .at) w) ≡ drop (f .at) w)
       → MantissaRead w (drop at w) (record { number = f .number; zeros = f .zeros; count = f .at - at; places = 0; at = f .at })
-  unfolding figures afterFigures
   mantissa-plain e =
-      let p : pointPlaces (after isDigit (drop at w)) ≡ [] = ap pointPlaces behind ∙ e .0 in
-      let all : front isDigit (drop at w) ++ pointPlaces (after isDigit (drop at w)) ≡ front isDigit (drop at w) =
-      ap (λ (l : List ℕ). front isDigit (drop at w) ++ l) p ∙ append-nil _ in
       record {
-        stands = subst (StandsFor (f .number) (f .zeros)) (sym all) (d .stands [] stands-none);
-        count = omega (arith, d .stop, ap length all);
-        places = sym (ap length p);
-        rest = sym (ap afterPoint behind ∙ e .1);
-        within = d .within;
+        stands = subst (StandsFor (f .number) (f .zeros)) (sym (figures-plain w at (f .at) (d .stop) (d .within) e)) (d .stands [] stands-none);
+        spans = spans-plain w at (f .at) (d .stop) (d .within) e (f .number) (f .zeros);
         few = omega (arith, d .few, d .within);
-        short = omega arith;
       }
 
-  -- the digits before and after the point
   pub mantissa-point : (g : Figures) → f .at < length w → getD w (f .at) 0 ≡ code "." → DigitsRead w (f .at + 1) (f .number) (f .zeros) g
       → MantissaRead w (drop at w) (record { number = g .number; zeros = g .zeros; count = f .at - at + (g .at - f .at - 1); places = g .at - f .at - 1; at = g .at })
-  unfolding figures afterFigures
   mantissa-point g h k m =
-      let e = places-point w (f .at) h k in
-      let p : pointPlaces (after isDigit (drop at w)) ≡ front isDigit (drop (f .at + 1) w) = ap pointPlaces behind ∙ e .0 in
-      let n : length (pointPlaces (after isDigit (drop at w))) ≡ g .at - f .at - 1 = omega (arith, ap length p, m .stop) in
       record {
         stands =
-            subst (λ (l : List ℕ). StandsFor (g .number) (g .zeros) (front isDigit (drop at w) ++ l)) (sym p)
+            subst (StandsFor (g .number) (g .zeros)) (sym (figures-point w at (f .at) (d .stop) h k (g .at) (m .stop)))
             (m .stands (front isDigit (drop at w)) (d .stands [] stands-none));
-        count = omega (arith, d .stop, n, length-append (front isDigit (drop at w)) (pointPlaces (after isDigit (drop at w))));
-        places = sym n;
-        rest = sym (ap afterPoint behind ∙ e .1 ∙ after-at isDigit w (f .at + 1) (g .at) (m .stop));
-        within = m .within;
+        spans = spans-point w at (f .at) (d .stop) h k (g .at) (m .stop) (g .number) (g .zeros) (m .within);
         few = omega (arith, m .few, m .within);
-        short = omega (arith, m .within);
+      }
+
+-- the same in a short word
+module _ (w : List ℕ) (at : ℕ) (few : length w ≤ short) (f : Plain) (d : PlainRead w at 0 f) where
+  pub short-plain : (pointPlaces (drop (f .at) w) ≡ []) × (afterPoint (drop (f .at) w) ≡ drop (f .at) w)
+      → ShortRead w (drop at w) (record { number = f .number; zeros = 0; count = f .at - at; places = 0; at = f .at })
+  unfolding numeral
+  short-plain e =
+      record {
+        number = d .number ∙ ap (numeralFrom 0) (sym (figures-plain w at (f .at) (d .stop) (d .within) e));
+        spans = spans-plain w at (f .at) (d .stop) (d .within) e (f .number) 0;
+        small = ten-short (f .at) (f .number) (omega (arith, d .within)) (d .small);
+      }
+
+  pub short-point : (g : Plain) → f .at < length w → getD w (f .at) 0 ≡ code "." → PlainRead w (f .at + 1) (f .number) g
+      → ShortRead w (drop at w) (record { number = g .number; zeros = 0; count = f .at - at + (g .at - f .at - 1); places = g .at - f .at - 1; at = g .at })
+  unfolding numeral
+  short-point g h k m =
+      let ahead = front isDigit (drop at w) in
+      let more = front isDigit (drop (f .at + 1) w) in
+      record {
+        number =
+            m .number
+            ∙ ap (λ (n : ℕ). numeralFrom n more) (d .number)
+            ∙ sym (ap (numeralFrom 0) (figures-point w at (f .at) (d .stop) h k (g .at) (m .stop)) ∙ numeral-append 0 ahead more);
+        spans = spans-point w at (f .at) (d .stop) h k (g .at) (m .stop) (g .number) 0 (m .within);
+        small = ten-short (g .at) (g .number) (omega (arith, m .within)) (m .small);
       }
 
 -- ---- the exponent
@@ -190,8 +336,43 @@ unfolding exponentDigits letters isMinus afterSign front numeral numeralFrom
 exponent-none w at h e =
     record { minus = sym (ap isMinus e); size = rw e; rest = rw e; within = h }
 
+-- letters alone: the e that they may begin with has no digits
+letter-digit : (b : ℕ) → isLetter b ≡ true → isDigit b ≡ false
+letter-digit b h =
+    by-order b 57
+    (λ k. absurd (never (isLetter b) h (letter-below b (omega arith))))
+    (λ k. digit-above b k)
+
+letter-sign : (b : ℕ) → isLetter b ≡ true → (eqb b (code "+") ≡ false) × (eqb b (code "-") ≡ false)
+letter-sign b h =
+    by-order b 45
+    (λ k. absurd (never (isLetter b) h (letter-below b (omega arith))))
+    (λ k. (ne-eqb b 43 (omega arith), ne-eqb b 45 (omega arith)))
+
+letters-begin : (s : List ℕ) → all isLetter s ≡ true → (isMinus s ≡ false) × (front isDigit (afterSign s) ≡ [])
+unfolding isMinus afterSign front all
+letters-begin [] h = (refl, refl)
+letters-begin (b ∷ bs) h =
+    let l = and-first (isLetter b) (all isLetter bs) h in
+    let s = letter-sign b l in
+    (s .1, rw (s .0, s .1, letter-digit b l))
+
+letters-after : (s : List ℕ) → all isLetter s ≡ true → all isLetter (afterE s) ≡ true
+unfolding afterE all
+letters-after [] h = refl
+letters-after (b ∷ bs) h =
+    cond-all (λ l. all isLetter l ≡ true) (eqb b (code "e") || eqb b (code "E")) bs []
+    (λ k. and-second (isLetter b) (all isLetter bs) h) (λ k. refl)
+
+pub exponent-letters : (w : List ℕ) (at : ℕ) → at ≤ length w → all isLetter (drop at w) ≡ true
+    → ExponentRead w (drop at w) (record { minus = false; size = 0; at = at })
+unfolding exponentDigits letters numeral numeralFrom
+exponent-letters w at h e =
+    let g = letters-begin (afterE (drop at w)) (letters-after (drop at w) e) in
+    record { minus = sym (g .0); size = rw (g .1); rest = rw (g .1); within = h }
+
 module _ (w : List ℕ) (at : ℕ) (h : at < length w) (e : afterE (drop at w) ≡ drop (at + 1) w)
-    (s : Sign) (hs : SignRead w (at + 1) s) (d : Figures) (hd : DigitsRead w (s .at) 0 0 d) where
+    (s : Sign) (hs : SignRead w (at + 1) s) (d : Plain) (hd : CappedRead w (s .at) d) where
   abbrev said : List ℕ
   said = front isDigit (afterSign (afterE (drop at w)))
 
@@ -209,14 +390,13 @@ module _ (w : List ℕ) (at : ℕ) (h : at < length w) (e : afterE (drop at w) �
         within = omega arith;
       }
 
-  pub exponent-some : (g : ℕ) → (d .at ≡ s .at → ⊥) → g ≡ min (d .number * 10 ^ d .zeros) cap
-      → ExponentRead w (drop at w) (record { minus = s .minus; size = g; at = d .at })
+  pub exponent-some : (d .at ≡ s .at → ⊥) → ExponentRead w (drop at w) (record { minus = s .minus; size = d .number; at = d .at })
   unfolding exponentDigits letters
-  exponent-some g k q =
+  exponent-some k =
       let n : length said ≡ 0 → ⊥ = λ z. k (omega (arith, ap length read, hd .stop)) in
       record {
         minus = hs .minus ∙ ap isMinus (sym e);
-        size = stands-whole _ _ g _ (hd .stands [] stands-none) q ∙ ap (λ (l : List ℕ). min (numeral l) cap) (sym read);
+        size = hd .number ∙ ap (λ (l : List ℕ). min (numeral l) cap) (sym read);
         rest =
             sym (cond-no (drop at w) (after isDigit (afterSign (afterE (drop at w)))) (ne-eqb (length said) 0 n)
             ∙ ap (λ (l : List ℕ). after isDigit (afterSign l)) e

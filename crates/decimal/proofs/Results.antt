@@ -17,7 +17,7 @@ use Rattle.decimal.specs.declared.word.Mantissa.{Mantissa}
 use Rattle.decimal.specs.declared.word.Exponent.{Exponent}
 use Rattle.decimal.specs.declared.Decimal.{Decimal}
 use Rattle.decimal.specs.Decimal.{ranged, resultOf, unsigned, numberOf, isMinus, afterSign, figures, afterFigures, afterE, letters, scaleUp, scaleDown, plusExponent, minusExponent, exponentDigits, numeral, significant, zerosCut}
-use Rattle.decimal.specs.Parts.{cap, SignRead, MantissaRead, ExponentRead, places}
+use Rattle.decimal.specs.Parts.{cap, StandsFor, SignRead, Spans, ExponentRead, places}
 
 -- ---- `ranged`, by cases
 
@@ -159,12 +159,12 @@ scale-down-small d s h = omega (arith, scale-down-le s)
 
 -- ---- `numberOf`, from what the parts of the code say
 
-module _ (w : List ℕ) (s : Sign) (hs : SignRead w 0 s) (m : Mantissa) (hm : MantissaRead w (drop (s .at) w) m) where
+module _ (w : List ℕ) (s : Sign) (hs : SignRead w 0 s) (m : Mantissa) (hm : Spans w (drop (s .at) w) m) where
   abbrev body : List ℕ
   body = afterSign w
 
-  digits : MantissaRead w body m
-  digits = subst (λ (l : List ℕ). MantissaRead w l m) (hs .rest) hm
+  digits : Spans w body m
+  digits = subst (λ (l : List ℕ). Spans w l m) (hs .rest) hm
 
   pub number-none : m .count ≡ 0 → numberOf w ≡ fault 11
   unfolding numberOf unsigned
@@ -185,18 +185,19 @@ module _ (w : List ℕ) (s : Sign) (hs : SignRead w 0 s) (m : Mantissa) (hm : Ma
     number-bad h = opened ∙ cond-no _ _ (ap (all isLetter) (sym (power .rest)) ∙ h)
 
     pub number-good : all isLetter (drop (e .at) w) ≡ true → (u d : ℕ) → u ≡ scaleUp (drop (e .at) w) → d ≡ scaleDown (drop (e .at) w)
-        → m .zeros + u + 40 < cap → m .places + d + 24 < cap
-        → ranged (s .minus) (m .number) (m .zeros + u + cond (e .minus) 0 (e .size)) (m .places + d + cond (e .minus) (e .size) 0) ≡ numberOf w
+        → (n z : ℕ) → StandsFor n z (figures (drop (s .at) w)) → z + u + 40 < cap → m .places + d + 24 < cap
+        → ranged (s .minus) n (z + u + cond (e .minus) 0 (e .size)) (m .places + d + cond (e .minus) (e .size) 0) ≡ numberOf w
     unfolding resultOf plusExponent minusExponent
-    number-good h u d hu hd k l =
+    number-good h u d hu hd n z st k l =
         let a : u ≡ scaleUp (letters end) = hu ∙ ap scaleUp (power .rest) in
         let b : d ≡ scaleDown (letters end) = hd ∙ ap scaleDown (power .rest) in
-        rw (hs .minus, digits .stands .number, power .minus, power .size, a, b, digits .stands .cut, digits .places)
+        let stands = subst (λ (x : List ℕ). StandsFor n z (figures x)) (hs .rest) st in
+        rw (hs .minus, stands .number, power .minus, power .size, a, b, stands .cut, digits .places)
         (both-capped (isMinus w) (numeral (significant (figures body)))
         (zerosCut (figures body) + scaleUp (letters end))
         (length (places body) + scaleDown (letters end))
         (numeral (exponentDigits end))
         (isMinus (afterE end))
-        (omega (arith, digits .stands .cut))
+        (omega (arith, stands .cut))
         (omega (arith, digits .places)))
         ∙ sym (opened ∙ cond-yes _ _ (ap (all isLetter) (sym (power .rest)) ∙ h))

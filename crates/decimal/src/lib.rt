@@ -4,8 +4,8 @@ ghost use mathlib.Core.Path.{_≡_};
 ghost use Prim.Native.Nat.{_+_, _/_, _^_, _<_};
 ghost use lib.Dec.{ltb};
 ghost use Rattle.decimal.specs.Decimal.{numberOf, givenCell, cellOf, isMissing, lessThan, sizeOf, aboveZero, wordOf, ranged, offset};
-ghost use Rattle.decimal.specs.Parts.{signBit};
-ghost use Rattle.decimal.specs.Answers.{numberRead, cellRead, cellIn};
+ghost use Rattle.decimal.specs.Parts.{cap, signBit, BegunRead};
+ghost use Rattle.decimal.specs.Answers.{numberRead, cellRead, cellIn, Settles};
 
 mod word; // word.rt: the parts of a word
 
@@ -16,6 +16,7 @@ use word::letters_from;
 use word::mantissa_at;
 use word::scale_down;
 use word::scale_up;
+use word::short_mantissa_at;
 use word::sign_at;
 
 // power has 40 added: 0 to 64 stand for -40 to 24.
@@ -43,6 +44,15 @@ pub enum CellRead {
     Bad(u8),
 }
 
+// What was read of a short word: its sign and its digits, if there are some. They end at `at`.
+struct Begun {
+    some: bool,
+    minus: bool,
+    number: u64,
+    places: u64,
+    at: usize,
+}
+
 // The first number of 16 digits.
 const LIMIT: u64 = 1_000_000_000_000_000;
 
@@ -53,14 +63,20 @@ const HIGHEST: u64 = 24;
 
 const SPAN: u64 = LOWEST + HIGHEST;
 
+// The bytes of a short word at the most: as many digits fit in a u64.
+const SHORT: usize = 19;
+
 // The word of a missing cell.
 const MISSING: u64 = 18_446_744_073_709_551_615;
 
 // number with the power high less low, which has LOWEST added.
 fn fit(minus: bool, number: u64, high: u64, low: u64) -> NumberRead
-    requires { ⌜ (0 < number) × (number < 10 ^ 15) × (low < 2 ^ 63 + 100) ⌝ }
+    requires { ⌜ (0 < number) × (low < 2 ^ 63 + 100) ⌝ }
     ensures { λ r. ⌜ r ≡ numberRead (ranged minus number high (low + offset)) ⌝ }
 {
+    if LIMIT <= number {
+        return NumberRead::Wrong(12);
+    }
     if high < low {
         return NumberRead::Wrong(12);
     }
@@ -74,10 +90,10 @@ fn fit(minus: bool, number: u64, high: u64, low: u64) -> NumberRead
     })
 }
 
-// number with the power up less down, and the exponent. Its size is only taken off: added, it could wrap.
-fn finish(minus: bool, number: u64, up: u64, down: u64, exponent: Exponent) -> NumberRead
-    requires { ⌜ (up < 2 ^ 63 + 20) × (down < 2 ^ 63 + 20) ⌝ }
-    ensures { λ r. ⌜ r ≡ numberRead (ranged minus number (up + cond (exponent .minus) 0 (exponent .size)) (down + cond (exponent .minus) (exponent .size) 0)) ⌝ }
+// The same of a number that may be zero or have trailing zeros, which go into the power.
+fn settle(minus: bool, number: u64, high: u64, low: u64) -> NumberRead
+    requires { ⌜ (number < cap) × (high < 100) × (low < 100) ⌝ }
+    ensures { λ r. ⌜ Settles minus number high low r ⌝ }
 {
     if number == 0 {
         return NumberRead::Value(Decimal {
@@ -86,8 +102,22 @@ fn finish(minus: bool, number: u64, up: u64, down: u64, exponent: Exponent) -> N
             power: 40,
         });
     }
-    if LIMIT <= number {
-        return NumberRead::Wrong(12);
+    let mut digits = number;
+    let mut power = high;
+    while digits % 10 == 0 {
+        digits = digits / 10;
+        power += 1;
+    }
+    fit(minus, digits, power, low)
+}
+
+// number with the power up less down, and the exponent. Its size is only taken off: added, it could wrap.
+fn finish(minus: bool, number: u64, up: u64, down: u64, exponent: Exponent) -> NumberRead
+    requires { ⌜ (up < 2 ^ 63 + 20) × (down < 2 ^ 63 + 20) ⌝ }
+    ensures { λ r. ⌜ r ≡ numberRead (ranged minus number (up + cond (exponent .minus) 0 (exponent .size)) (down + cond (exponent .minus) (exponent .size) 0)) ⌝ }
+{
+    if number == 0 {
+        return settle(minus, number, 0, 0);
     }
     if exponent.minus {
         if up + LOWEST < exponent.size {
@@ -101,8 +131,8 @@ fn finish(minus: bool, number: u64, up: u64, down: u64, exponent: Exponent) -> N
     fit(minus, number, up + SPAN, down + HIGHEST - exponent.size)
 }
 
-// What a word says as a number.
-pub fn number_of(w: &[u8]) -> NumberRead
+// What any word says as a number.
+fn any_number(w: &[u8]) -> NumberRead
     ensures { λ r. ⌜ r ≡ numberRead (numberOf (now (w .entry))) ⌝ }
 {
     let sign = sign_at(w, 0);
@@ -118,6 +148,70 @@ pub fn number_of(w: &[u8]) -> NumberRead
     let up = mantissa.zeros + scale_up(w, at);
     let down = mantissa.places + scale_down(w, at);
     finish(sign.minus, mantissa.number, up, down, exponent)
+}
+
+// The same of a short word, from what was read of it. A size up to LOWEST leaves both sides of the power small enough to settle.
+fn with_exponent(w: &[u8], begun: Begun) -> NumberRead
+    requires { ⌜ BegunRead (now w) begun ⌝ }
+    ensures { λ r. ⌜ r ≡ numberRead (numberOf (now (w .entry))) ⌝ }
+{
+    if !begun.some {
+        return NumberRead::Wrong(11);
+    }
+    let exponent = exponent_at(w, begun.at);
+    let at = exponent.at;
+    if !letters_from(w, at) {
+        return NumberRead::Wrong(11);
+    }
+    let size = exponent.size;
+    if LOWEST < size {
+        return any_number(w);
+    }
+    let up = scale_up(w, at) + LOWEST;
+    let down = begun.places + scale_down(w, at);
+    if exponent.minus {
+        return settle(begun.minus, begun.number, up, down + size);
+    }
+    settle(begun.minus, begun.number, up + size, down)
+}
+
+// What any word says as a number, soonest for a short one that has letters alone behind its digits. Every word would pay for the slow ways
+// if their answers were handed on straight, or if with_exponent had one call alone, which the compiler would take in.
+pub fn number_of(w: &[u8]) -> NumberRead
+    ensures { λ r. ⌜ r ≡ numberRead (numberOf (now (w .entry))) ⌝ }
+{
+    if SHORT < w.len() {
+        let slow = any_number(w);
+        return slow;
+    }
+    let sign = sign_at(w, 0);
+    let mantissa = short_mantissa_at(w, sign.at);
+    let at = mantissa.at;
+    if mantissa.count == 0 {
+        let none = Begun {
+            some: false,
+            minus: sign.minus,
+            number: mantissa.number,
+            places: mantissa.places,
+            at: at,
+        };
+        let slow = with_exponent(w, none);
+        return slow;
+    }
+    if !letters_from(w, at) {
+        let begun = Begun {
+            some: true,
+            minus: sign.minus,
+            number: mantissa.number,
+            places: mantissa.places,
+            at: at,
+        };
+        let slow = with_exponent(w, begun);
+        return slow;
+    }
+    let up = scale_up(w, at) + LOWEST;
+    let down = mantissa.places + scale_down(w, at);
+    settle(sign.minus, mantissa.number, up, down)
 }
 
 // Is the word NA, in any letter case?

@@ -2,15 +2,21 @@
 ghost use mathlib.Core.Path.{_≡_};
 ghost use Prim.Native.Nat.{_+_, _*_, _^_, _≤_, _<_, min};
 ghost use lib.ListN.{length, drop};
-ghost use Rattle.laws.specs.Bytes.{isLetter};
+ghost use Rattle.laws.specs.Bytes.{isCapital, isSmall, isLetter};
 ghost use Rattle.laws.specs.Lists.{all};
 ghost use Rattle.decimal.specs.Decimal.{afterE, scaleUp, scaleDown};
-ghost use Rattle.decimal.specs.Parts.{cap, SignRead, DigitsRead, MantissaRead, ExponentRead};
+ghost use Rattle.decimal.specs.Parts.{cap, short, SignRead, DigitsRead, PlainRead, CappedRead, MantissaRead, ShortRead, ExponentRead};
 
 // Digits so far: number times ten to the zeros. The number has no trailing zero, and is capped; at is the next byte.
 pub(crate) struct Figures {
     pub(crate) number: u64,
     pub(crate) zeros: u64,
+    pub(crate) at: usize,
+}
+
+// Digits as the number that they say; at is the next byte.
+pub(crate) struct Plain {
+    pub(crate) number: u64,
     pub(crate) at: usize,
 }
 
@@ -74,6 +80,13 @@ pub(crate) fn sign_at(w: &[u8], at: usize) -> Sign
         };
     }
     let byte = w[at];
+    // Neither sign stands above a minus.
+    if b'-' < byte {
+        return Sign {
+            minus: false,
+            at: at,
+        };
+    }
     match byte {
         b'+' => Sign {
             minus: false,
@@ -148,6 +161,81 @@ pub(crate) fn mantissa_at(w: &[u8], at: usize) -> Mantissa
     }
 }
 
+// The digits from `at` on, after those that number stands for, in a word so short that no number overflows.
+fn plain_at(w: &[u8], at: usize, number: u64) -> Plain
+    requires { ⌜ (at ≤ length (now w)) × (length (now w) ≤ short) × (number < 10 ^ at) ⌝ }
+    ensures { λ r. ⌜ PlainRead (now (w .entry)) at number r ⌝ }
+{
+    let mut read = number;
+    let mut i = at;
+    while i < w.len() {
+        let byte = w[i];
+        match byte {
+            b'0'..=b'9' => {
+                read = read * 10 + (byte - b'0') as u64;
+            }
+            _ => break,
+        }
+        i += 1;
+    }
+    Plain {
+        number: read,
+        at: i,
+    }
+}
+
+// The digits from `at` on, with at most one point, in a short word: the number still has its trailing zeros.
+pub(crate) fn short_mantissa_at(w: &[u8], at: usize) -> Mantissa
+    requires { ⌜ (at ≤ length (now w)) × (length (now w) ≤ short) ⌝ }
+    ensures { λ r. ⌜ ShortRead (now (w .entry)) (drop at (now (w .entry))) r ⌝ }
+{
+    let whole = plain_at(w, at, 0);
+    let point = whole.at;
+    if point < w.len() {
+        if w[point] == b'.' {
+            let all = plain_at(w, point + 1, whole.number);
+            let places = all.at - point - 1;
+            return Mantissa {
+                number: all.number,
+                zeros: 0,
+                count: point - at + places,
+                places: places as u64,
+                at: all.at,
+            };
+        }
+    }
+    Mantissa {
+        number: whole.number,
+        zeros: 0,
+        count: point - at,
+        places: 0,
+        at: point,
+    }
+}
+
+// The digits from `at` on as a number, or CAP if that is less.
+fn capped_at(w: &[u8], at: usize) -> Plain
+    requires { ⌜ at ≤ length (now w) ⌝ }
+    ensures { λ r. ⌜ CappedRead (now (w .entry)) at r ⌝ }
+{
+    let mut read = 0;
+    let mut i = at;
+    while i < w.len() {
+        let byte = w[i];
+        match byte {
+            b'0'..=b'9' => {
+                read = push(read, (byte - b'0') as u64);
+            }
+            _ => break,
+        }
+        i += 1;
+    }
+    Plain {
+        number: read,
+        at: i,
+    }
+}
+
 // What follows the e at `at`: a sign or none, and digits. An e without digits stays, as a letter.
 fn after_e(w: &[u8], at: usize) -> Exponent
     requires { ⌜ (at < length (now w)) × (afterE (drop at (now w)) ≡ drop (at + 1) (now w)) ⌝ }
@@ -155,7 +243,7 @@ fn after_e(w: &[u8], at: usize) -> Exponent
 {
     let sign = sign_at(w, at + 1);
     let first = sign.at;
-    let digits = digits_at(w, first, 0, 0);
+    let digits = capped_at(w, first);
     if digits.at == first {
         return Exponent {
             minus: sign.minus,
@@ -165,7 +253,7 @@ fn after_e(w: &[u8], at: usize) -> Exponent
     }
     Exponent {
         minus: sign.minus,
-        size: grow(digits.number, digits.zeros),
+        size: digits.number,
         at: digits.at,
     }
 }
@@ -190,13 +278,31 @@ pub(crate) fn exponent_at(w: &[u8], at: usize) -> Exponent
     }
 }
 
+fn capital(byte: u8) -> bool
+    ensures { λ r. ⌜ r ≡ isCapital byte ⌝ }
+{
+    match byte {
+        b'A'..=b'Z' => true,
+        _ => false,
+    }
+}
+
+fn small(byte: u8) -> bool
+    ensures { λ r. ⌜ r ≡ isSmall byte ⌝ }
+{
+    match byte {
+        b'a'..=b'z' => true,
+        _ => false,
+    }
+}
+
 pub fn letter(byte: u8) -> bool
     ensures { λ r. ⌜ r ≡ isLetter byte ⌝ }
 {
-    match byte {
-        b'A'..=b'Z' | b'a'..=b'z' => true,
-        _ => false,
+    if capital(byte) {
+        return true;
     }
+    small(byte)
 }
 
 // Is every byte from `at` on a letter?

@@ -15,7 +15,7 @@ ghost use Rattle.line_rules.specs.Fields.{typMinMax, threeCells, cellsBy, rowOf
 ghost use Rattle.line_rules.specs.Answers.{tripleRead, rowRead, slopeRead, rampRead, tripleSays, slopeSays, rampSays};
 ghost use Rattle.rules.specs.Component.{pinCells};
 ghost use Rattle.line_cells.specs.Headings.{headingRead, restRead};
-ghost use Rattle.line_cells.specs.Threes.{bytesOf, Within, ThreeFrom};
+ghost use Rattle.line_cells.specs.Threes.{bytesOf, Within, ThreeFrom, rowBy};
 use decimal::Cell;
 use decimal::CellRead;
 use decimal::Decimal;
@@ -165,24 +165,41 @@ pub fn pin_cells(w: &[u8], at: usize) -> TripleRead
     any_cells(w, at)
 }
 
-fn on_row(number: Decimal, c: TripleRead) -> RowRead
-    ensures { λ r. ⌜ r ≡ rowRead (readOn (tripleSays c) (λ cells. says (record { number = number; cells = cells }))) ⌝ }
+// A row whose other cells are read, with its last one. A row's cells are read one behind the other, each once those before it are good.
+fn row_max(w: &[u8], number: Decimal, typ: Cell, min: Cell, d: Word) -> RowRead
+    requires { ⌜ Within (now w) d ⌝ }
+    ensures { λ r. ⌜ r ≡ rowRead (rowBy number (says typ) (says min) (cellOf (bytesOf (now (w .entry)) d))) ⌝ }
 {
-    match c {
-        TripleRead::Flawed(fault) => RowRead::Amiss(fault),
-        TripleRead::Cells(cells) => RowRead::Line(Row {
+    match cell_at(w, d) {
+        CellRead::Bad(fault) => RowRead::Amiss(fault),
+        CellRead::Read(max) => RowRead::Line(Row {
             number: number,
-            cells: cells,
+            cells: Triple {
+                typ: typ,
+                min: min,
+                max: max,
+            },
         }),
     }
 }
 
-fn with_number(a: NumberRead, c: TripleRead) -> RowRead
-    ensures { λ r. ⌜ r ≡ rowRead (readOn (numberSays a) (λ number. readOn (tripleSays c) (λ cells. says (record { number = number; cells = cells })))) ⌝ }
+fn row_min(w: &[u8], number: Decimal, typ: Cell, c: Word, d: Word) -> RowRead
+    requires { ⌜ Within (now w) c × Within (now w) d ⌝ }
+    ensures { λ r. ⌜ r ≡ rowRead (rowBy number (says typ) (cellOf (bytesOf (now (w .entry)) c)) (cellOf (bytesOf (now (w .entry)) d))) ⌝ }
 {
-    match a {
-        NumberRead::Wrong(fault) => RowRead::Amiss(fault),
-        NumberRead::Value(number) => on_row(number, c),
+    match cell_at(w, c) {
+        CellRead::Bad(fault) => RowRead::Amiss(fault),
+        CellRead::Read(min) => row_max(w, number, typ, min, d),
+    }
+}
+
+fn row_typ(w: &[u8], number: Decimal, b: Word, c: Word, d: Word) -> RowRead
+    requires { ⌜ Within (now w) b × Within (now w) c × Within (now w) d ⌝ }
+    ensures { λ r. ⌜ r ≡ rowRead (rowBy number (cellOf (bytesOf (now (w .entry)) b)) (cellOf (bytesOf (now (w .entry)) c)) (cellOf (bytesOf (now (w .entry)) d))) ⌝ }
+{
+    match cell_at(w, b) {
+        CellRead::Bad(fault) => RowRead::Amiss(fault),
+        CellRead::Read(typ) => row_min(w, number, typ, c, d),
     }
 }
 
@@ -201,10 +218,10 @@ pub fn row_of(w: &[u8]) -> RowRead
     if fifth.start < w.len() {
         return RowRead::Amiss(10);
     }
-    with_number(
-        number_at(w, a),
-        cells_from(cell_at(w, b), cell_at(w, c), cell_at(w, d)),
-    )
+    match number_at(w, a) {
+        NumberRead::Wrong(fault) => RowRead::Amiss(fault),
+        NumberRead::Value(number) => row_typ(w, number, b, c, d),
+    }
 }
 
 // ---- a ramp's slopes

@@ -3,13 +3,14 @@ use Prim.Native.Nat.{ℕ}
 use Prim.Native.Char.{code}
 use mathlib.Core.Path.{_≡_, refl, sym, ap, _∙_}
 use mathlib.Core.List.{List, [], _∷_, _++_, append-nil, foldr}
-use mathlib.Core.Bool.{Bool, true, false}
+use mathlib.Core.Bool.{Bool, true, false, _||_}
 use native.Mathlib.Omega.{arith}
 use lib.Dec.{eqb, leb}
 use borrow.Author.Tests.{ne-eqb, eqb-true, leb-true, not-true}
 use Rattle.laws.specs.Lists.{all, other}
 use Rattle.laws.proofs.Tests.{by-test, and-right}
 use Rattle.lines.specs.Lines.{Physical, isReturn, ontoLine, linesOf, isAllowed}
+use Rattle.lines.specs.Breaks.{isPrinted}
 
 -- the bytes go in front of the first line
 abbrev pub ontoAll : List ℕ → List Physical → List Physical
@@ -111,6 +112,10 @@ allowed-plain b h =
     (λ e.
     let t : eqb b 9 ≡ true = simp e at h in
     (ne-eqb b 10 (omega (arith, eqb-true b 9 t)), ne-eqb b 13 (omega (arith, eqb-true b 9 t))))
+
+pub printed-allowed : (b : ℕ) (t : Bool) → t ≡ isPrinted b → t ≡ true → isAllowed b ≡ true
+unfolding isAllowed isPrinted
+printed-allowed b t e h = ap (λ (u : Bool). u || eqb b 9) (sym e ∙ h)
 
 pub return-not : (b : ℕ) (r : List ℕ) → eqb b (code "\r") ≡ false → isReturn b r ≡ false
 unfolding isReturn

@@ -5,7 +5,7 @@ ghost use lib.ListN.{length, drop};
 ghost use Rattle.laws.specs.Lists.{front};
 ghost use Rattle.lines.specs.Lines.{isAllowed, linesOf, faultFrom, bytesFault, cut};
 ghost use Rattle.lines.specs.Places.{checked, Goes, lineFrom, readerBehind};
-ghost use Rattle.lines.specs.Breaks.{breakOf};
+ghost use Rattle.lines.specs.Breaks.{breakOf, isPrinted};
 use records::Fault;
 
 // The bytes of a file and the characters of a line at the most.
@@ -37,13 +37,51 @@ enum LineCheck {
     Wrong(u8),
 }
 
+// Hex 20 to 7E.
+fn printed(b: u8) -> bool
+    ensures { λ r. ⌜ r ≡ isPrinted b ⌝ }
+{
+    match b {
+        0x20..=0x7E => true,
+        _ => false,
+    }
+}
+
 fn allowed(b: u8) -> bool
     ensures { λ r. ⌜ r ≡ isAllowed b ⌝ }
 {
-    if b < 0x20 {
-        return b == b'\t';
+    if printed(b) {
+        return true;
     }
-    b <= 0x7E
+    b == b'\t'
+}
+
+// Past allowed bytes from at on: four a turn, up to one that is not printed or to where fewer than four are left.
+fn skip_printed(s: &[u8], at: usize) -> usize
+    requires { ⌜ at ≤ length (now s) ⌝ }
+    ensures { λ r. ⌜ (at ≤ r) × (r ≤ length (now (s .entry))) ⌝ }
+    ensures { λ r. ⌜ r + length (front isAllowed (drop r (now (s .entry)))) ≡ at + length (front isAllowed (drop at (now (s .entry)))) ⌝ }
+{
+    let mut i = at;
+    while 4 <= s.len() - i {
+        if !printed(s[i]) {
+            return i;
+        }
+        i += 1;
+        if !printed(s[i]) {
+            return i;
+        }
+        i += 1;
+        if !printed(s[i]) {
+            return i;
+        }
+        i += 1;
+        if !printed(s[i]) {
+            return i;
+        }
+        i += 1;
+    }
+    i
 }
 
 // Where the allowed bytes from at on end.
@@ -52,12 +90,12 @@ fn skip_allowed(s: &[u8], at: usize) -> usize
     ensures { λ r. ⌜ r ≡ at + length (front isAllowed (drop at (now (s .entry)))) ⌝ }
     ensures { λ r. ⌜ (at ≤ r) × (r ≤ length (now (s .entry))) ⌝ }
 {
-    let mut i = at;
+    let mut i = skip_printed(s, at);
     while i < s.len() {
         if !allowed(s[i]) {
             return i;
         }
-        i += 1;
+        i = skip_printed(s, i + 1);
     }
     i
 }

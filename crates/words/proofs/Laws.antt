@@ -58,6 +58,10 @@ module _ (s : List ℕ) (at start : ℕ) (e : start ≡ at + length (front isBla
   inked : isBlank (getD s start 0) ≡ false
   inked = after-stops isBlank (drop at s) _ _ found
 
+  -- the word goes on behind its first byte
+  pub ink-goes : (end : ℕ) → end ≡ start + 1 + length (front isInk (drop (start + 1) s)) → end ≡ start + length (front isInk (drop start s))
+  ink-goes end q = q ∙ front-more isInk s start 0 h (ink-yes (getD s start 0) (isBlank (getD s start 0)) refl inked)
+
   pub words-some : (end : ℕ) → end ≡ start + length (front isInk (drop start s)) → words (drop at s) ≡ part start end s ∷ words (drop end s)
   words-some end q =
       words-blank (drop at s)

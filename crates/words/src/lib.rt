@@ -26,6 +26,9 @@ pub enum Spelling {
 pub fn blank(b: u8) -> bool
     ensures { λ r. ⌜ r ≡ isBlank b ⌝ }
 {
+    if b' ' < b {
+        return false;
+    }
     if b == b' ' {
         return true;
     }
@@ -72,8 +75,8 @@ pub fn byte_as(how: Spelling, b: u8) -> u8
     }
 }
 
-// Where the byte b first stands from at on, or the end.
-pub fn find(s: &[u8], at: usize, b: u8) -> usize
+// Where the byte b first stands from at on, or the end: byte by byte.
+fn find_slowly(s: &[u8], at: usize, b: u8) -> usize
     requires { ⌜ at ≤ length (now s) ⌝ }
     ensures { λ r. ⌜ r ≡ at + length (front (other b) (drop at (now (s .entry)))) ⌝ }
     ensures { λ r. ⌜ (at ≤ r) × (r ≤ length (now (s .entry))) ⌝ }
@@ -86,6 +89,34 @@ pub fn find(s: &[u8], at: usize, b: u8) -> usize
         i += 1;
     }
     i
+}
+
+// The same, four bytes a turn as long as four are left.
+pub fn find(s: &[u8], at: usize, b: u8) -> usize
+    requires { ⌜ at ≤ length (now s) ⌝ }
+    ensures { λ r. ⌜ r ≡ at + length (front (other b) (drop at (now (s .entry)))) ⌝ }
+    ensures { λ r. ⌜ (at ≤ r) × (r ≤ length (now (s .entry))) ⌝ }
+{
+    let mut i = at;
+    while 4 <= s.len() - i {
+        if s[i] == b {
+            return i;
+        }
+        i += 1;
+        if s[i] == b {
+            return i;
+        }
+        i += 1;
+        if s[i] == b {
+            return i;
+        }
+        i += 1;
+        if s[i] == b {
+            return i;
+        }
+        i += 1;
+    }
+    find_slowly(s, i, b)
 }
 
 // Where the blanks from at on end.
@@ -141,7 +172,14 @@ pub fn word_at(s: &[u8], at: usize) -> Word
     ensures { λ r. ⌜ WordAt (now (s .entry)) at r ⌝ }
 {
     let start = skip_blanks(s, at);
-    let end = skip_ink(s, start);
+    if s.len() <= start {
+        return Word {
+            start: start,
+            end: start,
+        };
+    }
+    // The byte at start is no blank.
+    let end = skip_ink(s, start + 1);
     Word {
         start: start,
         end: end,

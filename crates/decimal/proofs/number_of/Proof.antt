@@ -1,92 +1,107 @@
--- `decimal::number_of`: the laws of `numberOf` from what its parts say. A slice has fewer than 2 ^ 63 bytes, so no sum wraps.
-use mathlib.Core.Path.{ap, sym, _∙_}
+-- `decimal::number_of`: of a short word the laws of `numberOf` from what its parts say; else what `any_number` or `with_exponent` says.
+use mathlib.Core.Path.{sym, _∙_}
 use native.Mathlib.Omega.{arith}
 use borrow.Author.Needs.{needs}
-use borrow.Author.Tests.{not-true, not-false}
-use Rattle.decimal.specs.Answers.{numberRead}
-use Rattle.decimal.proofs.Results.{number-none, number-bad, number-good, scale-up-small, scale-down-small}
+use borrow.Author.Tests.{not-false, le-ltb, lt-ltb}
+use Rattle.decimal.proofs.Results.{scale-up-small, scale-down-small}
+use Rattle.decimal.proofs.Settled.{number-plain}
 use Rattle.decimal.proofs.number_of.Statement.{statement}
 use Rattle.decimal.proofs.number_of.Tie as tie
+
+any-number-requires : tie.Need-any-number-requires
+any-number-requires c κs = tt
+
+returns : tie.Need-returns
+returns c = c .any-number .ensures
 
 sign-at-requires : tie.Need-sign-at-requires
 sign-at-requires c κs = search needs
 
-mantissa-at-requires : tie.Need-mantissa-at-requires
-mantissa-at-requires c κs = search needs
+short-mantissa-at-requires : tie.Need-short-mantissa-at-requires
+short-mantissa-at-requires c κs = (c .sign-at .ensures .within, c .before .if1 .left)
 
-returns : tie.Need-returns
-returns c =
+with-exponent-requires : tie.Need-with-exponent-requires
+with-exponent-requires c κs =
     let s = c .before .before .before .sign-at in
-    let m = c .before .before .mantissa-at in
-    ap numberRead (sym (number-none _ (s .result) (s .ensures) (m .result) (m .ensures) (c .if1 .taken)))
-
-exponent-at-requires : tie.Need-exponent-at-requires
-exponent-at-requires c κs = search needs
-
-letters-from-requires : tie.Need-letters-from-requires
-letters-from-requires c κs = search needs
+    let m = c .before .before .short-mantissa-at in
+    record {
+      start = s .result .at;
+      zeros = m .result .zeros;
+      count = m .result .count;
+      few = c .before .before .before .before .if1 .left;
+      sign = s .ensures;
+      mantissa = m .ensures;
+      any = sym (le-ltb 0 (m .result .count) (omega (arith, c .if2 .taken)));
+    }
 
 returns-2 : tie.Need-returns-2
-returns-2 c =
-    let s = c .before .before .before .before .before .before .sign-at in
-    let m = c .before .before .before .before .before .mantissa-at in
-    let e = c .before .before .exponent-at in
-    let l = c .before .letters-from in
-    ap numberRead (sym (number-bad _ (s .result) (s .ensures) (m .result) (m .ensures) (c .before .before .before .if1 .left) (e .result) (e .ensures)
-    (sym (l .ensures) ∙ not-true (l .result) (c .if2 .taken))))
+returns-2 c = c .with-exponent .ensures
+
+letters-from-requires : tie.Need-letters-from-requires
+letters-from-requires c κs = c .before .before .short-mantissa-at .ensures .spans .within
+
+with-exponent-requires-2 : tie.Need-with-exponent-requires-2
+with-exponent-requires-2 c κs =
+    let s = c .before .before .before .before .before .sign-at in
+    let m = c .before .before .before .before .short-mantissa-at in
+    record {
+      start = s .result .at;
+      zeros = m .result .zeros;
+      count = m .result .count;
+      few = c .before .before .before .before .before .before .if1 .left;
+      sign = s .ensures;
+      mantissa = m .ensures;
+      any = sym (lt-ltb 0 (m .result .count) (omega (arith, c .before .before .if2 .left)));
+    }
+
+returns-3 : tie.Need-returns-3
+returns-3 c = c .with-exponent2 .ensures
 
 scale-up-requires : tie.Need-scale-up-requires
 scale-up-requires c κs = tt
 
 add-up : tie.Need-add-up
-add-up c = omega (arith, scale-up-small _ _ (c .before .scale-up .ensures))
+add-up c = omega (arith, scale-up-small _ _ (c .scale-up .ensures))
 
 scale-down-requires : tie.Need-scale-down-requires
 scale-down-requires c κs = tt
 
 add-down : tie.Need-add-down
-add-down c = omega (arith, scale-down-small _ _ (c .before .scale-down .ensures))
+add-down c = omega (arith, scale-down-small _ _ (c .before .scale-down .ensures), c .before .before .before .before .before .before .before .short-mantissa-at .ensures .spans .short, c .before .before .before .before .before .before .before .before .before .if1 .left)
 
-finish-requires : tie.Need-finish-requires
-finish-requires c κs =
-    omega (
-      arith,
-      scale-up-small _ _ (c .before .before .before .scale-up .ensures),
-      scale-down-small _ _ (c .before .scale-down .ensures),
-    )
+settle-requires : tie.Need-settle-requires
+settle-requires c κs =
+    let m = c .before .before .before .before .before .before .before .short-mantissa-at .ensures in
+    let few = c .before .before .before .before .before .before .before .before .before .if1 .left in
+    (m .small, omega (arith, scale-up-small _ _ (c .before .before .scale-up .ensures)), omega (arith, scale-down-small _ _ (c .before .scale-down .ensures), m .spans .short, few))
 
-returns-3 : tie.Need-returns-3
-returns-3 c =
-    let s = c .before .before .before .before .before .before .before .before .before .before .before .sign-at in
-    let m = c .before .before .before .before .before .before .before .before .before .before .mantissa-at in
-    let e = c .before .before .before .before .before .before .before .exponent-at in
-    let l = c .before .before .before .before .before .before .letters-from in
-    let u = c .before .before .before .before .scale-up in
+returns-4 : tie.Need-returns-4
+returns-4 c =
+    let s = c .before .before .before .before .before .before .before .before .before .sign-at in
+    let m = c .before .before .before .before .before .before .before .before .short-mantissa-at in
+    let l = c .before .before .before .before .before .letters-from in
+    let u = c .before .before .before .scale-up in
     let d = c .before .before .scale-down in
-    let su = scale-up-small _ _ (u .ensures) in
-    let sd = scale-down-small _ _ (d .ensures) in
-    let good = c .before .before .before .before .before .before .before .before .before .before .before .before .before .good in
-    c .finish .ensures
-    ∙ ap numberRead
-    (number-good _ (s .result) (s .ensures) (m .result) (m .ensures) (c .before .before .before .before .before .before .before .before .if1 .left)
-    (e .result) (e .ensures) (sym (l .ensures) ∙ not-false (l .result) (c .before .before .before .before .before .if2 .left))
-    (u .result) (d .result) (u .ensures) (d .ensures)
-    (omega (arith, m .ensures .few, good))
-    (omega (arith, m .ensures .short, good)))
+    number-plain _ (c .before .before .before .before .before .before .before .before .before .before .if1 .left) (s .result) (s .ensures) (m .result) (m .ensures) (c .before .before .before .before .before .before .if2 .left)
+    (sym (l .ensures) ∙ not-false (l .result) (c .before .before .before .before .if3 .left))
+    (u .result) (d .result) (u .ensures) (d .ensures) _ (c .settle .ensures)
 
 pub number-of-spec : {M : Type 1} → statement M
 number-of-spec =
     tie.close
     (tie.spec
-    sign-at-requires
-    mantissa-at-requires
+    any-number-requires
     returns
-    exponent-at-requires
-    letters-from-requires
+    sign-at-requires
+    short-mantissa-at-requires
+    with-exponent-requires
     returns-2
+    letters-from-requires
+    with-exponent-requires-2
+    returns-3
     scale-up-requires
     add-up
     scale-down-requires
     add-down
-    finish-requires
-    returns-3)
+    settle-requires
+    returns-4)

@@ -1,9 +1,9 @@
 -- Too few words by `words-under`, too many by `words-past`, else just four by `words-just`.
-use mathlib.Core.Path.{sym, ap, _∙_}
+use mathlib.Core.Path.{_∙_}
 use native.Mathlib.Omega.{arith}
 use borrow.Author.Needs.{needs}
 use Rattle.words.proofs.Chains.{link, done, words-under, words-past, words-just}
-use Rattle.line_cells.proofs.Laws.{row-other, row-four}
+use Rattle.line_cells.proofs.Laws.{row-other, row-bad, row-good}
 use Rattle.line_cells.proofs.row_of.Statement.{statement}
 use Rattle.line_cells.proofs.row_of.Tie as tie
 
@@ -35,27 +35,24 @@ returns-2 c =
 number-at-requires : tie.Need-number-at-requires
 number-at-requires c κs = search needs
 
-cell-at-requires : tie.Need-cell-at-requires
-cell-at-requires c κs = search needs
+enum-known-fault : tie.Need-enum-known-fault
+enum-known-fault c = search needs
 
-cell-at-requires-2 : tie.Need-cell-at-requires-2
-cell-at-requires-2 c κs = search needs
+enum-known-number : tie.Need-enum-known-number
+enum-known-number c = search needs
 
-cell-at-requires-3 : tie.Need-cell-at-requires-3
-cell-at-requires-3 c κs = search needs
-
-cells-from-requires : tie.Need-cells-from-requires
-cells-from-requires c κs = tt
-
-with-number-requires : tie.Need-with-number-requires
-with-number-requires c κs = tt
+row-typ-requires : tie.Need-row-typ-requires
+row-typ-requires c κs = search needs
 
 returns-3 : tie.Need-returns-3
 returns-3 c =
-    let k = link (c .before .before .before .before .before .before .before .before .before .before .before .before .before .before .word-at .ensures) (link (c .before .before .before .before .before .before .before .before .before .before .before .before .before .word-at2 .ensures) (link (c .before .before .before .before .before .before .before .before .before .before .before .before .word-at3 .ensures) done)) in
-    let four = words-just k (c .before .before .before .before .before .before .before .before .before .before .before .word-at4 .ensures) (c .before .before .before .before .before .before .before .before .before .if1 .left) (c .before .before .before .before .before .before .before .before .word-at5 .ensures) (c .before .before .before .before .before .before .if2 .left) in
-    c .with-number .ensures
-    ∙ row-four four (c .before .before .before .before .before .number-at .ensures) (c .before .cells-from .ensures) (c .before .before .before .before .cell-at .ensures) (c .before .before .before .cell-at2 .ensures) (c .before .before .cell-at3 .ensures)
+    let four = words-just (link (c .before .before .before .before .before .before .before .before .before .before .before .before .word-at .ensures) (link (c .before .before .before .before .before .before .before .before .before .before .before .word-at2 .ensures) (link (c .before .before .before .before .before .before .before .before .before .before .word-at3 .ensures) done))) (c .before .before .before .before .before .before .before .before .before .word-at4 .ensures) (c .before .before .before .before .before .before .before .if1 .left) (c .before .before .before .before .before .before .word-at5 .ensures) (c .before .before .before .before .if2 .left) in
+    row-bad four (c .before .before .before .number-at .ensures) (c .before .fault .given .1)
+
+returns-4 : tie.Need-returns-4
+returns-4 c =
+    let four = words-just (link (c .before .before .before .before .before .before .before .before .before .before .before .before .before .word-at .ensures) (link (c .before .before .before .before .before .before .before .before .before .before .before .before .word-at2 .ensures) (link (c .before .before .before .before .before .before .before .before .before .before .before .word-at3 .ensures) done))) (c .before .before .before .before .before .before .before .before .before .before .word-at4 .ensures) (c .before .before .before .before .before .before .before .before .if1 .left) (c .before .before .before .before .before .before .before .word-at5 .ensures) (c .before .before .before .before .before .if2 .left) in
+    c .row-typ .ensures ∙ row-good four (c .before .before .before .before .number-at .ensures) (c .before .before .number .given .1)
 
 pub row-of-spec : {M : Type 1} → statement M
 row-of-spec =
@@ -69,9 +66,8 @@ row-of-spec =
     word-at-requires-5
     returns-2
     number-at-requires
-    cell-at-requires
-    cell-at-requires-2
-    cell-at-requires-3
-    cells-from-requires
-    with-number-requires
-    returns-3)
+    enum-known-fault
+    enum-known-number
+    row-typ-requires
+    returns-3
+    returns-4)

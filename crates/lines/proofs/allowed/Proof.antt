@@ -1,19 +1,22 @@
--- By the tests, in the definition's order.
-use mathlib.Core.Path.{sym}
-use native.Mathlib.Omega.{arith}
-use borrow.Author.Tests.{ne-eqb, le-leb, lt-leb}
-use Rattle.laws.proofs.Tests.{or-none}
+-- A printed byte is allowed; of the others only tab is.
+use mathlib.Core.Path.{sym, ap, _∙_}
+use mathlib.Core.Bool.{Bool, _||_}
+use lib.Dec.{eqb}
 use Rattle.lines.specs.Lines.{isAllowed}
+use Rattle.lines.specs.Breaks.{isPrinted}
 use Rattle.lines.proofs.allowed.Statement.{statement}
 use Rattle.lines.proofs.allowed.Tie as tie
 
+printed-requires : tie.Need-printed-requires
+printed-requires c κs = tt
+
 returns : tie.Need-returns
-unfolding isAllowed
-returns c = rw (lt-leb 32 _ (c .if1 .taken))
+unfolding isAllowed isPrinted
+returns c = ap (λ (t : Bool). t || eqb (c .before .before .args .b) 9) (sym (c .if1 .taken) ∙ c .before .printed .ensures)
 
 returns-2 : tie.Need-returns-2
-unfolding isAllowed
-returns-2 c = rw (le-leb 32 _ (c .if1 .left), ne-eqb (c .before .args .b) 9 (omega arith)) (sym (or-none _))
+unfolding isAllowed isPrinted
+returns-2 c = ap (λ (t : Bool). t || eqb (c .before .before .args .b) 9) (sym (c .if1 .left) ∙ c .before .printed .ensures)
 
 pub allowed-spec : {M : Type 1} → statement M
-allowed-spec = tie.close (tie.spec returns returns-2)
+allowed-spec = tie.close (tie.spec printed-requires returns returns-2)

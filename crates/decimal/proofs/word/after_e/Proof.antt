@@ -10,25 +10,22 @@ add-sign-at c = search needs
 sign-at-requires : tie.Need-sign-at-requires
 sign-at-requires c κs = search needs
 
-digits-at-requires : tie.Need-digits-at-requires
-digits-at-requires c κs = search needs
+capped-at-requires : tie.Need-capped-at-requires
+capped-at-requires c κs = search needs
 
 returns : tie.Need-returns
 returns c =
     let p = c .before .before .before .before .before .pre in
     let s = c .before .before .before .sign-at in
-    let d = c .before .before .digits-at in
+    let d = c .before .before .capped-at in
     exponent-empty _ _ (p .0) (p .1) (s .result) (s .ensures) (d .result) (d .ensures) (c .if1 .taken)
-
-grow-requires : tie.Need-grow-requires
-grow-requires c κs = search needs
 
 returns-2 : tie.Need-returns-2
 returns-2 c =
-    let p = c .before .before .before .before .before .before .pre in
-    let s = c .before .before .before .before .sign-at in
-    let d = c .before .before .before .digits-at in
-    exponent-some _ _ (p .0) (p .1) (s .result) (s .ensures) (d .result) (d .ensures) (c .grow .result) (c .before .if1 .left) (c .grow .ensures)
+    let p = c .before .before .before .before .before .pre in
+    let s = c .before .before .before .sign-at in
+    let d = c .before .before .capped-at in
+    exponent-some _ _ (p .0) (p .1) (s .result) (s .ensures) (d .result) (d .ensures) (c .if1 .left)
 
 pub after-e-spec : {M : Type 1} → statement M
-after-e-spec = tie.close (tie.spec add-sign-at sign-at-requires digits-at-requires returns grow-requires returns-2)
+after-e-spec = tie.close (tie.spec add-sign-at sign-at-requires capped-at-requires returns returns-2)

@@ -1,24 +1,25 @@
--- `decimal::letter`: one law for each run of bytes.
-use native.Mathlib.Omega.{arith}
-use mathlib.Core.Path.{sym}
-use Rattle.laws.proofs.Bytes.{letter-capital, letter-small, letter-below, letter-between, letter-above}
+-- `decimal::letter`: a capital, or else a small letter.
+use mathlib.Core.Path.{sym, ap, _∙_}
+use mathlib.Core.Bool.{Bool, _||_}
+use Rattle.laws.specs.Bytes.{isLetter, isSmall}
 use Rattle.decimal.proofs.word.letter.Statement.{statement}
 use Rattle.decimal.proofs.word.letter.Tie as tie
 
+capital-requires : tie.Need-capital-requires
+capital-requires c κs = tt
+
 returns : tie.Need-returns
-returns c = sym (letter-capital _ (omega arith) (omega arith))
+unfolding isLetter
+returns c = ap (λ (t : Bool). t || isSmall (c .before .before .args .byte)) (sym (c .if1 .taken) ∙ c .before .capital .ensures)
+
+small-requires : tie.Need-small-requires
+small-requires c κs = tt
 
 returns-2 : tie.Need-returns-2
-returns-2 c = sym (letter-small _ (omega arith) (omega arith))
-
-returns-3 : tie.Need-returns-3
-returns-3 c = sym (letter-below _ (omega arith))
-
-returns-4 : tie.Need-returns-4
-returns-4 c = sym (letter-between _ (omega arith) (omega arith))
-
-returns-5 : tie.Need-returns-5
-returns-5 c = sym (letter-above _ (omega arith))
+unfolding isLetter
+returns-2 c =
+    c .small .ensures
+    ∙ ap (λ (t : Bool). t || isSmall (c .before .before .before .args .byte)) (sym (c .before .if1 .left) ∙ c .before .before .capital .ensures)
 
 pub letter-spec : {M : Type 1} → statement M
-letter-spec = tie.close (tie.spec returns returns-2 returns-3 returns-4 returns-5)
+letter-spec = tie.close (tie.spec capital-requires returns small-requires returns-2)
