@@ -3,10 +3,10 @@ use Prim.Native.Nat.{ℕ, zero, suc, _+_, _*_, _/_, _≤_}
 use mathlib.Core.Path.{_≡_, refl, sym, ap, _∙_, subst}
 use mathlib.Core.List.{List, [], _∷_, _++_, map, reverse, flatMap, append-assoc, append-nil}
 use native.Mathlib.Omega.{arith}
-use lib.ListN.{length, drop, length-append, length-map, length-reverse}
+use lib.ListN.{length, drop, length-map, length-reverse}
 use Rattle.rules.specs.Reading.{fileIn}
 use Rattle.layout.specs.Laid.{Laid, laid, countsOf}
-use Rattle.records.specs.Stored.{stored, rowWords, over}
+use Rattle.records.specs.Stored.{stored, over}
 use Rattle.rules.specs.Whole.{Outcome, passed, refused, outcome, textsOf}
 use Rattle.records.specs.declared.Lengths.{Lengths}
 use Rattle.records.specs.declared.Row.{Row}
@@ -14,9 +14,10 @@ use Rattle.records.specs.declared.Kind.the-variants.{OfComponent, OfPin, OfSele
 use Rattle.notes.specs.Noted.{Note}
 use Rattle.records.specs.declared.Counts.{Counts}
 use Rattle.note_words.specs.Store.{waveAt}
-use Rattle.layout_by_notes.specs.Lies.{noted, componentNoted, pinNoted, selectorNoted, choiceNoted, modelNoted, waveNoted, rowsNoted, Lies, Fits}
+use Rattle.layout_by_notes.specs.Lies.{noted, componentNoted, pinNoted, selectorNoted, choiceNoted, modelNoted, waveNoted, waveformsNoted, rowsNoted, Lies, Fits}
 use Rattle.layout_by_notes.proofs.Lists.{flat-append}
 use Rattle.layout_by_notes.proofs.Tables.{lies, fits}
+use Rattle.table_rows.proofs.Stores.{stored-length}
 use Rattle.from_notes.specs.Made.{noteBy, componentAt, pinAt, selectorAt, choiceAt, modelAt, waveformAt, rowsAt}
 use Rattle.file_answer.specs.Sorted.{upTo, Sorted}
 use Rattle.file_answer.proofs.UpTo.{upTo-length, map-upTo}
@@ -38,11 +39,6 @@ rows-upTo s ns (suc n) =
     ap (λ (l : List Row). l ++ rowsNoted (noteBy s ns OfModel n)) (rows-upTo s ns n)
     ∙ ap (λ (l : List Row). flatMap rowsNoted (upTo (noteBy s ns OfModel) n) ++ l) (sym (append-nil (rowsNoted (noteBy s ns OfModel n))))
     ∙ sym (flat-append rowsNoted (upTo (noteBy s ns OfModel) n) (noteBy s ns OfModel n ∷ []))
-
-stored-length : (l : List Row) → length (stored l) ≡ 4 * length l
-unfolding stored
-stored-length [] = refl
-stored-length (r ∷ l) = let e : length (stored l) ≡ 4 * length l = stored-length l in omega (arith, length-append (rowWords r) (stored l), e)
 
 whole-rows : (n : ℕ) → 4 * (n / 4) ≤ n
 whole-rows n = omega arith
@@ -83,12 +79,18 @@ module _ (l : Lengths) (s ns : List ℕ) (sorted : Sorted l s ns) where
       made-upTo waveNoted (waveAt s ns) (reverse (sorted .log .waves)) (file .waveforms) (lie .waveforms)
       (sorted .waves ∙ ap (upTo (waveAt s ns)) (sym (length-reverse (sorted .log .waves))))
 
-  -- ---- rows
+  -- ---- what is noted of the models, one after the other
+
+  by-models : {A : Type 0} (f : Note → List A) → flatMap f (noted OfModel (sorted .log)) ≡ flatMap f (upTo (noteBy s ns OfModel) (length (file .models)))
+  by-models f =
+      let n : length (file .models) ≡ length (noted OfModel (sorted .log)) = ap length (lie .models) ∙ length-map (noted OfModel (sorted .log)) modelNoted in
+      ap (flatMap f) (sorted .names OfModel ∙ ap (upTo (noteBy s ns OfModel)) (sym n))
+
+  pub waveforms-by-models : file .waveforms ≡ flatMap waveformsNoted (upTo (noteBy s ns OfModel) (length (file .models)))
+  waveforms-by-models = lie .waveformsByModel ∙ by-models waveformsNoted
 
   pub rows-made : file .rows ≡ rowsAt s ns (length (file .models))
-  rows-made =
-      let n : length (file .models) ≡ length (noted OfModel (sorted .log)) = ap length (lie .models) ∙ length-map (noted OfModel (sorted .log)) modelNoted in
-      lie .rows ∙ ap (flatMap rowsNoted) (sorted .names OfModel) ∙ sym (rows-upTo s ns (length (noted OfModel (sorted .log)))) ∙ ap (rowsAt s ns) (sym n)
+  rows-made = lie .rows ∙ by-models rowsNoted ∙ sym (rows-upTo s ns (length (file .models)))
 
   pub rows-fit : (rs : List ℕ) → l .rows ≡ length rs / 4 → length (stored (rowsAt s ns (length (file .models)))) ≤ length rs
   rows-fit rs e = rw (sym rows-made) (omega (arith, stored-length (file .rows), fit .rows, e, whole-rows (length rs)))

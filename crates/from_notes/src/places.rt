@@ -17,7 +17,7 @@ use note_words::WORDS_PER_NAME;
 use note_words::WORDS_PER_WAVE;
 
 // The word i places behind a place; 0 past the end.
-pub(crate) fn word_behind(notes: &[u32], from: usize, i: usize) -> usize
+pub fn word_behind(notes: &[u32], from: usize, i: usize) -> usize
     ensures { λ r. ⌜ r ≡ getD (now (notes .entry)) (from + i) 0 ⌝ }
 {
     if notes.len() <= i {
@@ -30,7 +30,7 @@ pub(crate) fn word_behind(notes: &[u32], from: usize, i: usize) -> usize
 }
 
 // Word j of the name noted at place n.
-pub(crate) fn name_word(notes: &[u32], n: usize, j: usize) -> usize
+pub fn name_word(notes: &[u32], n: usize, j: usize) -> usize
     ensures { λ r. ⌜ r ≡ nameWord (now (notes .entry)) n j ⌝ }
 {
     if notes.len() / WORDS_PER_NAME < n {
@@ -95,7 +95,7 @@ pub(crate) fn cursor_at(src: &[u8], at: usize, comment: usize) -> Cursor
 }
 
 // The name that is noted at place n.
-pub(crate) fn name_noted<'a>(src: &'a [u8], notes: &[u32], n: usize) -> &'a [u8]
+pub fn name_noted<'a>(src: &'a [u8], notes: &[u32], n: usize) -> &'a [u8]
     ensures { λ r. ⌜ now r ≡ nameAt (now (src .entry)) (now (notes .entry)) n ⌝ }
 {
     let start = name_word(notes, n, NAME);
@@ -113,7 +113,7 @@ pub(crate) fn row_noted<'a>(src: &'a [u8], notes: &[u32], n: usize) -> &'a [u8]
 }
 
 // Behind the keyword line of the section that is noted at place n.
-pub(crate) fn section_noted(src: &[u8], notes: &[u32], n: usize) -> Cursor
+pub fn section_noted(src: &[u8], notes: &[u32], n: usize) -> Cursor
     ensures { λ r. ⌜ StandsBehind (now (src .entry)) (now (notes .entry)) n r ⌝ }
 {
     let at = name_word(notes, n, SECTION_BEHIND);

@@ -27,7 +27,7 @@ use Rattle.records.specs.declared.Row.{Row}
 use Rattle.rules.specs.declared.Event.{Event}
 use Rattle.rules.specs.declared.Event.the-variants.{WaveformOpened}
 use Rattle.notes.specs.Noted.{Log, sections, moreRows}
-use Rattle.layout_by_notes.specs.Lies.{pick, isOf, noted, componentNoted, pinNoted, selectorNoted, choiceNoted, modelNoted, rowsNoted, waveformFrom, waveNoted, keyEdge}
+use Rattle.layout_by_notes.specs.Lies.{pick, isOf, noted, componentNoted, pinNoted, selectorNoted, choiceNoted, modelNoted, rowsNoted, waveformsNoted, waveformFrom, waveNoted, keyEdge}
 use Rattle.layout_by_notes.proofs.Lists.{latest-then}
 use Rattle.layout_by_notes.proofs.Keys.{Gives, rows, Open, LineGives, quiet, pin, choice, row, fixture}
 use Rattle.layout_by_notes.proofs.Ahead.{tableOf, Ahead, gathered, ahead}
@@ -49,6 +49,10 @@ finished x h =
 abbrev pub Filled : Ahead → Log → Type 0
 Filled x h = h .counts .rows + (length (x .openRows) + length (flatMap rowsOf (x .tables))) ≡ length (flatMap rowsNoted (noted OfModel h))
 
+-- the waveforms so far and those ahead are all waveforms of the noted models
+abbrev pub Waved : Ahead → Log → Type 0
+Waved x h = finished x h .waveforms ≡ flatMap waveformsNoted (noted OfModel h)
+
 -- the tables of the whole file, as they are seen from a text on
 abbrev pub outlook : Open → List Text → Log → Laid
 outlook o ts h = laidFrom (finished (ahead o ts) h) (sections (h .counts)) (sectionsIn ts)
@@ -62,10 +66,14 @@ same-laid c p s o m w r =
 pub record Carried (x : Ahead) (h : Log) (y : Ahead) (g : Log) : Type 0 where
   pub tables : finished x h ≡ finished y g
   pub places : sections (h .counts) ≡ sections (g .counts)
+  pub models : noted OfModel h ≡ noted OfModel g
   pub filled : Filled x h → Filled y g
 
+waved-on : {x y : Ahead} {h g : Log} → Carried x h y g → Waved x h → Waved y g
+waved-on c v = sym (ap (λ (a : Laid). a .waveforms) (c .tables)) ∙ v ∙ ap (flatMap waveformsNoted) (c .models)
+
 pub nothing-moves : {x : Ahead} {h : Log} → Carried x h x h
-nothing-moves = record { tables = refl; places = refl; filled = λ f. f }
+nothing-moves = record { tables = refl; places = refl; models = refl; filled = λ f. f }
 
 -- ---- a line
 
@@ -80,6 +88,7 @@ row-carried p c rs more tb h e =
     record {
       tables = same-laid refl refl refl refl refl (ap (λ (k : ℕ). map waveNoted (reverse (h .waves)) ++ waveformsLaid tb k) n) refl;
       places = refl;
+      models = refl;
       filled = λ f. omega arith;
     }
 
@@ -98,12 +107,14 @@ line-carried pin k ls ps tb h ts =
     record {
       tables = same-laid refl (latest-then pinNoted _ (pick (isOf OfPin) (h .notes)) _) refl refl refl refl refl;
       places = refl;
+      models = refl;
       filled = λ f. f;
     }
 line-carried choice k ls ps tb h ts =
     record {
       tables = same-laid refl refl refl (latest-then choiceNoted _ (pick (isOf OfChoice) (h .notes)) _) refl refl refl;
       places = refl;
+      models = refl;
       filled = λ f. f;
     }
 line-carried {w} (row {r = r} e) k ls ps tb h ts = row-carried ps [] (ontoRows (rowOf (words w)) (rowsIn ls)) (rowsIn ls) tb h (onto-one _ r _ e)
@@ -114,13 +125,15 @@ line-carried {w} (fixture e) k ls ps tb h ts =
 
 abbrev pub Onward : Open → Text → List Text → Log → Open → Event → Type 0
 Onward o t ts h u e =
-    Filled (ahead o (t ∷ ts)) h → (outlook o (t ∷ ts) h ≡ outlook u ts (logAfter h t ts e)) × Filled (ahead u ts) (logAfter h t ts e)
+    Filled (ahead o (t ∷ ts)) h → Waved (ahead o (t ∷ ts)) h
+    → (outlook o (t ∷ ts) h ≡ outlook u ts (logAfter h t ts e)) × Filled (ahead u ts) (logAfter h t ts e) × Waved (ahead u ts) (logAfter h t ts e)
 
 pub carried-on : (o : Open) (t : Text) (ts : List Text) (h : Log) (u : Open) (e : Event) {x : Ahead} → ahead o (t ∷ ts) ≡ x
     → sectionsIn (t ∷ ts) ≡ sectionsIn ts → Carried x h (ahead u ts) (logAfter h t ts e) → Onward o t ts h u e
-carried-on o t ts h u e p q c f = (
+carried-on o t ts h u e p q c f v = (
   (λ i. laidFrom ((ap (λ (y : Ahead). finished y h) p ∙ c .tables) i) (c .places i) (q i)),
   c .filled (subst (λ (y : Ahead). Filled y h) p f),
+  waved-on c (subst (λ (y : Ahead). Waved y h) p v),
 )
 
 -- ---- a keyword inside a section
@@ -154,6 +167,7 @@ current-carried t ls tb h =
           ∙ ap (λ (l : List _). before ++ l) (waveform-none t ls tb (h .counts .rows)))
           refl;
       places = refl;
+      models = refl;
       filled = λ f. omega (arith, length-append (rowsIn ls) (flatMap rowsOf tb));
     }
 
@@ -176,5 +190,6 @@ waveform-carried t ts e tb h q =
           ∙ latest-then waveNoted (record { from = t ∷ ts; row = n }) (h .waves) (waveformsLaid tb (n + length rs)))
           refl;
       places = refl;
+      models = refl;
       filled = λ f. omega (arith, length-append rs (flatMap rowsOf tb));
     }

@@ -12,7 +12,7 @@ use Rattle.keywords.specs.declared.Section.the-variants.{Component, Selector, M
 use Rattle.cut_lines.specs.Texts.{Text, plain}
 use Rattle.rules.specs.Reading.{pinsIn, componentIn, choiceIn, choicesIn, modelIn, isWithin, sectionsIn}
 use Rattle.rules.specs.Keys.{sectionIn}
-use Rattle.layout.specs.Laid.{tableAt, waveformsLaid, withSection, laidFrom}
+use Rattle.layout.specs.Laid.{Laid, tableAt, waveformsLaid, withSection, laidFrom}
 use Rattle.records.specs.Stored.{nameLaid}
 use Rattle.records.specs.declared.Kind.the-variants.{OfComponent, OfPin, OfSelector, OfChoice, OfModel}
 use Rattle.records.specs.declared.Row.{Row}
@@ -21,12 +21,12 @@ use Rattle.records.specs.declared.Selector as laidSelector
 use Rattle.records.specs.declared.Model as laidModel
 use Rattle.rules.specs.declared.Event.the-variants.{Opened}
 use Rattle.notes.specs.Noted.{Note, Log, sections, sectionNote}
-use Rattle.layout_by_notes.specs.Lies.{pick, isOf, noted, componentNoted, pinNoted, selectorNoted, choiceNoted, modelNoted, rowsNoted, waveNoted}
+use Rattle.layout_by_notes.specs.Lies.{pick, isOf, noted, componentNoted, pinNoted, selectorNoted, choiceNoted, modelNoted, rowsNoted, waveformsNoted, waveNoted}
 use Rattle.layout_by_notes.proofs.Lists.{latest-last, latest-length-only, latest-flat}
 use Rattle.layout_by_notes.proofs.Keys.{Open, sectionOpens}
 use Rattle.layout_by_notes.proofs.Ahead.{tablesAhead, Ahead, noneAhead, ahead, under-within}
 use Rattle.layout_by_notes.proofs.Counts.{logAfter, Counted}
-use Rattle.layout_by_notes.proofs.Lying.{finished, Filled, same-laid, Onward}
+use Rattle.layout_by_notes.proofs.Lying.{finished, Filled, Waved, same-laid, Onward}
 
 module _ (k : ℕ) (w : List ℕ) (ts : List Text) (h : Log) (c : Counted h) where
   -- the section's texts
@@ -66,6 +66,10 @@ module _ (k : ℕ) (w : List ℕ) (ts : List Text) (h : Log) (c : Counted h) whe
       ∙ ap (λ (l : List (List ℕ)). laidChoices ++ map choiceIn l) (under-within ts))
       refl refl refl
 
+  rows-so-far : Filled noneAhead h → length (flatMap rowsNoted (reverse (pick (isOf OfModel) (h .notes)))) ≡ h .counts .rows
+  unfolding noted flatMap
+  rows-so-far f = omega arith
+
   -- its tables are those ahead, and their rows start where the rows so far end
   model-laid : Filled noneAhead h
       → withSection (finished noneAhead h) (sections (h .counts)) (sectionIn (argument w) own Model)
@@ -79,7 +83,7 @@ module _ (k : ℕ) (w : List ℕ) (ts : List Text) (h : Log) (c : Counted h) whe
       let before : List _ = map modelNoted (reverse models) in
       let laidRows : List Row = flatMap rowsNoted (reverse models) in
       let laidWaveforms : List _ = map waveNoted (reverse (h .waves)) in
-      let row : length laidRows ≡ h .counts .rows = omega arith in
+      let row : length laidRows ≡ h .counts .rows = rows-so-far f in
       let place : length laidRows ≡ h .counts .rows + 0 = omega arith in
       let start : length (laidWaveforms ++ []) ≡ h .counts .waveforms = latest-length-only waveNoted (h .waves) ∙ sym (c .waveforms) in
       same-laid refl refl refl refl
@@ -100,6 +104,17 @@ module _ (k : ℕ) (w : List ℕ) (ts : List Text) (h : Log) (c : Counted h) whe
       let d = length-append (flatMap rowsNoted (reverse models)) (rowsNoted n) in
       omega (arith, e, d)
 
+  -- its waveforms are all ahead
+  model-waved : Filled noneAhead h → Waved noneAhead h → Waved (ahead (sectionOpens Model) ts) (logAfter h (plain k w) ts (Opened Model))
+  unfolding finished noted pick waveformsNoted
+  model-waved f v =
+      let models : List Note = pick (isOf OfModel) (h .notes) in
+      let row : length (flatMap rowsNoted (reverse models)) ≡ h .counts .rows = rows-so-far f in
+      sym (ap (λ (a : Laid). a .waveforms) (model-laid f))
+      ∙ ap (λ (l : List _). l ++ waveformsLaid (tablesAhead ts) (length (finished noneAhead h .rows))) v
+      ∙ ap (λ (n : ℕ). flatMap waveformsNoted (reverse models) ++ waveformsLaid (tablesAhead ts) n) row
+      ∙ latest-flat waveformsNoted (sectionNote (h .counts) k (argument w) ts Model) models
+
   -- the section is laid, and its note with what is ahead is the same
   opened-on : (o : Open) (s : Section) → ahead o (plain k w ∷ ts) ≡ noneAhead
       → sectionsIn (plain k w ∷ ts) ≡ sectionIn (argument w) own s ∷ sectionsIn ts
@@ -107,18 +122,22 @@ module _ (k : ℕ) (w : List ℕ) (ts : List Text) (h : Log) (c : Counted h) whe
       ≡ finished (ahead (sectionOpens s) ts) (logAfter h (plain k w) ts (Opened s)))
       → sections (h .counts) + 1 ≡ sections (logAfter h (plain k w) ts (Opened s) .counts)
       → (Filled noneAhead h → Filled (ahead (sectionOpens s) ts) (logAfter h (plain k w) ts (Opened s)))
+      → (Filled noneAhead h → Waved noneAhead h → Waved (ahead (sectionOpens s) ts) (logAfter h (plain k w) ts (Opened s)))
       → Onward o (plain k w) ts h (sectionOpens s) (Opened s)
   unfolding laidFrom
-  opened-on o s p q laying n filling f =
+  opened-on o s p q laying n filling waving f v =
       let g : Filled noneAhead h = subst (λ (y : Ahead). Filled y h) p f in (
         (λ i. laidFrom (finished (p i) h) (sections (h .counts)) (q i)) ∙ (λ i. laidFrom (laying g i) (n i) (sectionsIn ts)),
         filling g,
+        waving g (subst (λ (y : Ahead). Waved y h) p v),
       )
 
   pub section-onward : (o : Open) (s : Section) → ahead o (plain k w ∷ ts) ≡ noneAhead
       → sectionsIn (plain k w ∷ ts) ≡ sectionIn (argument w) own s ∷ sectionsIn ts
       → Onward o (plain k w) ts h (sectionOpens s) (Opened s)
   unfolding sections noted pick
-  section-onward o Component p q = opened-on o Component p q (λ f. component-laid) (omega arith) (λ f. f)
-  section-onward o Selector p q = opened-on o Selector p q (λ f. selector-laid) (omega arith) (λ f. f)
-  section-onward o Model p q = opened-on o Model p q model-laid (omega arith) model-filled
+  section-onward o Component p q =
+      opened-on o Component p q (λ f. component-laid) (omega arith) (λ f. f) (λ f v. sym (ap (λ (a : Laid). a .waveforms) component-laid) ∙ v)
+  section-onward o Selector p q =
+      opened-on o Selector p q (λ f. selector-laid) (omega arith) (λ f. f) (λ f v. sym (ap (λ (a : Laid). a .waveforms) selector-laid) ∙ v)
+  section-onward o Model p q = opened-on o Model p q model-laid (omega arith) model-filled model-waved

@@ -22,7 +22,7 @@ use Rattle.layout_by_notes.proofs.Keys.{Open, closed, openAt, Stepped, 
 use Rattle.layout_by_notes.proofs.Lists.{latest-length, latest-length-only}
 use Rattle.layout_by_notes.proofs.Ahead.{noneAhead, ahead}
 use Rattle.layout_by_notes.proofs.Counts.{logAfter, Room, Kept, kept-after, Counted, none-counted, counted-after, none-bounded, bounded-after, bounded-fits}
-use Rattle.layout_by_notes.proofs.Lying.{finished, Filled, outlook}
+use Rattle.layout_by_notes.proofs.Lying.{finished, Filled, Waved, outlook}
 use Rattle.layout_by_notes.proofs.Onward.{text-onward}
 
 -- ---- what every step keeps holds at the end
@@ -70,17 +70,18 @@ module _ (l : Lengths) (past : ℕ) (P : Open → Log → List Text → Type 0) 
 record Seen (a : Laid) (o : Open) (h : Log) (ts : List Text) : Type 0 where
   counted : Counted h
   filled : Filled (ahead o ts) h
+  waved : Waved (ahead o ts) h
   tables : a ≡ outlook o ts h
 
 seen-on : (a : Laid) (o : Open) (t : Text) (u : Open) (e : Event) (h : Log) (ts : List Text)
     → Stepped o t u e → Seen a o h (t ∷ ts) → Seen a u (logAfter h t ts e) ts
 seen-on a o t u e h ts y x =
-    let on = text-onward y ts h (x .counted) (x .filled) in
-    record { counted = counted-after h t ts e (x .counted); filled = on .1; tables = x .tables ∙ on .0 }
+    let on = text-onward y ts h (x .counted) (x .filled) (x .waved) in
+    record { counted = counted-after h t ts e (x .counted); filled = on .1; waved = on .2; tables = x .tables ∙ on .0 }
 
-lies-at-end : (g : Log) → Counted g → Filled noneAhead g → Lies g (finished noneAhead g)
+lies-at-end : (g : Log) → Counted g → Filled noneAhead g → Waved noneAhead g → Lies g (finished noneAhead g)
 unfolding finished noted waveformsLaid flatMap
-lies-at-end g c f =
+lies-at-end g c f v =
     let rest : g .counts .rows ≡ length (finished noneAhead g .rows) = omega arith in
     record {
       components = refl;
@@ -89,6 +90,7 @@ lies-at-end g c f =
       choices = append-nil (map choiceNoted (noted OfChoice g));
       models = refl;
       waveforms = append-nil (map waveNoted (reverse (g .waves)));
+      waveformsByModel = v;
       rows = refl;
       counts =
           λ i.
@@ -109,11 +111,11 @@ module _ (l : Lengths) (past : ℕ) (ts : List Text) (g : Log) (run : runLog l p
   unfolding laid fileIn laidFrom finished noted pick sections waveformsLaid flatMap sectionsIn
   lies =
       let a : Laid = laid (fileIn ts) in
-      let first : Seen a closed emptyLog ts = record { counted = none-counted; filled = refl; tables = refl } in
+      let first : Seen a closed emptyLog ts = record { counted = none-counted; filled = refl; waved = refl; tables = refl } in
       let last : Seen a closed g [] =
       kept-to-end l past (Seen a) g (λ o t u e h rest y room x. seen-on a o t u e h rest y x) ts BeforeVersion emptyLog first run
       in
-      subst (Lies g) (sym (last .tables)) (lies-at-end g (last .counted) (last .filled))
+      subst (Lies g) (sym (last .tables)) (lies-at-end g (last .counted) (last .filled) (last .waved))
 
   -- no table is used beyond its bound, and so none beyond what is lent
   pub bounded : Bounded l (g .counts)

@@ -75,6 +75,10 @@ modelNoted n =
 unfoldable pub rowsNoted : Note → List Row
 rowsNoted n = flatMap rowsOf (tablesNoted n)
 
+-- its waveforms, in its tables
+unfoldable pub waveformsNoted : Note → List laidWaveform.Waveform
+waveformsNoted n = waveformsLaid (tablesNoted n) (n .row)
+
 -- ---- the record of a waveform's note: its texts begin with its keyword
 
 -- the edge that a waveform's keyword says; of any other keyword, some edge
@@ -105,6 +109,7 @@ pub record Lies (g : Log) (a : Laid) : Type 0 where
   pub choices : a .choices ≡ map choiceNoted (noted OfChoice g)
   pub models : a .models ≡ map modelNoted (noted OfModel g)
   pub waveforms : a .waveforms ≡ map waveNoted (reverse (g .waves))
+  pub waveformsByModel : a .waveforms ≡ flatMap waveformsNoted (noted OfModel g)
   pub rows : a .rows ≡ flatMap rowsNoted (noted OfModel g)
   pub counts : g .counts ≡ countsOf a
 

@@ -1,6 +1,6 @@
 -- A keyword more: what it gives, where to read on, and the bounds; and the keywords so far with those from here on.
 use Prim.Native.Nat.{ℕ, _+_, _^_, _≤_, _<_}
-use mathlib.Core.Path.{_≡_, sym, ap, _∙_, subst}
+use mathlib.Core.Path.{_≡_, refl, sym, ap, _∙_, subst}
 use mathlib.Core.List.{List}
 use mathlib.Core.Bool.{false}
 use mathlib.Core.Option.{some}
@@ -11,8 +11,9 @@ use Rattle.keywords.specs.declared.Keyword.{Keyword}
 use Rattle.keywords.specs.declared.ModelPart.the-variants.{Current}
 use Rattle.cut_lines.specs.Cursors.{rest, Placed}
 use Rattle.cut_lines.specs.declared.Cursor.{Cursor}
-use Rattle.rules.specs.Reading.{under}
+use Rattle.rules.specs.Reading.{under, noRamp}
 use Rattle.rules.specs.Keys.{isEnd}
+use Rattle.records.specs.Stored.{noCells}
 use Rattle.records.specs.declared.RampTable.{RampTable}
 use Rattle.records.specs.declared.Triple.{Triple}
 use Rattle.lines_under.specs.Under.{isKeyless, KeyIs}
@@ -38,6 +39,13 @@ taken {s} {b} {c} {w} {k} v b' n q e f keys placed rises =
       rises = rises;
       fits = subst (λ (x : Body). BodyFits x n) (sym e) f;
     }
+
+-- a current table's keyword says neither cells nor a ramp
+pub part-current : (b : Body) (cells : Triple) (ramp : RampTable) (k : ℕ) (t : CurrentTable) → partOn b (Current t) noCells noRamp k ≡ partOn b (Current t) cells ramp k
+part-current b cells ramp k Pulldown = refl
+part-current b cells ramp k Pullup = refl
+part-current b cells ramp k GndClamp = refl
+part-current b cells ramp k PowerClamp = refl
 
 module _ (b : Body) (cells : Triple) (ramp : RampTable) (k : ℕ) (n : Cursor) (h : b .row + k < 2 ^ 63 + n .at) (l : b .waveforms ≤ n .at) where
   pub current-fits : (t : CurrentTable) → BodyFits (partOn b (Current t) cells ramp k) n

@@ -8,9 +8,9 @@ ghost use Rattle.keywords.specs.declared.Keyword.the-variants.{InModel};
 ghost use Rattle.keywords.specs.declared.ModelPart.the-variants.{VoltageRange, TemperatureRange, Current, Ramp, Waveform};
 ghost use Rattle.cut_lines.specs.Cursors.{rest, Placed};
 ghost use Rattle.line_rules.specs.Fields.{threeCells};
-ghost use Rattle.rules.specs.Reading.{isWithin};
+ghost use Rattle.rules.specs.Reading.{noRamp, isWithin};
 ghost use Rattle.records.specs.Stored.{noCells};
-ghost use Rattle.records.specs.declared.Edge.{Edge};
+ghost use Rattle.records.specs.declared.Edge.the-variants.{Rising};
 ghost use Rattle.records.specs.declared.RampTable.{RampTable};
 ghost use Rattle.records.specs.declared.Triple.{Triple};
 ghost use Rattle.model_record.specs.Bodies.{absentTable, bareBody, withTable, partOn, bodyOn, KeyTaken};
@@ -40,7 +40,7 @@ fn no_table() -> Table
 }
 
 // Before the first keyword; row is the place of the next row.
-fn bare_body(row: usize) -> Body
+pub fn bare_body(row: usize) -> Body
     ensures { λ r. ⌜ r ≡ bareBody row ⌝ }
 {
     Body {
@@ -101,9 +101,9 @@ fn with_temperature(b: Body, cells: Triple) -> Body
 }
 
 // A current table of so many rows.
-fn with_current(b: Body, count: usize, table: CurrentTable) -> Body
+pub fn with_current(b: Body, count: usize, table: CurrentTable) -> Body
     requires { ⌜ b .row + count < 2 ^ 64 ⌝ }
-    ensures { λ r. ⌜ ((cells : Triple) (ramp : RampTable) → r ≡ partOn b (Current table) cells ramp count) ⌝ }
+    ensures { λ r. ⌜ r ≡ partOn b (Current table) noCells noRamp count ⌝ }
 {
     let mut next = b;
     let row = b.row;
@@ -140,10 +140,10 @@ fn with_ramp(b: Body, ramp: RampTable) -> Body
     next
 }
 
-// A waveform of so many rows.
-fn with_waveform(b: Body, count: usize) -> Body
+// A waveform of so many rows, whatever its edge.
+pub fn with_waveform(b: Body, count: usize) -> Body
     requires { ⌜ (b .row + count < 2 ^ 64) × (b .waveforms < 2 ^ 63) ⌝ }
-    ensures { λ r. ⌜ ((e : Edge) (cells : Triple) (ramp : RampTable) → r ≡ partOn b (Waveform e) cells ramp count) ⌝ }
+    ensures { λ r. ⌜ r ≡ partOn b (Waveform Rising) noCells noRamp count ⌝ }
 {
     let mut next = b;
     let row = b.row + count;
@@ -201,7 +201,7 @@ fn take_part(b: Body, src: &[u8], c: Cursor, part: ModelPart, argument: &[u8]) -
 }
 
 // A keyword of another section changes nothing.
-fn take_key(b: Body, src: &[u8], c: Cursor, k: Keyword, argument: &[u8]) -> Taken
+pub fn take_key(b: Body, src: &[u8], c: Cursor, k: Keyword, argument: &[u8]) -> Taken
     requires { ⌜ Placed (now src) c × (b .row < 2 ^ 63 + c .at) × (b .waveforms < c .at) ⌝ }
     ensures { λ r. ⌜ KeyTaken (now (src .entry)) b k (now (argument .entry)) c r ⌝ }
 {

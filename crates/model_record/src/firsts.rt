@@ -160,7 +160,7 @@ fn with_first_line(f: FirstLines, w: &[u8]) -> FirstLines
 }
 
 // The first lines of the model behind whose keyword a cursor stands.
-pub(crate) fn first_lines(src: &[u8], c: Cursor) -> FirstRead
+pub fn first_lines(src: &[u8], c: Cursor) -> FirstRead
     requires { ⌜ Placed (now src) c ⌝ }
     ensures { λ r. ⌜ FirstReadIs (now (src .entry)) c r ⌝ }
 {

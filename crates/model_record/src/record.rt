@@ -6,6 +6,7 @@ ghost use Rattle.laws.specs.Lists.{front};
 ghost use Rattle.cut_lines.specs.Cursors.{rest, Placed};
 ghost use Rattle.rules.specs.Reading.{isWithin, tablesIn, modelIn};
 ghost use Rattle.layout.specs.Laid.{tableAt, waveformsLaid};
+ghost use Rattle.model_record.specs.Firsts.{defaulted};
 ghost use Rattle.model_record.specs.Bodies.{modelOver};
 use crate::Body;
 use crate::FirstLines;
@@ -17,9 +18,11 @@ use records::Model;
 use records::Name;
 use records::Span;
 
-fn model_over(section: usize, start: usize, name: Name, f: FirstLines, b: Body) -> Model
-    ensures { λ r. ⌜ r ≡ modelOver section start name f b ⌝ }
+// What the first lines and the keywords say, with the thresholds of its type.
+pub fn model_over(section: usize, start: usize, name: Name, lines: FirstLines, b: Body) -> Model
+    ensures { λ r. ⌜ r ≡ modelOver section start name (defaulted lines) b ⌝ }
 {
+    let f = with_defaults(lines);
     let kind = f.kind;
     let polarity = f.polarity;
     let enable = f.enable;
@@ -82,7 +85,6 @@ pub fn model_of(
     let first = first_lines(src, c);
     let lines = first.lines;
     let next = first.next;
-    let f = with_defaults(lines);
     let b = body_of(src, next, row);
-    model_over(section, start, records::name_of(name), f, b)
+    model_over(section, start, records::name_of(name), lines, b)
 }

@@ -1,21 +1,24 @@
 -- What the notes of a reading give: the words fit into the lent tables, and the fills leave what is promised. By whether the file is accepted.
-use Prim.Native.Nat.{ℕ, zero, suc, zero-le}
+use Prim.Native.Nat.{ℕ, zero, suc, _*_, zero-le}
 use mathlib.Core.Path.{_≡_, refl, sym, ap, _∙_, subst}
 use mathlib.Core.List.{List, [], _∷_, _++_, flatMap, append-nil}
 use native.Mathlib.Omega.{arith}
-use lib.ListN.{length}
+use lib.ListN.{length, length-append}
 use Rattle.rules.specs.Reading.{fileIn}
 use Rattle.records.specs.Stored.{stored, over}
 use Rattle.rules.specs.Whole.{Outcome, passed, refused, outcome, textsOf}
 use Rattle.records.specs.declared.Lengths.{Lengths}
+use Rattle.records.specs.declared.Kind.the-variants.{OfModel}
+use Rattle.records.specs.declared.Waveform.{Waveform}
+use Rattle.layout_by_notes.specs.Lies.{waveformsNoted}
 use Rattle.layout_by_notes.proofs.Lists.{flat-append}
-use Rattle.from_notes.specs.Made.{componentAt, pinAt, selectorAt, choiceAt, modelAt, waveformAt, rowsAt}
+use Rattle.from_notes.specs.Made.{noteBy, componentAt, pinAt, selectorAt, choiceAt, modelAt, rowsAt}
 use Rattle.file_answer.specs.Answered.{answerFor, answerOf}
 use Rattle.file_answer.specs.Sorted.{upTo, Sorted, SortedFor, Outlines}
 use Rattle.records.specs.declared.Answer.{Answer}
-use Rattle.file_answer.proofs.Made.{file, fit, components-made, pins-made, selectors-made, choices-made, models-made, waveforms-made, rows-made, rows-fit}
-use Rattle.record_words.specs.Records.{componentWords, pinWords, selectorWords, choiceWords, modelWords, waveformWords}
-use Rattle.table_words.specs.Packed.{wordsTo, WordTables, Room, filled}
+use Rattle.file_answer.proofs.Made.{file, fit, components-made, pins-made, selectors-made, choices-made, models-made, waveforms-by-models, rows-made, rows-fit}
+use Rattle.record_words.specs.Records.{componentWords, pinWords, selectorWords, choiceWords, modelWords, waveformWords, waveformSize}
+use Rattle.table_words.specs.Packed.{wordsTo, waveformWordsAt, WordTables, Room, filled}
 use Rattle.table_reader.specs.ReadInWords.{roomIn, ReadInWords}
 
 -- ---- the words of a table that is as noted
@@ -31,6 +34,26 @@ flat-upTo g f (suc n) =
 made-words : {A : Type 0} (g : A → List ℕ) (f : ℕ → A) (new : List A) → new ≡ upTo f (length new) → flatMap g new ≡ wordsTo (λ (k : ℕ). g (f k)) (length new)
 made-words g f new e = ap (flatMap g) e ∙ flat-upTo g f (length new)
 
+-- those of the models' waveforms, one model after the other
+flat-flat : {A B : Type 0} (g : B → List ℕ) (h : A → List B) (l : List A) → flatMap g (flatMap h l) ≡ flatMap (λ (a : A). flatMap g (h a)) l
+unfolding flatMap
+flat-flat g h [] = refl
+flat-flat g h (a ∷ l) = flat-append g (h a) (flatMap h l) ∙ ap (λ (m : List ℕ). flatMap g (h a) ++ m) (flat-flat g h l)
+
+waveforms-words : (s ns : List ℕ) (new : List Waveform) (n : ℕ) → new ≡ flatMap waveformsNoted (upTo (noteBy s ns OfModel) n)
+    → flatMap waveformWords new ≡ wordsTo (waveformWordsAt s ns) n
+waveforms-words s ns new n e =
+    ap (flatMap waveformWords) e
+    ∙ flat-flat waveformWords waveformsNoted (upTo (noteBy s ns OfModel) n)
+    ∙ flat-upTo (λ a. flatMap waveformWords (waveformsNoted a)) (noteBy s ns OfModel) n
+
+waveforms-length : (l : List Waveform) → length (flatMap waveformWords l) ≡ waveformSize * length l
+unfolding flatMap
+waveforms-length [] = refl
+waveforms-length (w ∷ l) =
+    let e : length (flatMap waveformWords l) ≡ waveformSize * length l = waveforms-length l in
+    omega (arith, length-append (waveformWords w) (flatMap waveformWords l), e)
+
 -- ---- by the outcome
 
 module _ (s : List ℕ) (t : WordTables) (ns : List ℕ) where
@@ -38,16 +61,17 @@ module _ (s : List ℕ) (t : WordTables) (ns : List ℕ) where
   l = roomIn t
 
   fits-for : (o : Outcome) → SortedFor l s ns o → Room s ns (answerFor (fileIn (textsOf s)) o .counts) t
-  unfolding rowsAt stored
+  unfolding wordsTo rowsAt stored
   fits-for (passed h) sorted =
       let f = fit l s ns sorted in
+      let words = ap length (waveforms-words s ns _ _ (waveforms-by-models l s ns sorted)) in
       record {
         components = omega (arith, f .components);
         pins = omega (arith, f .pins);
         selectors = omega (arith, f .selectors);
         choices = omega (arith, f .choices);
         models = omega (arith, f .models);
-        waveforms = omega (arith, f .waveforms);
+        waveforms = omega (arith, f .waveforms, words, waveforms-length (file l s ns sorted .waveforms));
         rows = rows-fit l s ns sorted (t .rows) refl;
       }
   fits-for (refused n k) u =
@@ -68,7 +92,7 @@ module _ (s : List ℕ) (t : WordTables) (ns : List ℕ) where
             rw (made-words selectorWords (selectorAt s ns) _ (selectors-made l s ns sorted))
             rw (made-words choiceWords (choiceAt s ns) _ (choices-made l s ns sorted))
             rw (made-words modelWords (modelAt s ns) _ (models-made l s ns sorted))
-            rw (made-words waveformWords (waveformAt s ns) _ (waveforms-made l s ns sorted))
+            rw (waveforms-words s ns _ _ (waveforms-by-models l s ns sorted))
             rw (rows-made l s ns sorted) refl;
       }
 

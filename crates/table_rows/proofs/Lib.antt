@@ -3,5 +3,6 @@ pub mod Stores
 pub mod RowLaws
 pub mod RowWalks
 pub mod WaveformLaws
+pub mod WaveformWalks
 pub mod PartLaws
 pub mod PartWalks

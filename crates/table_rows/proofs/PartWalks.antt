@@ -16,11 +16,11 @@ use Rattle.rules.specs.Keys.{isEnd}
 use Rattle.records.specs.Stored.{stored, over}
 use Rattle.lines_under.specs.Under.{isKeyless, KeyIs}
 use Rattle.lines_under.proofs.Keyed.{Follows, keys-stop, follows-start, follows-jump, follows-out, follows-end, follows-key}
-use Rattle.table_rows.specs.Rows.{FillIs}
+use Rattle.table_rows.specs.Rows.{Lies, FillIs}
 use Rattle.table_rows.specs.Parts.{modelWords, opensTable, keyRows, KeyFilled}
 use Rattle.table_rows.specs.declared.Filled.{Filled}
 use Rattle.table_rows.proofs.Stores.{over-none}
-use Rattle.table_rows.proofs.RowWalks.{Lies, lies-start, lies-length, lies-fit, lies-more}
+use Rattle.table_rows.proofs.RowWalks.{lies-start, lies-length, lies-fit, lies-more}
 use Rattle.table_rows.proofs.PartLaws.{model-fold}
 
 -- the words of the model behind whose keyword a cursor stands

@@ -1,8 +1,9 @@
 -- The rows of a table, line by line, as folds over its lines: a line has a row, or nothing.
-use Prim.Native.Nat.{ℕ}
+use Prim.Native.Nat.{ℕ, _/_}
 use mathlib.Core.Path.{_≡_, refl, sym, ap, _∙_}
 use mathlib.Core.List.{List, _++_, append-assoc, append-nil}
 use native.Mathlib.Omega.{arith}
+use lib.ListN.{length, length-append}
 use Rattle.laws.specs.Said.{Said, says, fault}
 use Rattle.words.specs.Words.{words}
 use Rattle.line_rules.specs.Fields.{rowOf}
@@ -53,3 +54,11 @@ worded = withSaidRow (λ (v : List ℕ) (r : Row). v ++ rowWords r)
 pub words-fold : Folds (λ (v : List ℕ) (rs : List Row). v ++ stored rs) (λ (v : List ℕ) (r : Row). v ++ rowWords r)
 unfolding stored
 words-fold = record { none = λ v. append-nil v; more = λ v r rs. sym (append-assoc v (rowWords r) (stored rs)) }
+
+worded-small : Small worded (λ (v : List ℕ). length v / 4)
+worded-small v (says r) = omega (arith, length-append v (rowWords r))
+worded-small v (fault n) = omega arith
+
+-- a line adds at most one row
+pub words-small : Small (λ (v : List ℕ) (w : List ℕ). worded v (rowOf (words w))) (λ (v : List ℕ). length v / 4)
+words-small v w = worded-small v (rowOf (words w))

@@ -1,5 +1,5 @@
 -- Rows written into the row store, line by line: the words so far lie over the row store as it was.
-use Prim.Native.Nat.{ℕ, _+_, _-_, _≤_}
+use Prim.Native.Nat.{ℕ, _+_, _-_, _/_, _≤_}
 use mathlib.Core.Path.{_≡_, refl, sym, ap, _∙_}
 use mathlib.Core.List.{List, [], _++_, append-assoc}
 use native.Mathlib.Omega.{arith}
@@ -19,16 +19,11 @@ use Rattle.lines_under.specs.Under.{LineNextIs}
 use Rattle.lines_under.specs.declared.LineNext.{LineNext}
 use Rattle.lines_under.specs.declared.LineNext.the-variants as next
 use Rattle.lines_under.proofs.Folds.{Gathers, gathers-start, gathers-line, gathers-end}
-use Rattle.table_rows.specs.Rows.{rowsAt, FillIs}
-use Rattle.table_rows.proofs.Stores.{over-none, over-length, over-rest}
-use Rattle.table_rows.proofs.RowLaws.{row-is, no-row-is, row-fold, worded, words-fold}
+use Rattle.table_rows.specs.Rows.{Lies, rowsAt, FillIs}
+use Rattle.table_rows.proofs.Stores.{stored-length, over-none, over-length, over-rest}
+use Rattle.table_rows.proofs.RowLaws.{row-is, no-row-is, row-fold, worded, words-fold, words-small}
 
 -- ---- words over the row store
-
--- n words are written, at the front
-pub record Lies (before now : List ℕ) (n : ℕ) (written : List ℕ) : Type 0 where
-  pub used : n ≡ length written
-  pub store : now ≡ over before written
 
 pub lies-start : (before : List ℕ) → Lies before before 0 []
 lies-start before = record { used = refl; store = sym (over-none before) }
@@ -85,4 +80,9 @@ module _ {s : List ℕ} {c d : Cursor} {before now : List ℕ} {used : ℕ} (p :
   pub fills-end : {r : LineNext} {n : Cursor} → r ≡ next.NoLine n → LineNextIs s d r → FillIs s c before now (record { words = used; next = n })
   fills-end q l =
       let g = gathers-end (p .gathers) q l in
-      record { words = p .lies .used ∙ ap length (g .whole); rows = p .lies .store ∙ ap (over before) (g .whole); stops = g .stops }
+      record {
+        words = p .lies .used ∙ ap length (g .whole);
+        rows = p .lies .store ∙ ap (over before) (g .whole);
+        stops = g .stops;
+        bounded = omega (arith, g .grows (λ (v : List ℕ). length v / 4) words-small, ap length (g .whole), stored-length (rowsAt s c));
+      }

@@ -1,5 +1,5 @@
 -- `stored` and `over`: rows behind rows, one row at the front of the row store, and what is written into the rest of it, said of the whole.
-use Prim.Native.Nat.{ℕ, _+_, _-_, _≤_}
+use Prim.Native.Nat.{ℕ, _+_, _*_, _-_, _≤_}
 use mathlib.Core.Path.{_≡_, refl, sym, ap, ap₂, _∙_}
 use mathlib.Core.List.{List, [], _∷_, _++_, append-assoc, append-nil}
 use native.Mathlib.Omega.{arith}
@@ -23,6 +23,12 @@ pub stored-append : (l m : List Row) → stored (l ++ m) ≡ stored l ++ stored 
 unfolding stored
 stored-append [] m = refl
 stored-append (r ∷ l) m = ap (λ (x : List ℕ). rowWords r ++ x) (stored-append l m) ∙ sym (append-assoc (rowWords r) (stored l) (stored m))
+
+-- four words a row
+pub stored-length : (l : List Row) → length (stored l) ≡ 4 * length l
+unfolding stored
+stored-length [] = refl
+stored-length (r ∷ l) = let e : length (stored l) ≡ 4 * length l = stored-length l in omega (arith, length-append (rowWords r) (stored l), e)
 
 -- nothing is written
 pub over-none : (l : List ℕ) → over l [] ≡ l

@@ -13,6 +13,11 @@ use Rattle.lines_under.specs.Under.{StopsAt}
 use Rattle.table_rows.specs.declared.Counted.{Counted}
 use Rattle.table_rows.specs.declared.Filled.{Filled}
 
+-- n words are written over what was there, at the front
+pub record Lies (before now : List ℕ) (n : ℕ) (written : List ℕ) : Type 0 where
+  pub used : n ≡ length written
+  pub store : now ≡ over before written
+
 -- the rows of the table whose lines begin at a cursor
 abbrev pub rowsAt : List ℕ → Cursor → List Row
 rowsAt s c = rowsIn (under (rest s c))
@@ -31,8 +36,9 @@ pub record CountIs (s : List ℕ) (c : Cursor) (r : Counted) : Type 0 where
   pub stops : StopsAt s c (r .next)
   pub bounded : c .at + r .count ≤ r .next .at
 
--- the words written, and the row store behind it
+-- the words written, and the row store behind it; every row has a byte
 pub record FillIs (s : List ℕ) (c : Cursor) (before behind : List ℕ) (r : Filled) : Type 0 where
   pub words : r .words ≡ length (stored (rowsAt s c))
   pub rows : behind ≡ over before (stored (rowsAt s c))
   pub stops : StopsAt s c (r .next)
+  pub bounded : c .at + length (rowsAt s c) ≤ r .next .at

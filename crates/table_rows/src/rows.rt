@@ -42,7 +42,7 @@ pub fn count_rows(src: &[u8], c: Cursor) -> Counted
 }
 
 // Writes one row at the front of the row store.
-fn put_row(rows: &mut [u64], r: Row)
+pub(crate) fn put_row(rows: &mut [u64], r: Row)
     requires { ⌜ 4 ≤ length (now rows) ⌝ }
     ensures { λ _. ⌜ now (rows .exit) ≡ over (now (rows .entry)) (rowWords r) ⌝ }
 {
@@ -58,7 +58,7 @@ fn put_row(rows: &mut [u64], r: Row)
 }
 
 // Writes the rows of the table whose lines begin at a cursor at the front of the row store.
-pub(crate) fn fill_table(rows: &mut [u64], src: &[u8], c: Cursor) -> Filled
+pub fn fill_table(rows: &mut [u64], src: &[u8], c: Cursor) -> Filled
     requires { ⌜ Placed (now src) c ⌝ }
     requires { ⌜ length (stored (rowsAt (now src) c)) ≤ length (now rows) ⌝ }
     ensures { λ r. ⌜ FillIs (now (src .entry)) c (now (rows .entry)) (now (rows .exit)) r ⌝ }

@@ -1,11 +1,17 @@
 // The record of a waveform: its edge, the numbers of its named lines, and where its rows lie.
 ghost use mathlib.Core.Bool.{cond};
 ghost use mathlib.Core.Path.{_≡_};
-ghost use Prim.Native.Nat.{_+_, _^_, _<_};
+ghost use Prim.Native.Nat.{_+_, _^_, _≤_, _<_};
 ghost use lib.Dec.{eqb};
+ghost use lib.ListN.{length};
 ghost use Rattle.cut_lines.specs.Cursors.{rest, Placed};
 ghost use Rattle.rules.specs.Reading.{under, waveformIn};
+ghost use Rattle.records.specs.Stored.{stored};
+ghost use Rattle.table_rows.specs.Rows.{rowsAt, FillIs};
 ghost use Rattle.table_rows.specs.Waveforms.{bareWaveform, fixtureAt, fixtureLine, withCount, withWaveformLine};
+use crate::Filled;
+use crate::WaveformFilled;
+use crate::rows::put_row;
 use cut_lines::Cursor;
 use decimal::Cell;
 use decimal::CellRead;
@@ -90,12 +96,10 @@ fn with_fixture(x: Waveform, w: &[u8]) -> Waveform
     }
 }
 
-fn with_row(x: Waveform) -> Waveform
-    requires { ⌜ x .rows .count < 2 ^ 63 ⌝ }
-    ensures { λ r. ⌜ r ≡ withCount x (x .rows .count + 1) ⌝ }
+fn with_rows(x: Waveform, count: usize) -> Waveform
+    ensures { λ r. ⌜ r ≡ withCount x count ⌝ }
 {
     let mut next = x;
-    let count = x.rows.count + 1;
     next.rows.count = count;
     next
 }
@@ -106,7 +110,7 @@ fn with_line(x: Waveform, w: &[u8]) -> Waveform
     ensures { λ r. ⌜ r ≡ withWaveformLine x (now (w .entry)) ⌝ }
 {
     match line_cells::row_of(w) {
-        RowRead::Line(_) => with_row(x),
+        RowRead::Line(_) => with_rows(x, x.rows.count + 1),
         RowRead::Amiss(_) => with_fixture(x, w),
     }
 }
@@ -126,6 +130,49 @@ pub fn waveform_of(src: &[u8], c: Cursor, edge: Edge, row: usize) -> Waveform
             }
             LineNext::NoLine { next } => {
                 return x;
+            }
+        }
+    }
+}
+
+// The same, and its rows are written at the front of the row store. They are counted aside: the record is copied at its named lines only.
+pub fn fill_waveform(
+    rows: &mut [u64],
+    src: &[u8],
+    c: Cursor,
+    edge: Edge,
+    row: usize,
+) -> WaveformFilled
+    requires { ⌜ Placed (now src) c ⌝ }
+    requires { ⌜ length (stored (rowsAt (now src) c)) ≤ length (now rows) ⌝ }
+    ensures { λ r. ⌜ r .waveform ≡ waveformIn row edge (under (rest (now (src .entry)) c)) ⌝ }
+    ensures { λ r. ⌜ FillIs (now (src .entry)) c (now (rows .entry)) (now (rows .exit)) (r .filled) ⌝ }
+{
+    let mut x = bare_waveform(edge, row);
+    let mut d = c;
+    let mut used: usize = 0;
+    loop {
+        match lines_under::next_line(src, d) {
+            LineNext::Line { start, end, next } => {
+                d = next;
+                match line_cells::row_of(&src[start..end]) {
+                    RowRead::Line(row) => {
+                        put_row(&mut rows[used..], row);
+                        used += 4;
+                    }
+                    RowRead::Amiss(fault) => {
+                        x = with_fixture(x, &src[start..end]);
+                    }
+                }
+            }
+            LineNext::NoLine { next } => {
+                return WaveformFilled {
+                    waveform: with_rows(x, used / 4),
+                    filled: Filled {
+                        words: used,
+                        next: next,
+                    },
+                };
             }
         }
     }

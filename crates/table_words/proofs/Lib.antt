@@ -1,2 +1,3 @@
 -- Laws of words that are written one after the other.
 pub mod Laws
+pub mod Models

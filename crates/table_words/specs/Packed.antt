@@ -1,20 +1,33 @@
 -- The answer and the tables in words.
 use Prim.Native.Nat.{ℕ, zero, suc, _*_, _≤_}
-use mathlib.Core.List.{List, [], _∷_, _++_}
+use mathlib.Core.List.{List, [], _∷_, _++_, flatMap}
 use lib.ListN.{length}
 use Rattle.records.specs.declared.Fault.{Fault}
 use Rattle.records.specs.declared.Counts.{Counts}
 use Rattle.records.specs.Stored.{stored, over}
-use Rattle.from_notes.specs.Made.{componentAt, pinAt, selectorAt, choiceAt, modelAt, waveformAt, rowsAt}
+use Rattle.records.specs.declared.Kind.the-variants.{OfModel}
+use Rattle.layout_by_notes.specs.Lies.{waveformsNoted, rowsNoted}
+use Rattle.from_notes.specs.Made.{noteBy, componentAt, pinAt, selectorAt, choiceAt, modelAt, rowsAt}
 use Rattle.records.specs.declared.Verdict.{Verdict}
 use Rattle.records.specs.declared.Verdict.the-variants.{Accepted, Refused}
 use Rattle.records.specs.declared.Answer.{Answer}
-use Rattle.record_words.specs.Records.{textWords, componentWords, pinWords, selectorWords, choiceWords, modelWords, waveformWords, componentSize, pinSize, selectorSize, choiceSize, modelSize, waveformSize}
+use Rattle.record_words.specs.Records.{textWords, componentWords, pinWords, selectorWords, choiceWords, modelWords, waveformWords, componentSize, pinSize, selectorSize, choiceSize, modelSize}
 
 -- the words of the first n records
 unfoldable pub wordsTo : (ℕ → List ℕ) → ℕ → List ℕ
 wordsTo f zero = []
 wordsTo f (suc n) = wordsTo f n ++ f n
+
+-- ---- a noted model: the words of its record, of its waveforms' records and of its rows; k is its place among the noted models
+
+abbrev pub modelWordsAt : List ℕ → List ℕ → ℕ → List ℕ
+modelWordsAt s ns k = modelWords (modelAt s ns k)
+
+abbrev pub waveformWordsAt : List ℕ → List ℕ → ℕ → List ℕ
+waveformWordsAt s ns k = flatMap waveformWords (waveformsNoted (noteBy s ns OfModel k))
+
+abbrev pub rowWordsAt : List ℕ → List ℕ → ℕ → List ℕ
+rowWordsAt s ns k = stored (rowsNoted (noteBy s ns OfModel k))
 
 -- ---- the answer
 
@@ -55,7 +68,7 @@ pub record Room (s ns : List ℕ) (o : Counts) (t : WordTables) : Type 0 where
   pub selectors : selectorSize * o .selectors ≤ length (t .selectors)
   pub choices : choiceSize * o .choices ≤ length (t .choices)
   pub models : modelSize * o .models ≤ length (t .models)
-  pub waveforms : waveformSize * o .waveforms ≤ length (t .waveforms)
+  pub waveforms : length (wordsTo (waveformWordsAt s ns) (o .models)) ≤ length (t .waveforms)
   pub rows : length (stored (rowsAt s ns (o .models))) ≤ length (t .rows)
 
 abbrev pub filled : List ℕ → List ℕ → Counts → WordTables → WordTables
@@ -65,7 +78,7 @@ filled s ns o t =
       pins = over (t .pins) (wordsTo (λ k. pinWords (pinAt s ns k)) (o .pins));
       selectors = over (t .selectors) (wordsTo (λ k. selectorWords (selectorAt s ns k)) (o .selectors));
       choices = over (t .choices) (wordsTo (λ k. choiceWords (choiceAt s ns k)) (o .choices));
-      models = over (t .models) (wordsTo (λ k. modelWords (modelAt s ns k)) (o .models));
-      waveforms = over (t .waveforms) (wordsTo (λ k. waveformWords (waveformAt s ns k)) (o .waveforms));
+      models = over (t .models) (wordsTo (modelWordsAt s ns) (o .models));
+      waveforms = over (t .waveforms) (wordsTo (waveformWordsAt s ns) (o .models));
       rows = over (t .rows) (stored (rowsAt s ns (o .models)));
     }

@@ -1,50 +1,30 @@
 // Tables as words: the records of an accepted file, made from its notes, one after the other from the front.
 ghost use mathlib.Core.Path.{_≡_};
-ghost use Prim.Native.Nat.{_+_, _*_, _≤_};
-ghost use mathlib.Core.List.{_++_};
+ghost use Prim.Native.Nat.{_*_, _≤_};
 ghost use lib.ListN.{length};
-ghost use lib.Seq.{sets};
 ghost use Rattle.records.specs.Stored.{over};
-ghost use Rattle.from_notes.specs.Made.{componentAt, pinAt, selectorAt, choiceAt, modelAt, waveformAt};
-ghost use Rattle.record_words.specs.Records.{componentWords, pinWords, selectorWords, choiceWords, modelFirst, modelSplit, modelLevels, modelWords, waveformWords, componentSize, pinSize, selectorSize, choiceSize, modelSize, waveformSize};
-ghost use Rattle.table_words.specs.Packed.{wordsTo};
+ghost use Rattle.from_notes.specs.Made.{componentAt, pinAt, selectorAt, choiceAt};
+ghost use Rattle.record_words.specs.Records.{componentWords, pinWords, selectorWords, choiceWords, componentSize, pinSize, selectorSize, choiceSize, modelSize};
+ghost use Rattle.table_words.specs.Packed.{wordsTo, modelWordsAt, waveformWordsAt, rowWordsAt};
+use from_notes::places::name_noted;
+use from_notes::places::name_word;
+use from_notes::places::section_noted;
+use from_notes::places::word_behind;
+use note_words::MODELS_FROM;
+use note_words::SECTION_PLACE;
+use note_words::SECTION_ROW;
+use note_words::SECTION_START;
 use record_words::CHOICE_WORDS;
 use record_words::COMPONENT_WORDS;
-use record_words::MODEL_FIRST_WORDS;
-use record_words::MODEL_LINES_WORDS;
-use record_words::MODEL_SPLIT_WORDS;
-use record_words::MODEL_TABLES_WORDS;
 use record_words::MODEL_WORDS;
 use record_words::PIN_WORDS;
 use record_words::SELECTOR_WORDS;
-use record_words::WAVEFORM_WORDS;
 use record_words::tables::choice_words;
 use record_words::tables::component_words;
-use record_words::tables::model_first;
-use record_words::tables::model_levels;
-use record_words::tables::model_ramp;
-use record_words::tables::model_split;
-use record_words::tables::model_tables;
 use record_words::tables::pin_words;
 use record_words::tables::selector_words;
-use record_words::tables::waveform_words;
-use records::Model;
-
-// Where a model's numbers and its ramp begin.
-const LEVELS_FROM: usize = MODEL_FIRST_WORDS + MODEL_SPLIT_WORDS;
-
-const RAMP_FROM: usize = MODEL_LINES_WORDS + MODEL_TABLES_WORDS;
-
-pub(crate) fn put(out: &mut [u64], at: usize, words: &[u64])
-    requires { ⌜ at + length (now words) ≤ length (now out) ⌝ }
-    ensures { λ _. ⌜ now (out .exit) ≡ sets (now (out .entry)) at (now (words .entry)) ⌝ }
-{
-    let mut i = 0;
-    while i < words.len() {
-        out[at + i] = words[i];
-        i += 1;
-    }
-}
+use section_words::Used;
+use section_words::put;
 
 pub(crate) fn fill_components(out: &mut [u64], src: &[u8], notes: &[u32], n: usize)
     requires { ⌜ componentSize * n ≤ length (now out) ⌝ }
@@ -98,51 +78,71 @@ pub(crate) fn fill_choices(out: &mut [u64], src: &[u8], notes: &[u32], n: usize)
     }
 }
 
-// A model's lines before its tables.
-fn put_model_lines(out: &mut [u64], at: usize, m: Model)
-    requires { ⌜ at + modelSize ≤ length (now out) ⌝ }
-    ensures { λ _. ⌜ now (out .exit) ≡ sets (now (out .entry)) at (modelFirst m ++ modelSplit m ++ modelLevels m) ⌝ }
+// The model that is noted at place i of its list, with its waveforms and its rows.
+fn fill_model(
+    model: &mut [u64],
+    waveforms: &mut [u64],
+    rows: &mut [u64],
+    src: &[u8],
+    notes: &[u32],
+    i: usize,
+) -> Used
+    requires { ⌜ modelSize ≤ length (now model) ⌝ }
+    requires { ⌜ length (waveformWordsAt (now src) (now notes) i) ≤ length (now waveforms) ⌝ }
+    requires { ⌜ length (rowWordsAt (now src) (now notes) i) ≤ length (now rows) ⌝ }
+    ensures { λ _. ⌜ now (model .exit) ≡ over (now (model .entry)) (modelWordsAt (now (src .entry)) (now (notes .entry)) i) ⌝ }
+    ensures { λ _. ⌜ now (waveforms .exit) ≡ over (now (waveforms .entry)) (waveformWordsAt (now (src .entry)) (now (notes .entry)) i) ⌝ }
+    ensures { λ _. ⌜ now (rows .exit) ≡ over (now (rows .entry)) (rowWordsAt (now (src .entry)) (now (notes .entry)) i) ⌝ }
+    ensures { λ r. ⌜ r ≡ record { waveforms = length (waveformWordsAt (now (src .entry)) (now (notes .entry)) i); rows = length (rowWordsAt (now (src .entry)) (now (notes .entry)) i) } ⌝ }
 {
-    let first = model_first(m);
-    let split = model_split(m);
-    let levels = model_levels(m);
-    put(out, at, &first);
-    put(out, at + MODEL_FIRST_WORDS, &split);
-    put(out, at + LEVELS_FROM, &levels);
+    let n = word_behind(notes, MODELS_FROM, i);
+    let section = name_word(notes, n, SECTION_PLACE);
+    let row = name_word(notes, n, SECTION_ROW);
+    let start = name_word(notes, n, SECTION_START);
+    let c = section_noted(src, notes, n);
+    section_words::fill_model(
+        model,
+        waveforms,
+        rows,
+        src,
+        c,
+        name_noted(src, notes, n),
+        section,
+        row,
+        start,
+    )
 }
 
-fn put_model(out: &mut [u64], at: usize, m: Model)
-    requires { ⌜ at + modelSize ≤ length (now out) ⌝ }
-    ensures { λ _. ⌜ now (out .exit) ≡ sets (now (out .entry)) at (modelWords m) ⌝ }
+// The first n models, each with its waveforms and its rows, into the rest of the three tables.
+pub(crate) fn fill_models(
+    models: &mut [u64],
+    waveforms: &mut [u64],
+    rows: &mut [u64],
+    src: &[u8],
+    notes: &[u32],
+    n: usize,
+)
+    requires { ⌜ modelSize * n ≤ length (now models) ⌝ }
+    requires { ⌜ length (wordsTo (waveformWordsAt (now src) (now notes)) n) ≤ length (now waveforms) ⌝ }
+    requires { ⌜ length (wordsTo (rowWordsAt (now src) (now notes)) n) ≤ length (now rows) ⌝ }
+    ensures { λ _. ⌜ now (models .exit) ≡ over (now (models .entry)) (wordsTo (modelWordsAt (now (src .entry)) (now (notes .entry))) n) ⌝ }
+    ensures { λ _. ⌜ now (waveforms .exit) ≡ over (now (waveforms .entry)) (wordsTo (waveformWordsAt (now (src .entry)) (now (notes .entry))) n) ⌝ }
+    ensures { λ _. ⌜ now (rows .exit) ≡ over (now (rows .entry)) (wordsTo (rowWordsAt (now (src .entry)) (now (notes .entry))) n) ⌝ }
 {
-    let tables = model_tables(m);
-    let ramp = model_ramp(m);
-    put_model_lines(out, at, m);
-    put(out, at + MODEL_LINES_WORDS, &tables);
-    put(out, at + RAMP_FROM, &ramp);
-}
-
-pub(crate) fn fill_models(out: &mut [u64], src: &[u8], notes: &[u32], n: usize)
-    requires { ⌜ modelSize * n ≤ length (now out) ⌝ }
-    ensures { λ _. ⌜ now (out .exit) ≡ over (now (out .entry)) (wordsTo (λ k. modelWords (modelAt (now (src .entry)) (now (notes .entry)) k)) n) ⌝ }
-{
-    let mut i = 0;
+    let mut waves: usize = 0;
+    let mut words: usize = 0;
+    let mut i: usize = 0;
     while i < n {
-        let model = from_notes::model_at(src, notes, i);
-        put_model(out, MODEL_WORDS * i, model);
-        i += 1;
-    }
-}
-
-pub(crate) fn fill_waveforms(out: &mut [u64], src: &[u8], notes: &[u32], n: usize)
-    requires { ⌜ waveformSize * n ≤ length (now out) ⌝ }
-    ensures { λ _. ⌜ now (out .exit) ≡ over (now (out .entry)) (wordsTo (λ k. waveformWords (waveformAt (now (src .entry)) (now (notes .entry)) k)) n) ⌝ }
-{
-    let mut i = 0;
-    while i < n {
-        let waveform = from_notes::waveform_at(src, notes, i);
-        let words = waveform_words(waveform);
-        put(out, WAVEFORM_WORDS * i, &words);
+        let used = fill_model(
+            &mut models[MODEL_WORDS * i..],
+            &mut waveforms[waves..],
+            &mut rows[words..],
+            src,
+            notes,
+            i,
+        );
+        waves += used.waveforms;
+        words += used.rows;
         i += 1;
     }
 }

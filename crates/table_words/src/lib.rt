@@ -53,9 +53,9 @@ pub fn put_answer(answer: &mut [u64; ANSWER_WORDS], a: Answer)
     let head = count_words(fault_line(v), a.counts);
     let name = record_words::tables::text_words(a.header.name);
     let revision = record_words::tables::text_words(a.header.revision);
-    fills::put(answer, 0, &head);
-    fills::put(answer, COUNT_WORDS, &name);
-    fills::put(answer, REVISION_FROM, &revision);
+    section_words::put(answer, 0, &head);
+    section_words::put(answer, COUNT_WORDS, &name);
+    section_words::put(answer, REVISION_FROM, &revision);
 }
 
 pub fn fill_tables(
@@ -77,7 +77,5 @@ pub fn fill_tables(
     fills::fill_pins(pins, src, notes, o.pins);
     fills::fill_selectors(selectors, src, notes, o.selectors);
     fills::fill_choices(choices, src, notes, o.choices);
-    fills::fill_models(models, src, notes, o.models);
-    fills::fill_waveforms(waveforms, src, notes, o.waveforms);
-    from_notes::fill_rows(rows, src, notes, o.models);
+    fills::fill_models(models, waveforms, rows, src, notes, o.models);
 }

@@ -1,5 +1,9 @@
--- Each table by its fill.
+-- Each table by its fill; the rows of the models are their rows one after the other by `rows-words`.
+use mathlib.Core.Path.{sym, ap, _∙_}
 use borrow.Author.Needs.{needs}
+use denote.Ref.{now}
+use Rattle.records.specs.Stored.{over}
+use Rattle.table_words.proofs.Models.{rows-words}
 use Rattle.table_words.proofs.fill_tables.Statement.{statement}
 use Rattle.table_words.proofs.fill_tables.Tie as tie
 use Rattle.table_words.proofs.fill_tables.Reads as reads
@@ -9,8 +13,6 @@ use Rattle.table_words.proofs.fills.fill_components.Reads as fill-compo
 use Rattle.table_words.proofs.fills.fill_models.Reads as fill-models-reads
 use Rattle.table_words.proofs.fills.fill_pins.Reads as fill-pins-reads
 use Rattle.table_words.proofs.fills.fill_selectors.Reads as fill-selectors-reads
-use Rattle.table_words.proofs.fills.fill_waveforms.Reads as fill-waveforms-reads
-use Rattle.from_notes.proofs.fill_rows.Reads as fill-rows-reads
 
 fill-components-requires : tie.Need-fill-components-requires
 fill-components-requires c κs = search needs
@@ -25,13 +27,9 @@ fill-choices-requires : tie.Need-fill-choices-requires
 fill-choices-requires c κs = search needs
 
 fill-models-requires : tie.Need-fill-models-requires
-fill-models-requires c κs = search needs
-
-fill-waveforms-requires : tie.Need-fill-waveforms-requires
-fill-waveforms-requires c κs = search needs
-
-fill-rows-requires : tie.Need-fill-rows-requires
-fill-rows-requires c κs = c .before .before .before .before .before .before .before .before .before .before .before .before .before .before .before .before .before .before .before .before .before .before .before .before .before .before .before .before .before .before .before .before .before .before .pre .rows
+fill-models-requires c κs =
+    let a = c .before .before .before .before .before .before .before .before .before .before .before .before .before .before .before .before .before .before .before .before .before .before .before .before .before .before .before .before .args in
+    (c .before .before .before .before .before .before .before .before .before .before .before .before .before .before .before .before .before .before .before .before .before .before .before .before .before .before .before .before .pre .models, (c .before .before .before .before .before .before .before .before .before .before .before .before .before .before .before .before .before .before .before .before .before .before .before .before .before .before .before .before .pre .waveforms, rw (sym (rows-words (now (a .src)) (now (a .notes)) (a .o .models))) (c .before .before .before .before .before .before .before .before .before .before .before .before .before .before .before .before .before .before .before .before .before .before .before .before .before .before .before .before .pre .rows)))
 
 same-length : tie.Need-same-length
 same-length c = search needs
@@ -55,7 +53,10 @@ same-length-7 : tie.Need-same-length-7
 same-length-7 c = search needs
 
 returns : tie.Need-returns
-returns c = rw (c .before .before .before .before .before .before .before .before .before .before .before .before .before .before .before .before .before .before .before .before .before .before .before .before .before .before .fill-components .ensures, c .before .before .before .before .before .before .before .before .before .before .before .before .before .before .before .before .before .before .before .before .before .before .fill-pins .ensures, c .before .before .before .before .before .before .before .before .before .before .before .before .before .before .before .before .before .before .fill-selectors .ensures, c .before .before .before .before .before .before .before .before .before .before .before .before .before .before .fill-choices .ensures, c .before .before .before .before .before .before .before .before .before .before .fill-models .ensures, c .before .before .before .before .before .before .fill-waveforms .ensures, c .before .before .fill-rows .ensures)
+returns c =
+    let a = c .before .before .before .before .before .before .before .before .before .before .before .before .before .before .before .before .before .before .before .before .before .before .before .before .before .before .before .before .before .before .before .before .before .before .before .args in
+    let r = c .before .before .before .before .before .before .fill-models .ensures in
+    rw (c .before .before .before .before .before .before .before .before .before .before .before .before .before .before .before .before .before .before .before .before .before .before .before .before .fill-components .ensures, c .before .before .before .before .before .before .before .before .before .before .before .before .before .before .before .before .before .before .before .before .fill-pins .ensures, c .before .before .before .before .before .before .before .before .before .before .before .before .before .before .before .before .fill-selectors .ensures, c .before .before .before .before .before .before .before .before .before .before .before .before .fill-choices .ensures, r .0, r .1 .0, r .1 .1 ∙ ap (over (now (a .rows))) (sym (rows-words (now (a .src)) (now (a .notes)) (a .o .models))))
 
 pub fill-tables-spec : {M : Type 1} → statement M
 fill-tables-spec =
@@ -66,8 +67,6 @@ fill-tables-spec =
     fill-selectors-requires
     fill-choices-requires
     fill-models-requires
-    fill-waveforms-requires
-    fill-rows-requires
     same-length
     same-length-2
     same-length-3

@@ -6,14 +6,14 @@ use borrow.Author.Needs.{needs}
 use denote.Ref.{now}
 use Rattle.table_words.specs.Packed.{countWords, faultLine}
 use Rattle.record_words.specs.Records.{textWords}
-use Rattle.table_words.proofs.Laws.{sets-three, sets-all}
+use Rattle.section_words.proofs.Laws.{sets-three, sets-all}
 use Rattle.table_words.proofs.put_answer.Statement.{statement}
 use Rattle.table_words.proofs.put_answer.Tie as tie
 use Rattle.table_words.proofs.put_answer.Reads as reads
 use Rattle.table_words.proofs.put_answer.Lts as lts
 use Rattle.table_words.proofs.count_words.Reads as count-words-reads
 use Rattle.table_words.proofs.fault_line.Reads as fault-line-reads
-use Rattle.table_words.proofs.fills.put.Reads as put-reads
+use Rattle.section_words.proofs.put.Reads as put-reads
 use Rattle.record_words.proofs.tables.text_words.Reads as text-words-reads
 
 fault-line-requires : tie.Need-fault-line-requires

@@ -14,7 +14,7 @@ use Rattle.rules.specs.Reading.{under, rampIn, noRamp}
 use Rattle.records.specs.Stored.{noCells}
 use Rattle.lines_under.proofs.Keyed.{keys-stop}
 use Rattle.model_record.specs.Bodies.{partOn}
-use Rattle.model_record.proofs.Takes.{taken, current-fits}
+use Rattle.model_record.proofs.Takes.{taken, part-current, current-fits}
 use Rattle.model_record.proofs.bodies.take_part.Statement.{statement}
 use Rattle.model_record.proofs.bodies.take_part.Tie as tie
 
@@ -86,7 +86,7 @@ returns-3 c =
     let cells = orElse noCells (threeCells (words w)) in
     let ramp = rampIn w (under (rest (now (c .before .before .before .before .before .before .before .before .args .src)) (c .before .before .before .before .before .before .before .before .args .c))) in
     taken (InModel (Current t)) (c .with-current .result) (c .before .before .count-rows .result .next) (ap InModel (c .before .before .before .before .part .given .1))
-    (c .with-current .ensures cells ramp ∙ ap (λ (k : ℕ). partOn b (Current t) cells ramp k) (n .count))
+    (c .with-current .ensures ∙ part-current b cells ramp _ t ∙ ap (λ (k : ℕ). partOn b (Current t) cells ramp k) (n .count))
     (current-fits b cells ramp _ (c .before .before .count-rows .result .next) (rw (sym (n .count)) (omega (arith, n .bounded, c .before .before .before .before .before .before .before .before .pre .1))) (omega (arith, n .stops .rises, c .before .before .before .before .before .before .before .before .pre .2)) t)
     (keys-stop (n .stops)) (n .stops .placed) (n .stops .rises)
 
@@ -103,7 +103,7 @@ returns-5 c =
     let n = c .before .before .count-rows2 .ensures in
     let e = c .before .before .before .enum-told4 .given .0 .0 in
     taken (InModel (Waveform e)) (c .with-waveform .result) (c .before .before .count-rows2 .result .next) (ap InModel (c .before .before .before .enum-told4 .given .1))
-    (c .with-waveform .ensures e noCells noRamp ∙ ap (λ (k : ℕ). partOn (c .before .before .before .before .before .before .before .args .b) (Waveform e) noCells noRamp k) (n .count))
+    (c .with-waveform .ensures ∙ ap (λ (k : ℕ). partOn (c .before .before .before .before .before .before .before .args .b) (Waveform e) noCells noRamp k) (n .count))
     (record { row = rw (sym (n .count)) (omega (arith, n .bounded, c .before .before .before .before .before .before .before .pre .1)); waveforms = omega (arith, n .stops .rises, c .before .before .before .before .before .before .before .pre .2) })
     (keys-stop (n .stops)) (n .stops .placed) (n .stops .rises)
 

@@ -31,16 +31,16 @@ with-table-requires-4 : tie.Need-with-table-requires-4
 with-table-requires-4 c κs = tt
 
 returns : tie.Need-returns
-returns c = λ cells ramp. rw (c .before .before .enum-told .given .1, c .with-table .ensures)
+returns c = rw (c .before .before .enum-told .given .1, c .with-table .ensures)
 
 returns-2 : tie.Need-returns-2
-returns-2 c = λ cells ramp. rw (c .before .before .enum-told2 .given .1, c .with-table2 .ensures)
+returns-2 c = rw (c .before .before .enum-told2 .given .1, c .with-table2 .ensures)
 
 returns-3 : tie.Need-returns-3
-returns-3 c = λ cells ramp. rw (c .before .before .enum-told3 .given .1, c .with-table3 .ensures)
+returns-3 c = rw (c .before .before .enum-told3 .given .1, c .with-table3 .ensures)
 
 returns-4 : tie.Need-returns-4
-returns-4 c = λ cells ramp. rw (c .before .before .enum-told4 .given .1, c .with-table4 .ensures)
+returns-4 c = rw (c .before .before .enum-told4 .given .1, c .with-table4 .ensures)
 
 pub with-current-spec : {M : Type 1} → statement M
 with-current-spec =

@@ -12,9 +12,6 @@ use Rattle.model_record.proofs.record.model_of.Tie as tie
 first-lines-requires : tie.Need-first-lines-requires
 first-lines-requires c κs = search needs
 
-with-defaults-requires : tie.Need-with-defaults-requires
-with-defaults-requires c κs = tt
-
 body-of-requires : tie.Need-body-of-requires
 body-of-requires c κs = search needs
 
@@ -26,18 +23,12 @@ model-over-requires c κs = tt
 
 returns : tie.Need-returns
 returns c =
-    let a = c .before .before .before .before .before .before .before .before .before .args in
-    let same = follows-jump body-fold (follows-start body-fold (now (a .src)) (a .c) (bareBody (a .row))) (keys-stop (c .before .before .before .before .before .before .first-lines .ensures .stops)) .same in
-    rw (c .model-over .ensures, c .before .name-of .ensures, c .before .before .before .with-defaults .ensures, c .before .before .before .before .before .before .first-lines .ensures .lines, c .before .before .body-of .ensures, sym same)
+    let a = c .before .before .before .before .before .before .before .before .args in
+    let same = follows-jump body-fold (follows-start body-fold (now (a .src)) (a .c) (bareBody (a .row))) (keys-stop (c .before .before .before .before .before .first-lines .ensures .stops)) .same in
+    rw (c .model-over .ensures, c .before .name-of .ensures, c .before .before .before .before .before .first-lines .ensures .lines, c .before .before .body-of .ensures, sym same)
     (model-is (a .row) (a .start) (a .section) (now (a .name)) (rest (now (a .src)) (a .c)))
 
 pub model-of-spec : {M : Type 1} → statement M
 model-of-spec =
     tie.close
-    (tie.spec
-    first-lines-requires
-    with-defaults-requires
-    body-of-requires
-    name-of-requires
-    model-over-requires
-    returns)
+    (tie.spec first-lines-requires body-of-requires name-of-requires model-over-requires returns)

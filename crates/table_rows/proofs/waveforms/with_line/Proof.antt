@@ -13,8 +13,11 @@ row-of-requires c κs = tt
 enum-told : tie.Need-enum-told
 enum-told c = search needs
 
-with-row-requires : tie.Need-with-row-requires
-with-row-requires c κs = search needs
+add-with-rows : tie.Need-add-with-rows
+add-with-rows c = search needs
+
+with-rows-requires : tie.Need-with-rows-requires
+with-rows-requires c κs = tt
 
 enum-told-2 : tie.Need-enum-told-2
 enum-told-2 c = search needs
@@ -24,8 +27,8 @@ with-fixture-requires c κs = tt
 
 returns : tie.Need-returns
 returns c =
-    let w = now (c .before .before .before .before .before .args .w) in
-    c .with-row .ensures ∙ line-row (c .before .before .before .before .before .args .x) w _ (row-is w (c .before .before .before .row-of .ensures) (c .before .enum-told .given .1))
+    let w = now (c .before .before .before .before .before .before .args .w) in
+    c .with-rows .ensures ∙ line-row (c .before .before .before .before .before .before .args .x) w _ (row-is w (c .before .before .before .before .row-of .ensures) (c .before .before .enum-told .given .1))
 
 returns-2 : tie.Need-returns-2
 returns-2 c =
@@ -38,7 +41,8 @@ with-line-spec =
     (tie.spec
     row-of-requires
     enum-told
-    with-row-requires
+    add-with-rows
+    with-rows-requires
     enum-told-2
     with-fixture-requires
     returns

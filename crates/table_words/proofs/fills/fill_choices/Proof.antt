@@ -14,7 +14,7 @@ use Rattle.table_words.proofs.fills.fill_choices.Statement.{statement}
 use Rattle.table_words.proofs.fills.fill_choices.Tie as tie
 use Rattle.table_words.proofs.fills.fill_choices.Reads as reads
 use Rattle.table_words.proofs.fills.fill_choices.Lts as lts
-use Rattle.table_words.proofs.fills.put.Reads as put-reads
+use Rattle.section_words.proofs.put.Reads as put-reads
 use Rattle.record_words.proofs.tables.choice_words.Reads as choice-words-reads
 use Rattle.from_notes.proofs.choice_at.Reads as choice-at-reads
 

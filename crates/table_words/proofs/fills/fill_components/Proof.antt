@@ -14,7 +14,7 @@ use Rattle.table_words.proofs.fills.fill_components.Statement.{statemen
 use Rattle.table_words.proofs.fills.fill_components.Tie as tie
 use Rattle.table_words.proofs.fills.fill_components.Reads as reads
 use Rattle.table_words.proofs.fills.fill_components.Lts as lts
-use Rattle.table_words.proofs.fills.put.Reads as put-reads
+use Rattle.section_words.proofs.put.Reads as put-reads
 use Rattle.record_words.proofs.tables.component_words.Reads as component-words-reads
 use Rattle.from_notes.proofs.component_at.Reads as component-at-reads
 

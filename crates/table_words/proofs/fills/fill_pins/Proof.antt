@@ -14,7 +14,7 @@ use Rattle.table_words.proofs.fills.fill_pins.Statement.{statement}
 use Rattle.table_words.proofs.fills.fill_pins.Tie as tie
 use Rattle.table_words.proofs.fills.fill_pins.Reads as reads
 use Rattle.table_words.proofs.fills.fill_pins.Lts as lts
-use Rattle.table_words.proofs.fills.put.Reads as put-reads
+use Rattle.section_words.proofs.put.Reads as put-reads
 use Rattle.record_words.proofs.tables.pin_words.Reads as pin-words-reads
 use Rattle.from_notes.proofs.pin_at.Reads as pin-at-reads
 

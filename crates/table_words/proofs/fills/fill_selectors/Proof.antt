@@ -14,7 +14,7 @@ use Rattle.table_words.proofs.fills.fill_selectors.Statement.{statement
 use Rattle.table_words.proofs.fills.fill_selectors.Tie as tie
 use Rattle.table_words.proofs.fills.fill_selectors.Reads as reads
 use Rattle.table_words.proofs.fills.fill_selectors.Lts as lts
-use Rattle.table_words.proofs.fills.put.Reads as put-reads
+use Rattle.section_words.proofs.put.Reads as put-reads
 use Rattle.record_words.proofs.tables.selector_words.Reads as selector-words-reads
 use Rattle.from_notes.proofs.selector_at.Reads as selector-at-reads
 

@@ -4,13 +4,13 @@ use mathlib.Core.List.{_++_}
 use borrow.Author.Needs.{needs}
 use denote.Ref.{now}
 use Rattle.record_words.specs.Records.{modelFirst, modelSplit, modelLevels, modelTables, modelRamp}
-use Rattle.table_words.proofs.Laws.{sets-three}
-use Rattle.table_words.proofs.fills.put_model.Statement.{statement}
-use Rattle.table_words.proofs.fills.put_model.Tie as tie
-use Rattle.table_words.proofs.fills.put_model.Reads as reads
-use Rattle.table_words.proofs.fills.put_model.Lts as lts
-use Rattle.table_words.proofs.fills.put.Reads as put-reads
-use Rattle.table_words.proofs.fills.put_model_lines.Reads as put-model-lines-reads
+use Rattle.section_words.proofs.Laws.{sets-three}
+use Rattle.section_words.proofs.puts.put_model.Statement.{statement}
+use Rattle.section_words.proofs.puts.put_model.Tie as tie
+use Rattle.section_words.proofs.puts.put_model.Reads as reads
+use Rattle.section_words.proofs.puts.put_model.Lts as lts
+use Rattle.section_words.proofs.puts.put.Reads as put-reads
+use Rattle.section_words.proofs.puts.put_model_lines.Reads as put-model-lines-reads
 use Rattle.record_words.proofs.tables.model_ramp.Reads as model-ramp-reads
 use Rattle.record_words.proofs.tables.model_tables.Reads as model-tables-reads
 

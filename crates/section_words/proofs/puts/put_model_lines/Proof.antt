@@ -3,12 +3,12 @@ use mathlib.Core.Path.{refl}
 use borrow.Author.Needs.{needs}
 use denote.Ref.{now}
 use Rattle.record_words.specs.Records.{modelFirst, modelSplit, modelLevels}
-use Rattle.table_words.proofs.Laws.{sets-three}
-use Rattle.table_words.proofs.fills.put_model_lines.Statement.{statement}
-use Rattle.table_words.proofs.fills.put_model_lines.Tie as tie
-use Rattle.table_words.proofs.fills.put_model_lines.Reads as reads
-use Rattle.table_words.proofs.fills.put_model_lines.Lts as lts
-use Rattle.table_words.proofs.fills.put.Reads as put-reads
+use Rattle.section_words.proofs.Laws.{sets-three}
+use Rattle.section_words.proofs.puts.put_model_lines.Statement.{statement}
+use Rattle.section_words.proofs.puts.put_model_lines.Tie as tie
+use Rattle.section_words.proofs.puts.put_model_lines.Reads as reads
+use Rattle.section_words.proofs.puts.put_model_lines.Lts as lts
+use Rattle.section_words.proofs.puts.put.Reads as put-reads
 use Rattle.record_words.proofs.tables.model_first.Reads as model-first-reads
 use Rattle.record_words.proofs.tables.model_levels.Reads as model-levels-reads
 use Rattle.record_words.proofs.tables.model_split.Reads as model-split-reads
