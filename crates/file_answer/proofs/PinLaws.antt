@@ -27,8 +27,8 @@ use Rattle.note_words.specs.Store.{logIn}
 use Rattle.noted_events.specs.Events.{logOf, loggedAt, Within, KeptCounts}
 use Rattle.noted_events.specs.declared.Spot.{Spot}
 use Rattle.noted_events.specs.declared.Tally.{Tally}
-use Rattle.file_answer.specs.Scans.{runFrom, Ground, Sound}
-use Rattle.file_answer.specs.Pins.{PinIs, PinIn, KeepsPins, standing, PinNext, NextPinIs, PinsAre, PinsOn}
+use Rattle.file_answer.specs.Scans.{standing, runFrom, Ground, Sound, ListPassed}
+use Rattle.file_answer.specs.Pins.{PinIs, PinIn, KeepsPins, PinNext, NextPinIs, PinsAre}
 use Rattle.file_answer.specs.declared.NextPin.{NextPin}
 use Rattle.file_answer.specs.declared.NextPin.the-variants.{Pin, NoPin}
 use Rattle.file_answer.specs.declared.PinsPassed.{PinsPassed}
@@ -86,11 +86,11 @@ module _ (l : Lengths) (s xs : List ℕ) (c : Cursor) (t : Tally) (long : Bool) 
 
 -- ---- where the reading stands
 
-pub pins-stay : (l : Lengths) (s xs : List ℕ) (x : Standing) → Sound s xs x → PinsOn l s xs x xs x
+pub pins-stay : (l : Lengths) (s xs : List ℕ) (x : Standing) → Sound s xs x → ListPassed l s xs x xs x
 pins-stay l s xs x h = record { says = refl; sound = h; from = omega arith }
 
 pub pins-on : (l : Lengths) (s xs : List ℕ) (x : Standing) (c : ComponentState) (o : ℕ) (long any : Bool) (ys : List ℕ) (p : PinsPassed) → x .stage ≡ InComponent c → c .list ≡ PinRows o long any → any ≡ true
-    → PinsAre l s xs (x .cursor) (x .tally) long ys p → PinsOn l s xs x ys (standing (InComponent c) (p .cursor) (p .tally))
+    → PinsAre l s xs (x .cursor) (x .tally) long ys p → ListPassed l s xs x ys (standing (InComponent c) (p .cursor) (p .tally))
 pins-on l s xs x c o long any ys p stage list seen are =
     let is : InComponent (withList c (PinRows o long true)) ≡ InComponent c = (rw (sym seen) rw (sym list) refl) in
     let keeps : KeepsPins (InComponent c) long = subst (λ (g : Stage). KeepsPins g long) is (pins-kept c o long) in

@@ -1,36 +1,40 @@
 -- Laws of `specs/Scans.antt`: one text more, by its step and by what it adds.
-use Prim.Native.Nat.{ℕ, _+_, _≤_}
+use Prim.Native.Nat.{ℕ, _≤_, min}
 use mathlib.Core.Path.{_≡_, refl, sym, ap, _∙_, subst}
-use mathlib.Core.List.{List, [], _∷_}
+use mathlib.Core.List.{List}
 use mathlib.Core.Bool.{Bool, true, false, cond}
 use native.Mathlib.Omega.{arith}
-use lib.Dec.{eqb}
+use lib.Dec.{eqb, leb}
+use borrow.Author.Tests.{eq-eqb, ne-eqb}
 use lib.ListN.{length}
 use Rattle.laws.specs.Lists.{part}
 use Rattle.laws.proofs.Tests.{by-test, cond-yes, cond-no, impossible}
 use Rattle.records.specs.declared.Fault.{Fault}
-use Rattle.cut_lines.specs.Cursors.{rest, past, firstCursor, Placed, Goes, TextIs, ChangeIs, OutIs}
+use Rattle.cut_lines.specs.Texts.{Text, plain}
+use Rattle.cut_lines.specs.Cursors.{rest, past, firstCursor, TextIs, ChangeIs, OutIs}
 use Rattle.cut_lines.specs.declared.Cursor.{Cursor}
 use Rattle.rules.specs.Going.{stop, unless, refuse, quietly}
 use Rattle.rules.specs.Steps.{isBefore, isEnded, onPlain, onChange}
+use Rattle.rules.specs.Whole.{bound}
+use Rattle.records.specs.Bounds.{mostWaveforms}
 use Rattle.records.specs.declared.Lengths.{Lengths}
 use Rattle.rules.specs.declared.Stage.{Stage}
 use Rattle.rules.specs.declared.Stage.the-variants.{BeforeVersion}
 use Rattle.rules.specs.declared.Event.{Event}
 use Rattle.rules.specs.declared.Event.the-variants.{Quiet}
+use Rattle.rules.specs.declared.Event.the-variants as event
 use Rattle.rules.specs.declared.Went.{Went}
 use Rattle.rules.specs.declared.Went.the-variants.{On, Stop}
-use Rattle.notes.specs.Noted.{Finish, going, full, broken, outOfLines, runLog, emptyLog, nothingUsed}
-use Rattle.note_words.specs.Store.{logIn, notesTo, wavesTo, storeLength}
-use Rattle.noted_events.specs.Events.{logOf, loggedAt, Within, KeptCounts, Ready}
-use Rattle.file_answer.specs.Scans.{finishIs, textStep, changeStep, GoesOn, Ends, StepIs, Onward, runFrom, Sound, Moves, TurnIs}
+use Rattle.notes.specs.Noted.{Note, Log, Logged, going, full, withNote, logged, used, broken, outOfLines, runLog, emptyLog, nothingUsed}
+use Rattle.note_words.specs.Store.{mostNames, logIn, notesTo, wavesTo, storeLength}
+use Rattle.noted_events.specs.Events.{logOf, loggedAt, toldIs, Within, KeptCounts, KeptBy, Ready}
+use Rattle.noted_events.specs.declared.Told.the-variants.{Going, Full}
+use Rattle.file_answer.specs.Scans.{finishIs, textStep, changeStep, toldBy, standing, runFrom, Ground, Sound}
+use Rattle.file_answer.specs.declared.NotedLine.{NotedLine}
 use Rattle.noted_events.specs.declared.Spot.{Spot}
 use Rattle.noted_events.specs.declared.Tally.{Tally}
 use Rattle.file_answer.specs.declared.Standing.{Standing}
-use Rattle.file_answer.specs.declared.Scanned.{Scanned}
 use Rattle.file_answer.specs.declared.Ending.the-variants.{Broken}
-use Rattle.file_answer.specs.declared.Turn.{Turn}
-use Rattle.file_answer.specs.declared.Turn.the-variants as turned
 
 -- ---- a line that cutting leaves
 
@@ -46,11 +50,41 @@ module _ (l : Lengths) (n : ℕ) (s xs ys : List ℕ) (g : Stage) (t : Tally) (p
   pub plain-stop : (f : Fault) → onPlain g (p .line) (part (p .start) (p .end) s) ≡ Stop f → textStep l n s xs g t p ≡ finishIs s xs (record { ending = Broken f; tally = t })
   plain-stop f h = rw h refl
 
-pub onward-step : (l : Lengths) (n : ℕ) (s xs : List ℕ) (f : Finish) (t : Tally) (c : Cursor) (y : Standing) (r : Turn) → Onward y r → GoesOn l n s xs f t c y → StepIs l n s xs f t c r
-onward-step l n s xs f t c y (turned.On z) e h = subst (GoesOn l n s xs f t c) (sym e) h
-onward-step l n s xs f t c y (turned.InRows z) e h = subst (GoesOn l n s xs f t c) (sym e) h
-onward-step l n s xs f t c y (turned.InPins z) e h = subst (GoesOn l n s xs f t c) (sym e) h
-onward-step l n s xs f t c y (turned.End z) e h = absurd e
+-- ---- a line that has no room for what it adds has a fault with a number
+
+abbrev numberOf : Logged → ℕ
+numberOf (going g) = 1
+numberOf (full n k g) = n
+
+numbered-cond : (b : Bool) (x y : Logged) → eqb (numberOf x) 0 ≡ false → eqb (numberOf y) 0 ≡ false → eqb (numberOf (cond b x y)) 0 ≡ false
+numbered-cond true x y h k = h
+numbered-cond false x y h k = k
+
+numbered-note : (l : Lengths) (g : Log) (n : Note) → eqb (numberOf (withNote l g n)) 0 ≡ false
+unfolding withNote
+numbered-note l g n = numbered-cond (leb (bound l (n .kind)) (used (g .counts) (n .kind))) _ _ refl refl
+
+numbered : (l : Lengths) (g : Log) (t : Text) (ts : List Text) (e : Event) → eqb (numberOf (logged l g t ts e)) 0 ≡ false
+numbered l g t ts event.Quiet = refl
+numbered l g t ts (event.Opened o) = numbered-note l g _
+numbered l g t ts event.PinRow = numbered-note l g _
+numbered l g t ts event.ChoiceRow = numbered-note l g _
+numbered l g t ts event.WaveformOpened = numbered-cond (leb (min mostWaveforms (l .waveforms)) (g .counts .waveforms)) _ _ refl refl
+numbered l g t ts event.TableRow = numbered-cond (leb (l .rows) (g .counts .rows)) _ _ refl refl
+numbered l g t ts (event.Ended alone) = numbered-cond (eqb (g .counts .components) 0) _ _ refl (numbered-cond alone _ _ refl refl)
+
+pub full-told : (l : Lengths) (s xs ys : List ℕ) (t : Tally) (p : Spot) (e : Event) (n : ℕ) (v : Tally) → loggedAt l s xs t p e ≡ toldIs s ys (p .line) (Full n v)
+    → Full n v ≡ toldBy (record { tally = v; fault = n })
+full-told l s xs ys t p e n v h =
+    sym (cond-no _ _ (ap (λ (x : Logged). eqb (numberOf x) 0) (sym h) ∙ numbered l (logOf s xs t) (plain (p .line) (part (p .start) (p .end) s)) (rest s (p .next)) e))
+
+-- ---- a line that is noted, and one that is not
+
+told-going : (r : NotedLine) → r .fault ≡ 0 → toldBy r ≡ Going (r .tally)
+told-going r h = cond-yes _ _ (eq-eqb (r .fault) 0 h)
+
+told-full : (r : NotedLine) → (r .fault ≡ 0 → ⊥) → toldBy r ≡ Full (r .fault) (r .tally)
+told-full r h = cond-no _ _ (ne-eqb (r .fault) 0 h)
 
 -- ---- a [Comment Char] line adds nothing
 
@@ -99,28 +133,62 @@ module _ (l : Lengths) (s xs : List ℕ) (x : Standing) where
   unfolding runLog
   run-out k h = rw (h .more) rw (h .ends) refl
 
-  moves : (ys : List ℕ) (f : Finish) (n : Cursor) → runFrom l s xs x ≡ f → Goes s (x .cursor) n → x .tally .counts .rows ≤ x .cursor .at
-      → (y : Standing) → GoesOn l (past s (x .cursor)) s ys f (x .tally) n y → Moves l s xs x ys y
-  moves ys f n e g b y h =
-      let p : past s (x .cursor) ≡ past s (y .cursor) = g .ends ∙ ap (past s) (sym (h .cursor)) in
-      record {
-        says = e ∙ h .says ∙ ap (λ (m : ℕ). runLog l m (y .stage) (logOf s ys (y .tally)) (rest s (y .cursor))) p;
-        placed = subst (Placed s) (sym (h .cursor)) (g .placed);
-        within = h .kept .within;
-        rows = omega (arith, h .kept .rows, b, g .rises, ap (λ (c : Cursor). c .at) (h .cursor));
-        rises = omega (arith, g .rises, ap (λ (c : Cursor). c .at) (h .cursor));
-      }
-
-  pub turn-is : (ys : List ℕ) (f : Finish) (n : Cursor) → runFrom l s xs x ≡ f → Goes s (x .cursor) n → x .tally .counts .rows ≤ x .cursor .at
-      → (r : Turn) → StepIs l (past s (x .cursor)) s ys f (x .tally) n r → TurnIs l s xs x ys r
-  turn-is ys f n e g b (turned.On y) h = moves ys f n e g b y h
-  turn-is ys f n e g b (turned.InRows y) h = moves ys f n e g b y h
-  turn-is ys f n e g b (turned.InPins y) h = moves ys f n e g b y h
-  turn-is ys f n e g b (turned.End z) h = record { says = e ∙ h .says; names = h .names; within = h .within }
-
   pub ready : (p : Spot) → Sound s xs x → TextIs s (x .cursor) (p .line) (p .start) (p .end) (p .next) → Ready s xs (x .tally) p
   ready p h t =
       record { cursor = x .cursor; text = t; small = h .small; store = h .store; within = h .within; rows = omega (arith, h .rows, t .from) }
+
+-- ---- from a place on, behind the text that stands there
+
+module _ (l : Lengths) (s xs ys : List ℕ) (g : Stage) (c : Cursor) (t : Tally) (p : Spot) (text : TextIs s c (p .line) (p .start) (p .end) (p .next)) where
+  text-going : (u : Stage) (e : Event) (v : Tally) → onPlain g (p .line) (part (p .start) (p .end) s) ≡ On u e → loggedAt l s xs t p e ≡ going (logOf s ys v)
+      → runFrom l s xs (standing g c t) ≡ runFrom l s ys (standing u (p .next) v)
+  text-going u e v h k =
+      run-text l s xs (standing g c t) p text
+      ∙ plain-going l (past s c) s xs ys g t p u e v h k
+      ∙ ap (λ (m : ℕ). runLog l m u (logOf s ys v) (rest s (p .next))) (text .goes .ends)
+
+  text-full : (u : Stage) (e : Event) (n : ℕ) (v : Tally) → onPlain g (p .line) (part (p .start) (p .end) s) ≡ On u e → loggedAt l s xs t p e ≡ full n (p .line) (logOf s ys v)
+      → runFrom l s xs (standing g c t) ≡ finishIs s ys (record { ending = Broken (record { number = n; line = p .line }); tally = v })
+  text-full u e n v h k = run-text l s xs (standing g c t) p text ∙ plain-full l (past s c) s xs ys g t p u e n v h k
+
+  pub text-stop : (f : Fault) → onPlain g (p .line) (part (p .start) (p .end) s) ≡ Stop f → runFrom l s xs (standing g c t) ≡ finishIs s xs (record { ending = Broken f; tally = t })
+  text-stop f h = run-text l s xs (standing g c t) p text ∙ plain-stop l (past s c) s xs ys g t p f h
+
+  text-sound : (v : Tally) → Ground s xs c t → length ys ≡ length xs → KeptCounts t v → Ground s ys (p .next) v
+  text-sound v h e k =
+      record { placed = text .goes .placed; small = h .small; store = omega (arith, e, h .store); within = k .within; rows = omega (arith, k .rows, h .rows, text .goes .rises) }
+
+-- as it was noted: q is the text p
+module _ (l : Lengths) (s xs ys : List ℕ) (g : Stage) (c : Cursor) (t : Tally) (p q : Spot) (is : q ≡ p) (text : TextIs s c (p .line) (p .start) (p .end) (p .next)) (r : NotedLine) (e : Event) (noted : loggedAt l s xs t q e ≡ toldIs s ys (q .line) (toldBy r)) where
+  noted-here : loggedAt l s xs t p e ≡ toldIs s ys (p .line) (toldBy r)
+  noted-here = subst (λ (z : Spot). loggedAt l s xs t z e ≡ toldIs s ys (z .line) (toldBy r)) is noted
+
+  pub noted-going : (u : Stage) → onPlain g (p .line) (part (p .start) (p .end) s) ≡ On u e → r .fault ≡ 0 → runFrom l s xs (standing g c t) ≡ runFrom l s ys (standing u (p .next) (r .tally))
+  noted-going u h z = text-going l s xs ys g c t p text u e (r .tally) h (noted-here ∙ ap (toldIs s ys (p .line)) (told-going r z))
+
+  pub noted-full : (u : Stage) → onPlain g (p .line) (part (p .start) (p .end) s) ≡ On u e → (r .fault ≡ 0 → ⊥)
+      → runFrom l s xs (standing g c t) ≡ finishIs s ys (record { ending = Broken (record { number = r .fault; line = p .line }); tally = r .tally })
+  noted-full u h z = text-full l s xs ys g c t p text u e (r .fault) (r .tally) h (noted-here ∙ ap (toldIs s ys (p .line)) (told-full r z))
+
+pub noted-sound : (l : Lengths) (s xs ys : List ℕ) (g : Stage) (c : Cursor) (t : Tally) (p : Spot) → TextIs s c (p .line) (p .start) (p .end) (p .next) → (r : NotedLine) → Ground s xs c t → length ys ≡ length xs
+    → KeptBy t (toldBy r) → r .fault ≡ 0 → Ground s ys (p .next) (r .tally)
+noted-sound l s xs ys g c t p text r h k m z = text-sound l s xs ys g c t p text (r .tally) h k (subst (KeptBy t) (told-going r z) m)
+
+pub noted-names : (t : Tally) (r : NotedLine) → KeptBy t (toldBy r) → (r .fault ≡ 0 → ⊥) → r .tally .names ≤ mostNames
+noted-names t r m z = subst (KeptBy t) (told-full r z) m
+
+module _ (l : Lengths) (s xs : List ℕ) (g : Stage) (c : Cursor) (t : Tally) (k f : ℕ) (n : Cursor) (line : ChangeIs s c k f n) where
+  pub line-on : (u : Stage) (e : Event) → onChange g k f ≡ On u e → runFrom l s xs (standing g c t) ≡ runFrom l s xs (standing u n t)
+  line-on u e h =
+      run-change l s xs (standing g c t) k f n line
+      ∙ change-on l (past s c) s xs g t k f n u e h
+      ∙ ap (λ (m : ℕ). runLog l m u (logOf s xs t) (rest s n)) (line .goes .ends)
+
+  pub line-stop : (x : Fault) → onChange g k f ≡ Stop x → runFrom l s xs (standing g c t) ≡ finishIs s xs (record { ending = Broken x; tally = t })
+  line-stop x h = run-change l s xs (standing g c t) k f n line ∙ change-stop l (past s c) s xs g t k f n x h
+
+  pub line-sound : Ground s xs c t → Ground s xs n t
+  line-sound h = record { placed = line .goes .placed; small = h .small; store = h .store; within = h .within; rows = omega (arith, h .rows, line .goes .rises) }
 
 nothing-within : Within (record { names = 0; counts = nothingUsed })
 nothing-within =

@@ -19,11 +19,10 @@ use Rattle.notes.specs.Noted.{going}
 use Rattle.noted_events.specs.Events.{logOf, loggedAt, KeptCounts}
 use Rattle.noted_events.specs.declared.Spot.{Spot}
 use Rattle.noted_events.specs.declared.Tally.{Tally}
-use Rattle.file_answer.specs.Scans.{runFrom, Ground, Sound}
+use Rattle.file_answer.specs.Scans.{standing, runFrom, Ground}
 use Rattle.file_answer.specs.declared.NextPin.{NextPin}
 use Rattle.file_answer.specs.declared.NextPin.the-variants.{Pin, NoPin}
 use Rattle.file_answer.specs.declared.PinsPassed.{PinsPassed}
-use Rattle.file_answer.specs.declared.Standing.{Standing}
 
 -- ---- one pin; xs is the store before, ys behind it
 
@@ -43,9 +42,6 @@ PinIn l s xs t p long ys NoPin = ys ≡ xs
 abbrev pub KeepsPins : Stage → Bool → Type 0
 KeepsPins g long = (k : ℕ) (w : List ℕ) → isBracketed w ≡ false → pinFault long (words w) ≡ 0 → onPlain g k w ≡ On g PinRow
 
-abbrev pub standing : Stage → Cursor → Tally → Standing
-standing g c t = record { stage = g; cursor = c; tally = t }
-
 -- the texts from c on begin with a pin row
 pub record PinNext (l : Lengths) (s xs : List ℕ) (c : Cursor) (t : Tally) (long : Bool) (ys : List ℕ) (more : Tally) (next : Cursor) : Type 0 where
   pub says : (g : Stage) → KeepsPins g long → runFrom l s xs (standing g c t) ≡ runFrom l s ys (standing g next more)
@@ -63,8 +59,3 @@ pub record PinsAre (l : Lengths) (s xs : List ℕ) (c : Cursor) (t : Tally) (lon
   pub says : (g : Stage) → KeepsPins g long → runFrom l s xs (standing g c t) ≡ runFrom l s ys (standing g (p .cursor) (p .tally))
   pub ground : Ground s ys (p .cursor) (p .tally)
   pub from : c .at ≤ p .cursor .at
-
-pub record PinsOn (l : Lengths) (s xs : List ℕ) (x : Standing) (ys : List ℕ) (y : Standing) : Type 0 where
-  pub says : runFrom l s xs x ≡ runFrom l s ys y
-  pub sound : Sound s ys y
-  pub from : x .cursor .at ≤ y .cursor .at

@@ -1,8 +1,10 @@
 -- The lines read from a place on, as the code answers it.
-use Prim.Native.Nat.{ℕ, _≤_, _<_}
+use Prim.Native.Nat.{ℕ, _≤_}
 use mathlib.Core.Path.{_≡_}
 use mathlib.Core.List.{List}
+use mathlib.Core.Bool.{cond}
 use mathlib.Core.Option.{Option, none, some}
+use lib.Dec.{eqb}
 use lib.ListN.{length}
 use Rattle.laws.specs.Lists.{part}
 use Rattle.records.specs.declared.Fault.{Fault}
@@ -13,16 +15,17 @@ use Rattle.rules.specs.Steps.{onPlain, onChange}
 use Rattle.records.specs.declared.Lengths.{Lengths}
 use Rattle.rules.specs.declared.Stage.{Stage}
 use Rattle.notes.specs.Noted.{Log, Finish, afterWent, runLog}
-use Rattle.note_words.specs.Store.{mostNames, storeLength}
-use Rattle.noted_events.specs.Events.{logOf, Within, KeptCounts}
+use Rattle.note_words.specs.Store.{storeLength}
+use Rattle.noted_events.specs.Events.{logOf, Within}
 use Rattle.noted_events.specs.declared.Spot.{Spot}
 use Rattle.noted_events.specs.declared.Tally.{Tally}
+use Rattle.noted_events.specs.declared.Told.{Told}
+use Rattle.noted_events.specs.declared.Told.the-variants.{Going, Full}
 use Rattle.file_answer.specs.declared.Standing.{Standing}
 use Rattle.file_answer.specs.declared.Scanned.{Scanned}
 use Rattle.file_answer.specs.declared.Ending.{Ending}
 use Rattle.file_answer.specs.declared.Ending.the-variants.{Whole, Broken}
-use Rattle.file_answer.specs.declared.Turn.{Turn}
-use Rattle.file_answer.specs.declared.Turn.the-variants.{On, InRows, InPins, End}
+use Rattle.file_answer.specs.declared.NotedLine.{NotedLine}
 
 abbrev pub faultOfEnding : Ending → Option Fault
 faultOfEnding Whole = none
@@ -43,36 +46,19 @@ abbrev pub changeStep : Lengths → ℕ → List ℕ → List ℕ → Stage → 
 changeStep l n s xs g t k f c =
     afterWent l (logOf s xs t) (change k f) (rest s c) (λ (u : Stage) (h : Log). runLog l n u h (rest s c)) (onChange g k f)
 
--- the rest of the lines from here on gives what the text gives
-pub record GoesOn (l : Lengths) (n : ℕ) (s xs : List ℕ) (f : Finish) (t : Tally) (c : Cursor) (y : Standing) : Type 0 where
-  pub says : f ≡ runLog l n (y .stage) (logOf s xs (y .tally)) (rest s (y .cursor))
-  pub cursor : y .cursor ≡ c
-  pub kept : KeptCounts t (y .tally)
+-- a line's event as it was noted
+abbrev pub toldBy : NotedLine → Told
+toldBy r = cond (eqb (r .fault) 0) (Going (r .tally)) (Full (r .fault) (r .tally))
 
 -- lines read to the end leave a tally within the bounds
 abbrev pub WithinAt : Tally → Ending → Type 0
 WithinAt t Whole = Within t
 WithinAt t (Broken f) = Unit {0}
 
-pub record Ends (s xs : List ℕ) (f : Finish) (z : Scanned) : Type 0 where
-  pub says : f ≡ finishIs s xs z
-  pub names : z .tally .names ≤ mostNames
-  pub within : WithinAt (z .tally) (z .ending)
-
-abbrev pub StepIs : Lengths → ℕ → List ℕ → List ℕ → Finish → Tally → Cursor → Turn → Type 0
-StepIs l n s xs f t c (On y) = GoesOn l n s xs f t c y
-StepIs l n s xs f t c (InRows y) = GoesOn l n s xs f t c y
-StepIs l n s xs f t c (InPins y) = GoesOn l n s xs f t c y
-StepIs l n s xs f t c (End z) = Ends s xs f z
-
--- on from here, whatever was read
-abbrev pub Onward : Standing → Turn → Type 0
-Onward x (On y) = y ≡ x
-Onward x (InRows y) = y ≡ x
-Onward x (InPins y) = y ≡ x
-Onward x (End z) = ⊥
-
 -- ---- from a place on
+
+abbrev pub standing : Stage → Cursor → Tally → Standing
+standing g c t = record { stage = g; cursor = c; tally = t }
 
 abbrev pub runFrom : Lengths → List ℕ → List ℕ → Standing → Finish
 runFrom l s xs x = runLog l (past s (x .cursor)) (x .stage) (logOf s xs (x .tally)) (rest s (x .cursor))
@@ -88,15 +74,8 @@ pub record Ground (s xs : List ℕ) (c : Cursor) (t : Tally) : Type 0 where
 abbrev pub Sound : List ℕ → List ℕ → Standing → Type 0
 Sound s xs x = Ground s xs (x .cursor) (x .tally)
 
-pub record Moves (l : Lengths) (s xs : List ℕ) (x : Standing) (ys : List ℕ) (y : Standing) : Type 0 where
+-- behind lines of a list: from there on the lines say what they say from before them
+pub record ListPassed (l : Lengths) (s xs : List ℕ) (x : Standing) (ys : List ℕ) (y : Standing) : Type 0 where
   pub says : runFrom l s xs x ≡ runFrom l s ys y
-  pub placed : Placed s (y .cursor)
-  pub within : Within (y .tally)
-  pub rows : y .tally .counts .rows ≤ y .cursor .at
-  pub rises : x .cursor .at < y .cursor .at
-
-abbrev pub TurnIs : Lengths → List ℕ → List ℕ → Standing → List ℕ → Turn → Type 0
-TurnIs l s xs x ys (On y) = Moves l s xs x ys y
-TurnIs l s xs x ys (InRows y) = Moves l s xs x ys y
-TurnIs l s xs x ys (InPins y) = Moves l s xs x ys y
-TurnIs l s xs x ys (End z) = Ends s ys (runFrom l s xs x) z
+  pub sound : Sound s ys y
+  pub from : x .cursor .at ≤ y .cursor .at

@@ -56,10 +56,8 @@ pub struct Scanned {
     pub tally: Tally,
 }
 
-// After a text: on, behind a row of a table, behind a pin row, or the end.
-pub enum Turn {
-    On(Standing),
-    InRows(Standing),
-    InPins(Standing),
-    End(Scanned),
+// What is noted and counted behind a line; or the number of its fault, where there was no room.
+pub struct NotedLine {
+    pub tally: Tally,
+    pub fault: u8,
 }

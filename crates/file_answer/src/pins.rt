@@ -1,8 +1,8 @@
 // The rows of [Pin], in a loop of their own: behind the first one, each is noted and counted and leaves the stage as it is. What is no pin row, or
 // has no room, is left to the line's own step.
 ghost use Rattle.noted_events.specs.Events.{Ready};
-ghost use Rattle.file_answer.specs.Scans.{Ground, Sound};
-ghost use Rattle.file_answer.specs.Pins.{PinIn, NextPinIs, PinsAre, PinsOn};
+ghost use Rattle.file_answer.specs.Scans.{Ground, Sound, ListPassed};
+ghost use Rattle.file_answer.specs.Pins.{PinIn, NextPinIs, PinsAre};
 use crate::NextPin;
 use crate::PinsPassed;
 use crate::Standing;
@@ -103,7 +103,7 @@ fn pass_pins(
 // Behind the pin rows, if one was read; else all stays.
 pub(crate) fn behind_pins(notes: &mut [u32], src: &[u8], l: Lengths, x: Standing) -> Standing
     requires { ⌜ Sound (now src) (now notes) x ⌝ }
-    ensures { λ y. ⌜ PinsOn l (now (src .entry)) (now (notes .entry)) x (now (notes .exit)) y ⌝ }
+    ensures { λ y. ⌜ ListPassed l (now (src .entry)) (now (notes .entry)) x (now (notes .exit)) y ⌝ }
 {
     let stage = x.stage;
     let Stage::InComponent(component) = stage else {

@@ -4,18 +4,16 @@ ghost use mathlib.Core.List.{List};
 ghost use Prim.Native.Nat.{ℕ, _≤_};
 ghost use lib.ListN.{length};
 ghost use Rattle.cut_lines.specs.Cursors.{rest, past, firstCursor};
-ghost use Rattle.cut_lines.specs.declared.Cursor.{Cursor};
 ghost use Rattle.rules.specs.declared.Stage.the-variants.{BeforeVersion};
-ghost use Rattle.records.specs.declared.Lengths.{Lengths};
 ghost use Rattle.notes.specs.Noted.{runLog, emptyLog, outOfLines};
 ghost use Rattle.file_answer.specs.declared.Ending.the-variants.{Broken};
 ghost use Rattle.note_words.specs.Store.{mostNames, storeLength};
-ghost use Rattle.noted_events.specs.Events.{logOf, Ready, Within};
-ghost use Rattle.file_answer.specs.Scans.{textStep, changeStep, finishIs, Onward, StepIs, TurnIs, WithinAt, Sound};
+ghost use Rattle.noted_events.specs.Events.{logOf, loggedAt, toldIs, KeptBy, Ready, Within};
+ghost use Rattle.file_answer.specs.Scans.{toldBy, finishIs, standing, WithinAt, Sound, ListPassed};
 use crate::Ending;
+use crate::NotedLine;
 use crate::Scanned;
 use crate::Standing;
-use crate::Turn;
 use crate::pins::behind_pins;
 use crate::rows::behind_rows;
 use cut_lines::Cursor;
@@ -39,64 +37,84 @@ fn broken(f: Fault, t: Tally) -> Scanned
     }
 }
 
-// On, by what the line added: rows and pins come in numbers.
-fn onward(e: Event, y: Standing) -> Turn
-    ensures { λ r. ⌜ Onward y r ⌝ }
+// Fault n, at the line that has no room for what it adds.
+fn broken_at(n: u8, line: u64, t: Tally) -> Scanned
+    ensures { λ r. ⌜ r ≡ record { ending = Broken (record { number = n; line = line }); tally = t } ⌝ }
 {
-    match e {
-        Event::TableRow => Turn::InRows(y),
-        Event::PinRow => Turn::InPins(y),
-        Event::Quiet => Turn::On(y),
-        Event::Opened(_) => Turn::On(y),
-        Event::ChoiceRow => Turn::On(y),
-        Event::WaveformOpened => Turn::On(y),
-        Event::Ended(_) => Turn::On(y),
-    }
-}
-
-// The step of a line that cutting leaves.
-fn plain_turn(notes: &mut [u32], src: &[u8], l: Lengths, s: Stage, t: Tally, p: Spot) -> Turn
-    requires { ⌜ Ready (now src) (now notes) t p ⌝ }
-    ensures { λ r. ⌜ ((n : ℕ) → StepIs l n (now (src .entry)) (now (notes .exit)) (textStep l n (now (src .entry)) (now (notes .entry)) s t p) t (p .next) r) ⌝ }
-{
-    let start = p.start;
-    let end = p.end;
-    let next = p.next;
-    match steps::on_plain(s, p.line, &src[start..end]) {
-        Went::On(u, e) => match note_event(notes, src, l, t, p, e) {
-            Told::Going(v) => onward(
-                e,
-                Standing {
-                    stage: u,
-                    cursor: next,
-                    tally: v,
-                },
-            ),
-            Told::Full(n, v) => Turn::End(broken(
-                Fault {
-                    number: n,
-                    line: p.line,
-                },
-                v,
-            )),
+    broken(
+        Fault {
+            number: n,
+            line: line,
         },
-        Went::Stop(f) => Turn::End(broken(f, t)),
+        t,
+    )
+}
+
+fn spot_at(line: u64, start: usize, end: usize, next: Cursor) -> Spot
+    ensures { λ r. ⌜ r ≡ record { line = line; start = start; end = end; next = next } ⌝ }
+{
+    Spot {
+        line: line,
+        start: start,
+        end: end,
+        next: next,
     }
 }
 
-// The step of a [Comment Char] line.
-fn change_turn(s: Stage, t: Tally, line: u64, fault: u8, next: Cursor) -> Turn
-    requires { ⌜ Within t ⌝ }
-    ensures { λ r. ⌜ ((l : Lengths) (n : ℕ) (src xs : List ℕ) → StepIs l n src xs (changeStep l n src xs s t line fault next) t next r) ⌝ }
+fn stands(stage: Stage, cursor: Cursor, tally: Tally) -> Standing
+    ensures { λ r. ⌜ r ≡ standing stage cursor tally ⌝ }
 {
-    match steps::on_change(s, line, fault) {
-        Went::On(u, _) => Turn::On(Standing {
-            stage: u,
-            cursor: next,
-            tally: t,
-        }),
-        Went::Stop(f) => Turn::End(broken(f, t)),
+    Standing {
+        stage: stage,
+        cursor: cursor,
+        tally: tally,
     }
+}
+
+// Notes and counts what a line adds; most add nothing.
+fn note_line(notes: &mut [u32], src: &[u8], l: Lengths, t: Tally, p: Spot, e: Event) -> NotedLine
+    requires { ⌜ Ready (now src) (now notes) t p ⌝ }
+    ensures { λ r. ⌜ loggedAt l (now (src .entry)) (now (notes .entry)) t p e ≡ toldIs (now (src .entry)) (now (notes .exit)) (p .line) (toldBy r) ⌝ }
+    ensures { λ r. ⌜ KeptBy t (toldBy r) ⌝ }
+{
+    if let Event::Quiet = e {
+        return NotedLine { tally: t, fault: 0 };
+    }
+    match note_event(notes, src, l, t, p, e) {
+        Told::Going(more) => NotedLine {
+            tally: more,
+            fault: 0,
+        },
+        Told::Full(number, full) => NotedLine {
+            tally: full,
+            fault: number,
+        },
+    }
+}
+
+// Rows of tables and pins come in numbers.
+fn comes_in_numbers(e: Event) -> bool {
+    match e {
+        Event::TableRow => true,
+        Event::PinRow => true,
+        Event::Quiet => false,
+        Event::Opened(_) => false,
+        Event::ChoiceRow => false,
+        Event::WaveformOpened => false,
+        Event::Ended(_) => false,
+    }
+}
+
+// Behind the rows or the pins of the list that is open.
+fn behind_list(notes: &mut [u32], src: &[u8], l: Lengths, x: Standing) -> Standing
+    requires { ⌜ Sound (now src) (now notes) x ⌝ }
+    ensures { λ y. ⌜ ListPassed l (now (src .entry)) (now (notes .entry)) x (now (notes .exit)) y ⌝ }
+{
+    let stage = x.stage;
+    if let Stage::InModel(_) = stage {
+        return behind_rows(src, l, x);
+    }
+    behind_pins(notes, src, l, x)
 }
 
 // There is no line more.
@@ -122,58 +140,50 @@ fn out_of_lines(s: Stage, t: Tally, line: u64) -> Scanned
     }
 }
 
-// The next text's step.
-fn turn(notes: &mut [u32], src: &[u8], l: Lengths, x: Standing) -> Turn
-    requires { ⌜ Sound (now src) (now notes) x ⌝ }
-    ensures { λ r. ⌜ TurnIs l (now (src .entry)) (now (notes .entry)) x (now (notes .exit)) r ⌝ }
-{
-    let stage = x.stage;
-    let tally = x.tally;
-    match cut_lines::next_text(src, x.cursor) {
-        Next::Text {
-            line,
-            start,
-            end,
-            next,
-        } => {
-            let p = Spot {
-                line: line,
-                start: start,
-                end: end,
-                next: next,
-            };
-            plain_turn(notes, src, l, stage, tally, p)
-        }
-        Next::Change { line, fault, next } => change_turn(stage, tally, line, fault, next),
-        Next::Out { line } => Turn::End(out_of_lines(stage, tally, line)),
-    }
-}
-
-// All lines from the top, up to the first fault.
+// All lines from the top, up to the first fault. Stage, cursor and tally are held apart: most lines change the first two alone.
 pub fn scan(notes: &mut [u32], src: &[u8], l: Lengths) -> Scanned
     requires { ⌜ (length (now src) ≤ 65536) × (storeLength ≤ length (now notes)) ⌝ }
     ensures { λ r. ⌜ runLog l (past (now (src .entry)) firstCursor) BeforeVersion emptyLog (rest (now (src .entry)) firstCursor) ≡ finishIs (now (src .entry)) (now (notes .exit)) r ⌝ }
     ensures { λ r. ⌜ (r .tally .names ≤ mostNames) × WithinAt (r .tally) (r .ending) ⌝ }
 {
-    let mut x = Standing {
-        stage: Stage::BeforeVersion,
-        cursor: Cursor::first(),
-        tally: noted_events::room::nothing(),
-    };
+    let mut stage = Stage::BeforeVersion;
+    let mut cursor = Cursor::first();
+    let mut tally = noted_events::room::nothing();
     loop {
-        match turn(notes, src, l, x) {
-            Turn::On(y) => {
-                x = y;
-            }
-            Turn::InRows(y) => {
-                x = behind_rows(src, l, y);
-            }
-            Turn::InPins(y) => {
-                x = behind_pins(notes, src, l, y);
-            }
-            Turn::End(z) => {
-                return z;
-            }
+        match cut_lines::next_text(src, cursor) {
+            Next::Text {
+                line,
+                start,
+                end,
+                next,
+            } => match steps::on_plain(stage, line, &src[start..end]) {
+                Went::On(u, e) => {
+                    stage = u;
+                    cursor = next;
+                    let p = spot_at(line, start, end, next);
+                    let noted = note_line(notes, src, l, tally, p, e);
+                    tally = noted.tally;
+                    if noted.fault != 0 {
+                        return broken_at(noted.fault, line, tally);
+                    }
+                    if comes_in_numbers(e) {
+                        let x = stands(stage, cursor, tally);
+                        let y = behind_list(notes, src, l, x);
+                        stage = y.stage;
+                        cursor = y.cursor;
+                        tally = y.tally;
+                    }
+                }
+                Went::Stop(f) => return broken(f, tally),
+            },
+            Next::Change { line, fault, next } => match steps::on_change(stage, line, fault) {
+                Went::On(u, _) => {
+                    stage = u;
+                    cursor = next;
+                }
+                Went::Stop(f) => return broken(f, tally),
+            },
+            Next::Out { line } => return out_of_lines(stage, tally, line),
         }
     }
 }

@@ -4,7 +4,7 @@ use borrow.Author.Needs.{needs}
 use denote.Ref.{now}
 use Rattle.cut_lines.specs.Cursors.{NextIs}
 use Rattle.rules.specs.declared.Stage.the-variants.{AfterEnd}
-use Rattle.file_answer.specs.Pins.{standing}
+use Rattle.file_answer.specs.Scans.{standing}
 use Rattle.file_answer.proofs.ScanLaws.{ready}
 use Rattle.file_answer.proofs.PinLaws.{pin-next}
 use Rattle.file_answer.proofs.pins.next_pin.Statement.{statement}
