@@ -71,8 +71,9 @@ pub fn pin_fault(w: &[u8], long: bool) -> u8
     if !names_pass(w, pin, signal, model) {
         return 10;
     }
+    // A part is handed on, and w itself stays where it is quickest read.
     if long {
-        return line_cells::triple_fault(line_cells::pin_cells(w, model.end));
+        return line_cells::triple_fault(line_cells::pin_cells(&w[0..], model.end));
     }
     let cell = words::word_at(w, model.end);
     if cell.start < w.len() { 10 } else { 0 }

@@ -1,13 +1,17 @@
 -- Fewer than three words, then the names, then the cells or nothing: `row-few`, `row-fails`, `row-cells`, `row-short`, `row-names`.
+use Prim.Native.Nat.{ℕ}
 use mathlib.Core.Path.{sym, ap, _∙_}
+use mathlib.Core.List.{List}
 use native.Mathlib.Omega.{arith}
 use lib.ListN.{length, drop}
 use borrow.Author.Needs.{needs}
 use borrow.Author.Tests.{not-true, not-false}
 use denote.Ref.{now}
 use Rattle.laws.specs.Said.{faultIn}
+use Rattle.laws.proofs.Lists.{part-rest}
 use Rattle.words.specs.Words.{words}
 use Rattle.words.proofs.Chains.{link, done, words-under, words-from, words-just}
+use Rattle.line_rules.specs.Answers.{tripleRead}
 use Rattle.line_rules.proofs.Answers.{triple-said}
 use Rattle.rules.specs.Component.{pinCells}
 use Rattle.component_steps.proofs.Laws.{row-few, row-fails, row-cells, row-short, row-names}
@@ -34,18 +38,31 @@ returns-2 c =
     row-fails _ (words-from (link (c .before .before .before .before .before .before .word-at .ensures) (link (c .before .before .before .before .before .word-at2 .ensures) done)) (c .before .before .before .before .word-at3 .ensures) (c .before .before .if1 .left))
     (sym (c .before .names-pass .ensures) ∙ not-true (c .before .names-pass .result) (c .if2 .taken))
 
+sub-pin-cells : tie.Need-sub-pin-cells
+sub-pin-cells c = search needs
+
+part-pin-cells-start : tie.Need-part-pin-cells-start
+part-pin-cells-start c = search needs
+
+part-pin-cells-end : tie.Need-part-pin-cells-end
+part-pin-cells-end c = search needs
+
 pin-cells-requires : tie.Need-pin-cells-requires
-pin-cells-requires c κs = search needs
+pin-cells-requires c κs =
+    let w = now (c .before .before .before .before .before .before .before .before .before .before .args .w) in
+    rw (part-rest w 0) (c .before .before .before .before .before .before .word-at3 .ensures .ends)
 
 triple-fault-requires : tie.Need-triple-fault-requires
 triple-fault-requires c κs = tt
 
 returns-3 : tie.Need-returns-3
 returns-3 c =
+    let w = now (c .before .before .before .before .before .before .before .before .before .before .before .before .args .w) in
+    let at3 = c .before .before .before .before .before .before .before .before .word-at3 in
     c .triple-fault .ensures
-    ∙ ap faultIn (triple-said _ (pinCells (words (drop (c .before .before .before .before .before .before .before .word-at3 .result .end) (now (c .before .before .before .before .before .before .before .before .before .before .before .args .w))))) (c .before .pin-cells .ensures))
-    ∙ row-cells _ (words-from (link (c .before .before .before .before .before .before .before .before .before .word-at .ensures) (link (c .before .before .before .before .before .before .before .before .word-at2 .ensures) done)) (c .before .before .before .before .before .before .before .word-at3 .ensures) (c .before .before .before .before .before .if1 .left))
-    (sym (c .before .before .before .before .names-pass .ensures) ∙ not-false (c .before .before .before .before .names-pass .result) (c .before .before .before .if2 .left)) (c .before .before .if3 .taken)
+    ∙ ap faultIn (triple-said _ (pinCells (words (drop (at3 .result .end) w))) (c .before .pin-cells .ensures ∙ ap (λ (l : List ℕ). tripleRead (pinCells (words (drop (at3 .result .end) l)))) (part-rest w 0)))
+    ∙ row-cells _ (words-from (link (c .before .before .before .before .before .before .before .before .before .before .word-at .ensures) (link (c .before .before .before .before .before .before .before .before .before .word-at2 .ensures) done)) (at3 .ensures) (c .before .before .before .before .before .before .if1 .left))
+    (sym (c .before .before .before .before .before .names-pass .ensures) ∙ not-false (c .before .before .before .before .before .names-pass .result) (c .before .before .before .before .if2 .left)) (c .before .before .before .if3 .taken)
 
 word-at-requires-4 : tie.Need-word-at-requires-4
 word-at-requires-4 c κs = search needs
@@ -70,6 +87,9 @@ pin-fault-spec =
     returns
     names-pass-requires
     returns-2
+    sub-pin-cells
+    part-pin-cells-start
+    part-pin-cells-end
     pin-cells-requires
     triple-fault-requires
     returns-3
