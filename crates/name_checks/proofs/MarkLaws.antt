@@ -330,11 +330,12 @@ module _ (a b : ℕ) (d : Outcome) where
       (λ t. let z : Faulty (record { number = 15; line = a }) ≡ Fine = sym (cond-no _ _ t) ∙ h in impossible (cc))
 
 module _ (s xs ys : List ℕ) (n r : ℕ) (small : n ≤ namesHeld) (m : Marked s xs ys n r) where
-  pub concludes-missing : r < n → Concludes (entriesTo s xs n) (Faulty (record { number = 15; line = notedLine s ys r }))
+  pub concludes-missing : r < n → (v : Last) → v ≡ Faulty (record { number = 15; line = notedLine s ys r }) → Concludes (entriesTo s xs n) v
   unfolding lastChecks
-  concludes-missing h d =
+  concludes-missing h v q d =
       rw (file-order s xs n)
-      (first-told _ (firstFailing (listedIn (entriesFrom s xs 0 n)) (entriesFrom s xs 0 n)) d _ (sym (m .first) ∙ told-faulty s xs 15 n r ys (m .outside) small h))
+      (first-told _ (firstFailing (listedIn (entriesFrom s xs 0 n)) (entriesFrom s xs 0 n)) d _ (sym (m .first) ∙ told-faulty s xs 15 n r ys (m .outside) small h)
+      ∙ ap (lastIs d) (sym q))
 
   module _ (u : ℕ) (e : u ≡ unmarkedFrom ys 0 n) (h : n ≤ r) where
     listed-told : (v : Last) → toldAt s xs 16 n u ≡ v → Concludes (entriesTo s xs n) v
@@ -344,8 +345,8 @@ module _ (s xs ys : List ℕ) (n r : ℕ) (small : n ≤ namesHeld) (m : Marked 
         (second-told _ _ d (sym (m .first) ∙ told-none s xs 15 n r h)
         ∙ ap (lastIs d) (sym (ap (λ (w : ℕ). toldAt s xs 16 n w) e ∙ unlisted-from s xs ys n (entriesFrom s xs 0 n) small (m .outside) (m .marks) 0 n (omega arith)) ∙ q))
 
-    pub concludes-unlisted : u < n → Concludes (entriesTo s xs n) (Faulty (record { number = 16; line = notedLine s ys u }))
-    concludes-unlisted g = listed-told _ (told-faulty s xs 16 n u ys (m .outside) small g)
+    pub concludes-unlisted : u < n → (v : Last) → v ≡ Faulty (record { number = 16; line = notedLine s ys u }) → Concludes (entriesTo s xs n) v
+    concludes-unlisted g v q = listed-told v (told-faulty s xs 16 n u ys (m .outside) small g ∙ sym q)
 
     pub concludes-fine : n ≤ u → Concludes (entriesTo s xs n) Fine
     concludes-fine g = listed-told Fine (told-none s xs 16 n u g)
