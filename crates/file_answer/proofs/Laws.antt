@@ -55,6 +55,10 @@ module _ (l : Lengths) (s : List ℕ) where
         by-order (length s) 65536 (λ h. h)
         (λ h. let z : Faulty (record { number = 1; line = 0 }) ≡ Clean = sym (cond-no _ _ (lt-leb (length s) 65536 h)) ∙ clean in impossible (cc))
 
+    pub clean-first : CleanFrom s firstCursor
+    unfolding bytesFault
+    clean-first = sym (cond-yes _ _ (le-leb (length s) 65536 small)) ∙ clean
+
     clean-outcome : outcome l s ≡ concluded (settled (readTo l s) (clash (entries (readTo l s .log))))
     unfolding outcome clash
     clean-outcome =

@@ -9,7 +9,7 @@ use lib.ListN.{length}
 use Rattle.laws.specs.Lists.{part}
 use Rattle.laws.proofs.Tests.{by-test, cond-yes, cond-no, impossible}
 use Rattle.records.specs.declared.Fault.{Fault}
-use Rattle.cut_lines.specs.Cursors.{rest, past, firstCursor, Placed, Goes, TextIs, ChangeIs, OutIs}
+use Rattle.cut_lines.specs.Cursors.{rest, past, firstCursor, CleanFrom, Placed, Goes, TextIs, ChangeIs, OutIs}
 use Rattle.cut_lines.specs.declared.Cursor.{Cursor}
 use Rattle.rules.specs.Going.{stop, unless, refuse, quietly}
 use Rattle.rules.specs.Steps.{isBefore, isEnded, onPlain, onChange}
@@ -23,7 +23,7 @@ use Rattle.rules.specs.declared.Went.the-variants.{On, Stop}
 use Rattle.notes.specs.Noted.{Finish, going, full, broken, outOfLines, runLog, emptyLog, nothingUsed}
 use Rattle.note_words.specs.Store.{logIn, notesTo, wavesTo, storeLength}
 use Rattle.noted_events.specs.Events.{logOf, loggedAt, Within, KeptCounts, Ready}
-use Rattle.file_answer.specs.Scans.{finishIs, textStep, changeStep, GoesOn, Ends, StepIs, Onward, runFrom, Sound, Moves, TurnIs}
+use Rattle.file_answer.specs.Scans.{finishIs, textStep, changeStep, GoesOn, Ends, StepIs, Onward, runFrom, Reached, Sound, Moves, TurnIs}
 use Rattle.noted_events.specs.declared.Spot.{Spot}
 use Rattle.noted_events.specs.declared.Tally.{Tally}
 use Rattle.file_answer.specs.declared.Standing.{Standing}
@@ -86,6 +86,9 @@ module _ (l : Lengths) (n : ℕ) (s xs : List ℕ) (g : Stage) (t : Tally) (k f 
 
 -- ---- a turn
 
+pub reached-on : (s : List ℕ) (c n : Cursor) → Goes s c n → Reached s c → Reached s n
+reached-on s c n g r = record { counted = sym (g .ends) ∙ r .counted; clean = g .clean (r .clean) }
+
 module _ (l : Lengths) (s xs : List ℕ) (x : Standing) where
   pub run-text : (p : Spot) → TextIs s (x .cursor) (p .line) (p .start) (p .end) (p .next) → runFrom l s xs x ≡ textStep l (past s (x .cursor)) s xs (x .stage) (x .tally) p
   unfolding runLog
@@ -106,6 +109,7 @@ module _ (l : Lengths) (s xs : List ℕ) (x : Standing) where
       record {
         says = e ∙ h .says ∙ ap (λ (m : ℕ). runLog l m (y .stage) (logOf s ys (y .tally)) (rest s (y .cursor))) p;
         placed = subst (Placed s) (sym (h .cursor)) (g .placed);
+        reached = λ r. subst (Reached s) (sym (h .cursor)) (reached-on s (x .cursor) n g r);
         within = h .kept .within;
         rows = omega (arith, h .kept .rows, b, g .rises, ap (λ (c : Cursor). c .at) (h .cursor));
         rises = omega (arith, g .rises, ap (λ (c : Cursor). c .at) (h .cursor));
@@ -120,7 +124,7 @@ module _ (l : Lengths) (s xs : List ℕ) (x : Standing) where
 
   pub ready : (p : Spot) → Sound s xs x → TextIs s (x .cursor) (p .line) (p .start) (p .end) (p .next) → Ready s xs (x .tally) p
   ready p h t =
-      record { cursor = x .cursor; text = t; small = h .small; store = h .store; within = h .within; rows = omega (arith, h .rows, t .from) }
+      record { cursor = x .cursor; text = t; counted = h .reached .counted; clean = h .reached .clean; small = h .small; store = h .store; within = h .within; rows = omega (arith, h .rows, t .from) }
 
 nothing-within : Within (record { names = 0; counts = nothingUsed })
 nothing-within =
@@ -132,10 +136,10 @@ nothing-logged s xs = refl
 
 -- ---- at the top
 
-pub first-sound : (s xs : List ℕ) → length s ≤ 65536 → storeLength ≤ length xs
+pub first-sound : (s xs : List ℕ) → length s ≤ 65536 → storeLength ≤ length xs → CleanFrom s firstCursor
     → Sound s xs (record { stage = BeforeVersion; cursor = firstCursor; tally = record { names = 0; counts = nothingUsed } })
-first-sound s xs h g =
-    record { placed = record { within = omega arith; lines = omega arith }; small = h; store = g; within = nothing-within; rows = omega arith }
+first-sound s xs h g k =
+    record { placed = record { within = omega arith; lines = omega arith }; reached = record { counted = refl; clean = k }; small = h; store = g; within = nothing-within; rows = omega arith }
 
 pub first-run : (l : Lengths) (s xs : List ℕ) (c : Cursor) (t : Tally) → c ≡ firstCursor → t ≡ record { names = 0; counts = nothingUsed }
     → runLog l (past s firstCursor) BeforeVersion emptyLog (rest s firstCursor) ≡ runFrom l s xs (record { stage = BeforeVersion; cursor = c; tally = t })

@@ -7,7 +7,7 @@ use lib.ListN.{length}
 use Rattle.laws.specs.Lists.{part}
 use Rattle.records.specs.declared.Fault.{Fault}
 use Rattle.cut_lines.specs.Texts.{plain, change}
-use Rattle.cut_lines.specs.Cursors.{rest, past, Placed}
+use Rattle.cut_lines.specs.Cursors.{firstCursor, rest, past, CleanFrom, Placed}
 use Rattle.cut_lines.specs.declared.Cursor.{Cursor}
 use Rattle.rules.specs.Steps.{onPlain, onChange}
 use Rattle.records.specs.declared.Lengths.{Lengths}
@@ -77,9 +77,15 @@ Onward x (End z) = ⊥
 abbrev pub runFrom : Lengths → List ℕ → List ℕ → Standing → Finish
 runFrom l s xs x = runLog l (past s (x .cursor)) (x .stage) (logOf s xs (x .tally)) (rest s (x .cursor))
 
+-- a cursor that whole lines lead to from the first, and behind it no line whose bytes are faulty
+pub record Reached (s : List ℕ) (c : Cursor) : Type 0 where
+  pub counted : past s c ≡ past s firstCursor
+  pub clean : CleanFrom s c
+
 -- a place in the file, with room in the store for what comes
 pub record Ground (s xs : List ℕ) (c : Cursor) (t : Tally) : Type 0 where
   pub placed : Placed s c
+  pub reached : Reached s c
   pub small : length s ≤ 65536
   pub store : storeLength ≤ length xs
   pub within : Within t
@@ -91,6 +97,7 @@ Sound s xs x = Ground s xs (x .cursor) (x .tally)
 pub record Moves (l : Lengths) (s xs : List ℕ) (x : Standing) (ys : List ℕ) (y : Standing) : Type 0 where
   pub says : runFrom l s xs x ≡ runFrom l s ys y
   pub placed : Placed s (y .cursor)
+  pub reached : Reached s (x .cursor) → Reached s (y .cursor)
   pub within : Within (y .tally)
   pub rows : y .tally .counts .rows ≤ y .cursor .at
   pub rises : x .cursor .at < y .cursor .at

@@ -3,7 +3,7 @@ ghost use mathlib.Core.Path.{_≡_};
 ghost use mathlib.Core.List.{List};
 ghost use Prim.Native.Nat.{ℕ, _≤_};
 ghost use lib.ListN.{length};
-ghost use Rattle.cut_lines.specs.Cursors.{rest, past, firstCursor};
+ghost use Rattle.cut_lines.specs.Cursors.{rest, past, firstCursor, CleanFrom};
 ghost use Rattle.cut_lines.specs.declared.Cursor.{Cursor};
 ghost use Rattle.rules.specs.declared.Stage.the-variants.{BeforeVersion};
 ghost use Rattle.records.specs.declared.Lengths.{Lengths};
@@ -55,7 +55,7 @@ fn onward(e: Event, y: Standing) -> Turn
 }
 
 // The step of a line that cutting leaves.
-fn plain_turn(notes: &mut [u32], src: &[u8], l: Lengths, s: Stage, t: Tally, p: Spot) -> Turn
+fn plain_turn(notes: &mut [u16], src: &[u8], l: Lengths, s: Stage, t: Tally, p: Spot) -> Turn
     requires { ⌜ Ready (now src) (now notes) t p ⌝ }
     ensures { λ r. ⌜ ((n : ℕ) → StepIs l n (now (src .entry)) (now (notes .exit)) (textStep l n (now (src .entry)) (now (notes .entry)) s t p) t (p .next) r) ⌝ }
 {
@@ -123,7 +123,7 @@ fn out_of_lines(s: Stage, t: Tally, line: u64) -> Scanned
 }
 
 // The next text's step.
-fn turn(notes: &mut [u32], src: &[u8], l: Lengths, x: Standing) -> Turn
+fn turn(notes: &mut [u16], src: &[u8], l: Lengths, x: Standing) -> Turn
     requires { ⌜ Sound (now src) (now notes) x ⌝ }
     ensures { λ r. ⌜ TurnIs l (now (src .entry)) (now (notes .entry)) x (now (notes .exit)) r ⌝ }
 {
@@ -150,8 +150,9 @@ fn turn(notes: &mut [u32], src: &[u8], l: Lengths, x: Standing) -> Turn
 }
 
 // All lines from the top, up to the first fault.
-pub fn scan(notes: &mut [u32], src: &[u8], l: Lengths) -> Scanned
+pub fn scan(notes: &mut [u16], src: &[u8], l: Lengths) -> Scanned
     requires { ⌜ (length (now src) ≤ 65536) × (storeLength ≤ length (now notes)) ⌝ }
+    requires { ⌜ CleanFrom (now src) firstCursor ⌝ }
     ensures { λ r. ⌜ runLog l (past (now (src .entry)) firstCursor) BeforeVersion emptyLog (rest (now (src .entry)) firstCursor) ≡ finishIs (now (src .entry)) (now (notes .exit)) r ⌝ }
     ensures { λ r. ⌜ (r .tally .names ≤ mostNames) × WithinAt (r .tally) (r .ending) ⌝ }
 {

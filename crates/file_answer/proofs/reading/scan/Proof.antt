@@ -23,7 +23,7 @@ nothing-requires : tie.Need-nothing-requires Inv-loop μ-loop
 nothing-requires c κs = tt
 
 loop-holds : tie.Need-loop-holds Inv-loop μ-loop
-loop-holds c = (rw (c .before .first .ensures) rw (c .nothing .ensures) (first-sound (now (c .before .before .before .before .args .src)) (now (c .before .before .before .before .args .notes)) (c .before .before .before .before .pre .0) (c .before .before .before .before .pre .1)), refl, refl)
+loop-holds c = (rw (c .before .first .ensures) rw (c .nothing .ensures) (first-sound (now (c .before .before .before .before .args .src)) (now (c .before .before .before .before .args .notes)) (c .before .before .before .before .pre .0 .0) (c .before .before .before .before .pre .0 .1) (c .before .before .before .before .pre .1)), refl, refl)
 
 turn-requires : tie.Need-turn-requires Inv-loop μ-loop
 turn-requires c κs = c .before .loop .inv .0
@@ -43,7 +43,7 @@ loop-again c =
     let i = c .before .before .before .before .before .before .before .loop .inv in
     let n = c .before .before .before .before .notes .given in
     let h = subst (TurnIs (a .l) (now (a .src)) (c .before .before .before .before .before .before .before .loop .notes) (c .before .before .before .before .before .before .before .loop .x) (c .before .before .before .before .before .turn .last .0)) (c .before .y .given .1) (c .before .before .before .before .before .turn .ensures) in
-    (record { placed = h .placed; small = i .0 .small; store = omega (arith, n, i .0 .store); within = h .within; rows = h .rows }, n ∙ i .1, i .2 ∙ h .says)
+    (record { placed = h .placed; reached = h .reached (i .0 .reached); small = i .0 .small; store = omega (arith, n, i .0 .store); within = h .within; rows = h .rows }, n ∙ i .1, i .2 ∙ h .says)
 
 enum-known-y-2 : tie.Need-enum-known-y-2 Inv-loop μ-loop
 enum-known-y-2 c = search needs
@@ -68,7 +68,7 @@ loop-again-2 c =
     let n = c .before .before .before .before .before .notes .given in
     let h = subst (TurnIs (a .l) (now (a .src)) (c .before .before .before .before .before .before .before .before .loop .notes) (c .before .before .before .before .before .before .before .before .loop .x) (c .before .before .before .before .before .before .turn .last .0)) (c .before .before .y2 .given .1) (c .before .before .before .before .before .before .turn .ensures) in
     let p = c .behind-rows .ensures in
-    (record { placed = p .steady .placed; small = i .0 .small; store = omega (arith, n, i .0 .store); within = p .steady .within; rows = p .steady .rows }, n ∙ i .1, i .2 ∙ h .says ∙ p .says _)
+    (record { placed = p .steady .placed; reached = p .reached (h .reached (i .0 .reached)); small = i .0 .small; store = omega (arith, n, i .0 .store); within = p .steady .within; rows = p .steady .rows }, n ∙ i .1, i .2 ∙ h .says ∙ p .says _)
 
 enum-known-y-3 : tie.Need-enum-known-y-3 Inv-loop μ-loop
 enum-known-y-3 c = search needs
@@ -78,7 +78,7 @@ behind-pins-requires c κs =
     let a = c .before .before .before .before .before .before .before .before .before .before .before .before .before .args in
     let i = c .before .before .before .before .before .before .before .before .loop .inv in
     let h = subst (TurnIs (a .l) (now (a .src)) (c .before .before .before .before .before .before .before .before .loop .notes) (c .before .before .before .before .before .before .before .before .loop .x) (c .before .before .before .before .before .before .turn .last .0)) (c .before .before .y3 .given .1) (c .before .before .before .before .before .before .turn .ensures) in
-    record { placed = h .placed; small = i .0 .small; store = omega (arith, c .before .before .before .before .before .notes .given, i .0 .store); within = h .within; rows = h .rows }
+    record { placed = h .placed; reached = h .reached (i .0 .reached); small = i .0 .small; store = omega (arith, c .before .before .before .before .before .notes .given, i .0 .store); within = h .within; rows = h .rows }
 
 loop-less-3 : tie.Need-loop-less-3 Inv-loop μ-loop
 loop-less-3 c =
