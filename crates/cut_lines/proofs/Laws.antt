@@ -8,10 +8,13 @@ use lib.Seq.{take-take}
 use Rattle.laws.specs.Lists.{part}
 use Rattle.laws.proofs.Tests.{cond-yes, cond-no}
 use Rattle.laws.proofs.Lists.{part-length}
-use Rattle.lines.specs.Lines.{Physical, linesOf, cut}
+use Rattle.lines.specs.Lines.{Physical, linesOf, faultFrom, cut}
+use Rattle.lines.specs.declared.Bytes.the-variants.{Clean}
 use Rattle.lines.proofs.Places.{cut-take}
 use Rattle.cut_lines.specs.Texts.{Text, plain, change, ontoTexts, textsFrom}
-use Rattle.cut_lines.specs.Cursors.{rest, past, Placed, Steps, CutIs, ChangedIs, Goes}
+use Rattle.lines.proofs.Numbers.{others-clean, line-short, cut-short}
+use Rattle.lines.specs.Places.{lineAt}
+use Rattle.cut_lines.specs.Cursors.{firstCursor, rest, past, CleanFrom, Placed, Steps, CutIs, ChangedIs, Goes}
 use Rattle.cut_lines.specs.declared.Cursor.{Cursor}
 
 -- ---- what cutting leaves of the line from a place to end
@@ -46,8 +49,18 @@ module _ (s : List ℕ) (c n : Cursor) (l : Physical) (h : Steps s c l n) where
   pub placed-step : Placed s c → Placed s n
   placed-step p = record { within = h .within; lines = omega (arith, h .line, h .rises, p .lines) }
 
+  -- the line's bytes have no fault, and nor have those behind it
+  first-clean : CleanFrom s c → faultFrom (c .line) (l ∷ linesOf (drop (n .at) s)) ≡ Clean
+  first-clean g = ap (faultFrom (c .line)) (sym (h .more)) ∙ g
+
+  pub clean-step : CleanFrom s c → CleanFrom s n
+  clean-step g = ap (λ (k : ℕ). faultFrom k (linesOf (drop (n .at) s))) (h .line) ∙ others-clean (c .line) l (linesOf (drop (n .at) s)) (first-clean g)
+
+  pub short-step : CleanFrom s c → length (l .bytes) ≤ 120
+  short-step g = line-short (c .line) l (linesOf (drop (n .at) s)) (first-clean g)
+
   pub goes-step : Placed s c → Goes s c n
-  goes-step p = record { placed = placed-step p; rises = h .rises; ends = past-step }
+  goes-step p = record { placed = placed-step p; rises = h .rises; ends = past-step; clean = clean-step }
 
 onto-none : (k : ℕ) (w : List ℕ) (ts : List Text) → length w ≡ 0 → ontoTexts k w ts ≡ ts
 unfolding ontoTexts
@@ -67,6 +80,11 @@ module _ (s : List ℕ) (c : Cursor) (e : ℕ) (n : Cursor) (h : CutIs s c e n) 
       ∙ cond-no _ _ (h .kind)
       ∙ rw (h .text, h .char, h .steps .line)
 
+  -- what is left of a line is no longer than the line
+  pub text-short : CleanFrom s c → e ≤ c .at + 120
+  text-short g =
+      omega (arith, part-length s (c .at) e (h .ends), ap length (h .text), cut-short (c .comment) (h .physical .bytes), short-step s c n (h .physical) (h .steps) g)
+
   pub rest-empty : e ≤ c .at → rest s c ≡ rest s n
   rest-empty k = rest-cut ∙ onto-none _ _ _ (omega (arith, length-take (e - c .at) (drop (c .at) s)))
 
@@ -84,3 +102,9 @@ rest-change s c f n h =
 pub rest-here : (s : List ℕ) (c : Cursor) (x : ℕ) → x ≡ c .comment → rest s (record { at = c .at; line = c .line; comment = x }) ≡ rest s c
 unfolding rest
 rest-here s c x e = rw e refl
+
+-- ---- the number of a line, by its place
+
+pub line-placed : (s : List ℕ) (c : Cursor) (k a : ℕ) → past s c ≡ past s firstCursor → past s c ≡ k + length (linesOf (drop a s)) → k ≡ lineAt s a
+unfolding past lineAt
+line-placed s c k a e h = omega (arith, e, h)

@@ -7,7 +7,8 @@ use mathlib.Core.Bool.{true, false}
 use lib.ListN.{length, drop}
 use Rattle.laws.specs.Lists.{part}
 use Rattle.laws.specs.Said.{Said, says, fault, faultIn, orElse}
-use Rattle.lines.specs.Lines.{Physical, linesOf, cut}
+use Rattle.lines.specs.Lines.{Physical, linesOf, faultFrom, cut}
+use Rattle.lines.specs.declared.Bytes.the-variants.{Clean}
 use Rattle.cut_lines.specs.Change.{isChange, changeOf}
 use Rattle.cut_lines.specs.Texts.{Text, plain, change, textsFrom}
 use Rattle.cut_lines.specs.declared.ChangeRead.{ChangeRead}
@@ -28,6 +29,10 @@ rest s c = textsFrom (c .comment) (c .line) (linesOf (drop (c .at) s))
 
 unfoldable pub past : List ℕ → Cursor → ℕ
 past s c = c .line + length (linesOf (drop (c .at) s))
+
+-- no line from a cursor on has a fault of its bytes
+abbrev pub CleanFrom : List ℕ → Cursor → Type 0
+CleanFrom s c = faultFrom (c .line) (linesOf (drop (c .at) s)) ≡ Clean
 
 -- ---- what the code's answers are
 
@@ -76,6 +81,7 @@ pub record Goes (s : List ℕ) (c n : Cursor) : Type 0 where
   pub placed : Placed s n
   pub rises : c .at < n .at
   pub ends : past s c ≡ past s n
+  pub clean : CleanFrom s c → CleanFrom s n
 
 pub record TextIs (s : List ℕ) (c : Cursor) (k a e : ℕ) (n : Cursor) : Type 0 where
   pub more : rest s c ≡ plain k (part a e s) ∷ rest s n
@@ -85,6 +91,8 @@ pub record TextIs (s : List ℕ) (c : Cursor) (k a e : ℕ) (n : Cursor) : Type 
   pub line : n .line ≡ k + 1
   pub from : c .at ≤ a
   pub lines : k ≤ a + 1
+  pub place : past s c ≡ k + length (linesOf (drop a s))
+  pub short : CleanFrom s c → e ≤ a + 120
   pub starts : a < e
   pub fits : e ≤ length s
 

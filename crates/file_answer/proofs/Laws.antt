@@ -7,13 +7,13 @@ use mathlib.Core.Option.{Option, none, some}
 use native.Mathlib.Omega.{arith}
 use lib.ListN.{length}
 use lib.Dec.{leb}
-use borrow.Author.Tests.{lt-leb}
-use Rattle.laws.proofs.Tests.{by-order, cond-no, impossible}
+use borrow.Author.Tests.{le-leb, lt-leb}
+use Rattle.laws.proofs.Tests.{by-order, cond-yes, cond-no, impossible}
 use Rattle.lines.specs.Lines.{linesOf, bytesFault}
 use Rattle.records.specs.declared.Fault.{Fault}
 use Rattle.lines.specs.declared.Bytes.the-variants.{Clean, Faulty}
 use Rattle.cut_lines.specs.Texts.{textsFrom}
-use Rattle.cut_lines.specs.Cursors.{rest, past, firstCursor}
+use Rattle.cut_lines.specs.Cursors.{rest, past, firstCursor, CleanFrom}
 use Rattle.rules.specs.Outline.{count}
 use Rattle.rules.specs.Whole.{Outcome, passed, refused, runs, concluded, lastChecks, nothingHeld, textsOf, outcome}
 use Rattle.records.specs.declared.Lengths.{Lengths}
@@ -54,6 +54,10 @@ module _ (l : Lengths) (s : List ℕ) where
     small =
         by-order (length s) 65536 (λ h. h)
         (λ h. let z : Faulty (record { number = 1; line = 0 }) ≡ Clean = sym (cond-no _ _ (lt-leb (length s) 65536 h)) ∙ clean in impossible (cc))
+
+    pub clean-first : CleanFrom s firstCursor
+    unfolding bytesFault
+    clean-first = sym (cond-yes _ _ (le-leb (length s) 65536 small)) ∙ clean
 
     clean-outcome : outcome l s ≡ concluded (settled (readTo l s) (clash (entries (readTo l s .log))))
     unfolding outcome clash

@@ -33,7 +33,7 @@ use Rattle.file_answer.specs.declared.NextPin.{NextPin}
 use Rattle.file_answer.specs.declared.NextPin.the-variants.{Pin, NoPin}
 use Rattle.file_answer.specs.declared.PinsPassed.{PinsPassed}
 use Rattle.file_answer.specs.declared.Standing.{Standing}
-use Rattle.file_answer.proofs.ScanLaws.{plain-going, run-text}
+use Rattle.file_answer.proofs.ScanLaws.{plain-going, run-text, reached-on}
 
 -- ---- the stage
 
@@ -76,6 +76,7 @@ module _ (l : Lengths) (s xs : List ℕ) (c : Cursor) (t : Tally) (long : Bool) 
         ground =
             record {
               placed = n .goes .placed;
+              reached = reached-on s d next (n .goes) (p .ground .reached);
               small = p .ground .small;
               store = omega (arith, e, p .ground .store);
               within = n .kept .within;

@@ -39,6 +39,7 @@ use Rattle.file_answer.specs.declared.NextRow.{NextRow}
 use Rattle.file_answer.specs.declared.NextRow.the-variants.{Row, NoRow}
 use Rattle.file_answer.specs.declared.Passed.{Passed}
 use Rattle.file_answer.specs.declared.Standing.{Standing}
+use Rattle.file_answer.proofs.ScanLaws.{reached-on}
 
 -- ---- the tables
 
@@ -77,7 +78,7 @@ module _ (m : ModelState) (table : RowsSeen → ModelList) (holds : HoldsRows ta
 
 module _ (l : Lengths) (s : List ℕ) (c : Cursor) (r : RowsSeen) (n : ℕ) where
   pub passed-none : Placed s c → PassedIs l s c r n (record { cursor = c; rows = r; count = n })
-  passed-none h = record { says = λ xs m table t holds. refl; placed = h; from = omega arith; counted = omega arith }
+  passed-none h = record { says = λ xs m table t holds. refl; placed = h; reached = λ k. k; from = omega arith; counted = omega arith }
 
   pub passed-more : (d : Cursor) (rows : RowsSeen) (count : ℕ) (more : RowsSeen) (next : Cursor) → count < l .rows → BeginsWith s d rows more next
       → PassedIs l s c r n (record { cursor = d; rows = rows; count = count }) → PassedIs l s c r n (record { cursor = next; rows = more; count = count + 1 })
@@ -88,6 +89,7 @@ module _ (l : Lengths) (s : List ℕ) (c : Cursor) (r : RowsSeen) (n : ℕ) wher
             ∙ (rw (b .texts) (row-runs m table holds (b .text) rows more next next (b .is) l s xs t (past s d) (b .line) count (rest s next) h))
             ∙ ap (λ (e : ℕ). runLog l e (InModel (withModelList m (table more))) (logOf s xs (withRows t (count + 1))) (rest s next)) (b .goes .ends);
         placed = b .goes .placed;
+        reached = λ k. reached-on s d next (b .goes) (p .reached k);
         from = omega (arith, p .from, b .goes .rises);
         counted = omega (arith, p .counted, b .goes .rises);
       }
@@ -126,8 +128,9 @@ passes-table l s x y m table r p holds stage list h q e =
     (record {
       says = λ xs. ap (runFrom l s xs) here ∙ q .says xs m table (x .tally) holds;
       steady = steady-behind l s x m (table (p .rows)) r p h q;
+      reached = q .reached;
       from = q .from;
     })
 
 pub passes-none : (l : Lengths) (s : List ℕ) (x : Standing) → Steady s x → PassesOn l s x x
-passes-none l s x h = record { says = λ xs. refl; steady = h; from = omega arith }
+passes-none l s x h = record { says = λ xs. refl; steady = h; reached = λ k. k; from = omega arith }

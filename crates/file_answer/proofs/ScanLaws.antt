@@ -11,7 +11,7 @@ use Rattle.laws.specs.Lists.{part}
 use Rattle.laws.proofs.Tests.{by-test, cond-yes, cond-no, impossible}
 use Rattle.records.specs.declared.Fault.{Fault}
 use Rattle.cut_lines.specs.Texts.{Text, plain}
-use Rattle.cut_lines.specs.Cursors.{rest, past, firstCursor, TextIs, ChangeIs, OutIs}
+use Rattle.cut_lines.specs.Cursors.{rest, past, firstCursor, CleanFrom, Goes, TextIs, ChangeIs, OutIs}
 use Rattle.cut_lines.specs.declared.Cursor.{Cursor}
 use Rattle.rules.specs.Going.{stop, unless, refuse, quietly}
 use Rattle.rules.specs.Steps.{isBefore, isEnded, onPlain, onChange}
@@ -29,7 +29,7 @@ use Rattle.notes.specs.Noted.{Note, Log, Logged, going, full, withNote, logged,
 use Rattle.note_words.specs.Store.{mostNames, logIn, notesTo, wavesTo, storeLength}
 use Rattle.noted_events.specs.Events.{logOf, loggedAt, toldIs, Within, KeptCounts, KeptBy, Ready}
 use Rattle.noted_events.specs.declared.Told.the-variants.{Going, Full}
-use Rattle.file_answer.specs.Scans.{finishIs, textStep, changeStep, toldBy, standing, runFrom, Ground, Sound}
+use Rattle.file_answer.specs.Scans.{finishIs, textStep, changeStep, toldBy, standing, runFrom, Reached, Ground, Sound}
 use Rattle.file_answer.specs.declared.NotedLine.{NotedLine}
 use Rattle.noted_events.specs.declared.Spot.{Spot}
 use Rattle.noted_events.specs.declared.Tally.{Tally}
@@ -120,6 +120,9 @@ module _ (l : Lengths) (n : ℕ) (s xs : List ℕ) (g : Stage) (t : Tally) (k f 
 
 -- ---- a turn
 
+pub reached-on : (s : List ℕ) (c n : Cursor) → Goes s c n → Reached s c → Reached s n
+reached-on s c n g r = record { counted = sym (g .ends) ∙ r .counted; clean = g .clean (r .clean) }
+
 module _ (l : Lengths) (s xs : List ℕ) (x : Standing) where
   pub run-text : (p : Spot) → TextIs s (x .cursor) (p .line) (p .start) (p .end) (p .next) → runFrom l s xs x ≡ textStep l (past s (x .cursor)) s xs (x .stage) (x .tally) p
   unfolding runLog
@@ -135,7 +138,7 @@ module _ (l : Lengths) (s xs : List ℕ) (x : Standing) where
 
   pub ready : (p : Spot) → Sound s xs x → TextIs s (x .cursor) (p .line) (p .start) (p .end) (p .next) → Ready s xs (x .tally) p
   ready p h t =
-      record { cursor = x .cursor; text = t; small = h .small; store = h .store; within = h .within; rows = omega (arith, h .rows, t .from) }
+      record { cursor = x .cursor; text = t; counted = h .reached .counted; clean = h .reached .clean; small = h .small; store = h .store; within = h .within; rows = omega (arith, h .rows, t .from) }
 
 -- ---- from a place on, behind the text that stands there
 
@@ -156,7 +159,7 @@ module _ (l : Lengths) (s xs ys : List ℕ) (g : Stage) (c : Cursor) (t : Tally)
 
   text-sound : (v : Tally) → Ground s xs c t → length ys ≡ length xs → KeptCounts t v → Ground s ys (p .next) v
   text-sound v h e k =
-      record { placed = text .goes .placed; small = h .small; store = omega (arith, e, h .store); within = k .within; rows = omega (arith, k .rows, h .rows, text .goes .rises) }
+      record { placed = text .goes .placed; reached = reached-on s c (p .next) (text .goes) (h .reached); small = h .small; store = omega (arith, e, h .store); within = k .within; rows = omega (arith, k .rows, h .rows, text .goes .rises) }
 
 -- as it was noted: q is the text p
 module _ (l : Lengths) (s xs ys : List ℕ) (g : Stage) (c : Cursor) (t : Tally) (p q : Spot) (is : q ≡ p) (text : TextIs s c (p .line) (p .start) (p .end) (p .next)) (r : NotedLine) (e : Event) (noted : loggedAt l s xs t q e ≡ toldIs s ys (q .line) (toldBy r)) where
@@ -188,7 +191,7 @@ module _ (l : Lengths) (s xs : List ℕ) (g : Stage) (c : Cursor) (t : Tally) (k
   line-stop x h = run-change l s xs (standing g c t) k f n line ∙ change-stop l (past s c) s xs g t k f n x h
 
   pub line-sound : Ground s xs c t → Ground s xs n t
-  line-sound h = record { placed = line .goes .placed; small = h .small; store = h .store; within = h .within; rows = omega (arith, h .rows, line .goes .rises) }
+  line-sound h = record { placed = line .goes .placed; reached = reached-on s c n (line .goes) (h .reached); small = h .small; store = h .store; within = h .within; rows = omega (arith, h .rows, line .goes .rises) }
 
 nothing-within : Within (record { names = 0; counts = nothingUsed })
 nothing-within =
@@ -200,10 +203,10 @@ nothing-logged s xs = refl
 
 -- ---- at the top
 
-pub first-sound : (s xs : List ℕ) → length s ≤ 65536 → storeLength ≤ length xs
+pub first-sound : (s xs : List ℕ) → length s ≤ 65536 → storeLength ≤ length xs → CleanFrom s firstCursor
     → Sound s xs (record { stage = BeforeVersion; cursor = firstCursor; tally = record { names = 0; counts = nothingUsed } })
-first-sound s xs h g =
-    record { placed = record { within = omega arith; lines = omega arith }; small = h; store = g; within = nothing-within; rows = omega arith }
+first-sound s xs h g k =
+    record { placed = record { within = omega arith; lines = omega arith }; reached = record { counted = refl; clean = k }; small = h; store = g; within = nothing-within; rows = omega arith }
 
 pub first-run : (l : Lengths) (s xs : List ℕ) (c : Cursor) (t : Tally) → c ≡ firstCursor → t ≡ record { names = 0; counts = nothingUsed }
     → runLog l (past s firstCursor) BeforeVersion emptyLog (rest s firstCursor) ≡ runFrom l s xs (record { stage = BeforeVersion; cursor = c; tally = t })

@@ -20,7 +20,7 @@ use Rattle.model_steps.specs.Rows.{rowStep}
 use Rattle.model_steps.specs.declared.RowStep.the-variants as step
 use Rattle.noted_events.specs.Events.{Within}
 use Rattle.noted_events.specs.declared.Tally.{Tally}
-use Rattle.file_answer.specs.Scans.{runFrom}
+use Rattle.file_answer.specs.Scans.{runFrom, Reached}
 use Rattle.file_answer.specs.declared.NextRow.{NextRow}
 use Rattle.file_answer.specs.declared.NextRow.the-variants.{Row, NoRow}
 use Rattle.file_answer.specs.declared.Passed.{Passed}
@@ -72,6 +72,7 @@ pub record PassedIs (l : Lengths) (s : List ℕ) (c : Cursor) (r : RowsSeen) (n 
   pub says : (xs : List ℕ) (m : ModelState) (table : RowsSeen → ModelList) (t : Tally) → HoldsRows table
       → runFrom l s xs (inTable m table t (record { cursor = c; rows = r; count = n })) ≡ runFrom l s xs (inTable m table t p)
   pub placed : Placed s (p .cursor)
+  pub reached : Reached s c → Reached s (p .cursor)
   pub from : c .at ≤ p .cursor .at
   pub counted : p .count + c .at ≤ n + p .cursor .at
 
@@ -85,4 +86,5 @@ pub record Steady (s : List ℕ) (x : Standing) : Type 0 where
 pub record PassesOn (l : Lengths) (s : List ℕ) (x y : Standing) : Type 0 where
   pub says : (xs : List ℕ) → runFrom l s xs x ≡ runFrom l s xs y
   pub steady : Steady s y
+  pub reached : Reached s (x .cursor) → Reached s (y .cursor)
   pub from : x .cursor .at ≤ y .cursor .at

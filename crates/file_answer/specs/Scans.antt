@@ -9,7 +9,7 @@ use lib.ListN.{length}
 use Rattle.laws.specs.Lists.{part}
 use Rattle.records.specs.declared.Fault.{Fault}
 use Rattle.cut_lines.specs.Texts.{plain, change}
-use Rattle.cut_lines.specs.Cursors.{rest, past, Placed}
+use Rattle.cut_lines.specs.Cursors.{firstCursor, rest, past, CleanFrom, Placed}
 use Rattle.cut_lines.specs.declared.Cursor.{Cursor}
 use Rattle.rules.specs.Steps.{onPlain, onChange}
 use Rattle.records.specs.declared.Lengths.{Lengths}
@@ -63,9 +63,15 @@ standing g c t = record { stage = g; cursor = c; tally = t }
 abbrev pub runFrom : Lengths → List ℕ → List ℕ → Standing → Finish
 runFrom l s xs x = runLog l (past s (x .cursor)) (x .stage) (logOf s xs (x .tally)) (rest s (x .cursor))
 
+-- a cursor that whole lines lead to from the first, and behind it no line whose bytes are faulty
+pub record Reached (s : List ℕ) (c : Cursor) : Type 0 where
+  pub counted : past s c ≡ past s firstCursor
+  pub clean : CleanFrom s c
+
 -- a place in the file, with room in the store for what comes
 pub record Ground (s xs : List ℕ) (c : Cursor) (t : Tally) : Type 0 where
   pub placed : Placed s c
+  pub reached : Reached s c
   pub small : length s ≤ 65536
   pub store : storeLength ≤ length xs
   pub within : Within t

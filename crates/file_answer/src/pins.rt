@@ -19,7 +19,7 @@ use rules::ComponentList;
 use rules::Stage;
 
 // Notes the text if it is a pin row and there is room for it.
-fn pin_in(notes: &mut [u32], src: &[u8], l: Lengths, t: Tally, p: Spot, long: bool) -> NextPin
+fn pin_in(notes: &mut [u16], src: &[u8], l: Lengths, t: Tally, p: Spot, long: bool) -> NextPin
     requires { ⌜ Ready (now src) (now notes) t p ⌝ }
     ensures { λ r. ⌜ PinIn l (now (src .entry)) (now (notes .entry)) t p long (now (notes .exit)) r ⌝ }
 {
@@ -46,7 +46,7 @@ fn pin_in(notes: &mut [u32], src: &[u8], l: Lengths, t: Tally, p: Spot, long: bo
 }
 
 // The next text, if it is a pin row.
-fn next_pin(notes: &mut [u32], src: &[u8], l: Lengths, c: Cursor, t: Tally, long: bool) -> NextPin
+fn next_pin(notes: &mut [u16], src: &[u8], l: Lengths, c: Cursor, t: Tally, long: bool) -> NextPin
     requires { ⌜ Ground (now src) (now notes) c t ⌝ }
     ensures { λ r. ⌜ NextPinIs l (now (src .entry)) (now (notes .entry)) c t long (now (notes .exit)) r ⌝ }
 {
@@ -72,7 +72,7 @@ fn next_pin(notes: &mut [u32], src: &[u8], l: Lengths, c: Cursor, t: Tally, long
 
 // Passes the pin rows from a cursor on.
 fn pass_pins(
-    notes: &mut [u32],
+    notes: &mut [u16],
     src: &[u8],
     l: Lengths,
     c: Cursor,
@@ -101,7 +101,7 @@ fn pass_pins(
 }
 
 // Behind the pin rows, if one was read; else all stays.
-pub(crate) fn behind_pins(notes: &mut [u32], src: &[u8], l: Lengths, x: Standing) -> Standing
+pub(crate) fn behind_pins(notes: &mut [u16], src: &[u8], l: Lengths, x: Standing) -> Standing
     requires { ⌜ Sound (now src) (now notes) x ⌝ }
     ensures { λ y. ⌜ ListPassed l (now (src .entry)) (now (notes .entry)) x (now (notes .exit)) y ⌝ }
 {

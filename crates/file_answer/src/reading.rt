@@ -3,7 +3,7 @@ ghost use mathlib.Core.Path.{_≡_};
 ghost use mathlib.Core.List.{List};
 ghost use Prim.Native.Nat.{ℕ, _≤_};
 ghost use lib.ListN.{length};
-ghost use Rattle.cut_lines.specs.Cursors.{rest, past, firstCursor};
+ghost use Rattle.cut_lines.specs.Cursors.{rest, past, firstCursor, CleanFrom};
 ghost use Rattle.rules.specs.declared.Stage.the-variants.{BeforeVersion};
 ghost use Rattle.notes.specs.Noted.{runLog, emptyLog, outOfLines};
 ghost use Rattle.file_answer.specs.declared.Ending.the-variants.{Broken};
@@ -72,7 +72,7 @@ fn stands(stage: Stage, cursor: Cursor, tally: Tally) -> Standing
 }
 
 // Notes and counts what a line adds; most add nothing.
-fn note_line(notes: &mut [u32], src: &[u8], l: Lengths, t: Tally, p: Spot, e: Event) -> NotedLine
+fn note_line(notes: &mut [u16], src: &[u8], l: Lengths, t: Tally, p: Spot, e: Event) -> NotedLine
     requires { ⌜ Ready (now src) (now notes) t p ⌝ }
     ensures { λ r. ⌜ loggedAt l (now (src .entry)) (now (notes .entry)) t p e ≡ toldIs (now (src .entry)) (now (notes .exit)) (p .line) (toldBy r) ⌝ }
     ensures { λ r. ⌜ KeptBy t (toldBy r) ⌝ }
@@ -106,7 +106,7 @@ fn comes_in_numbers(e: Event) -> bool {
 }
 
 // Behind the rows or the pins of the list that is open.
-fn behind_list(notes: &mut [u32], src: &[u8], l: Lengths, x: Standing) -> Standing
+fn behind_list(notes: &mut [u16], src: &[u8], l: Lengths, x: Standing) -> Standing
     requires { ⌜ Sound (now src) (now notes) x ⌝ }
     ensures { λ y. ⌜ ListPassed l (now (src .entry)) (now (notes .entry)) x (now (notes .exit)) y ⌝ }
 {
@@ -141,8 +141,9 @@ fn out_of_lines(s: Stage, t: Tally, line: u64) -> Scanned
 }
 
 // All lines from the top, up to the first fault. Stage, cursor and tally are held apart: most lines change the first two alone.
-pub fn scan(notes: &mut [u32], src: &[u8], l: Lengths) -> Scanned
+pub fn scan(notes: &mut [u16], src: &[u8], l: Lengths) -> Scanned
     requires { ⌜ (length (now src) ≤ 65536) × (storeLength ≤ length (now notes)) ⌝ }
+    requires { ⌜ CleanFrom (now src) firstCursor ⌝ }
     ensures { λ r. ⌜ runLog l (past (now (src .entry)) firstCursor) BeforeVersion emptyLog (rest (now (src .entry)) firstCursor) ≡ finishIs (now (src .entry)) (now (notes .exit)) r ⌝ }
     ensures { λ r. ⌜ (r .tally .names ≤ mostNames) × WithinAt (r .tally) (r .ending) ⌝ }
 {

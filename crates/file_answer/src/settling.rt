@@ -58,7 +58,7 @@ fn accepted(src: &[u8], c: Counts) -> Answer
 }
 
 // The last checks, once all lines are read and no name is used twice; an accepted file's names are then sorted by kind.
-fn last_checks(src: &[u8], l: Lengths, t: Tally, notes: &mut [u32]) -> Answer
+fn last_checks(src: &[u8], l: Lengths, t: Tally, notes: &mut [u16]) -> Answer
     requires { ⌜ ReadWhole l (now src) (now notes) t ⌝ }
     ensures { λ r. ⌜ Outlines l (now (src .entry)) r (now (notes .exit)) ⌝ }
 {
@@ -73,7 +73,7 @@ fn last_checks(src: &[u8], l: Lengths, t: Tally, notes: &mut [u32]) -> Answer
 }
 
 // The lines of a file whose bytes are clean.
-fn settle(src: &[u8], l: Lengths, notes: &mut [u32]) -> Answer
+fn settle(src: &[u8], l: Lengths, notes: &mut [u16]) -> Answer
     requires { ⌜ (bytesFault (now src) ≡ Clean) × (storeLength ≤ length (now notes)) ⌝ }
     ensures { λ r. ⌜ Outlines l (now (src .entry)) r (now (notes .exit)) ⌝ }
 {
@@ -93,7 +93,7 @@ fn settle(src: &[u8], l: Lengths, notes: &mut [u32]) -> Answer
 }
 
 // The answer to a file, and its notes.
-pub fn outlined(src: &[u8], l: Lengths, notes: &mut [u32]) -> Answer
+pub fn outlined(src: &[u8], l: Lengths, notes: &mut [u16]) -> Answer
     requires { ⌜ storeLength ≤ length (now notes) ⌝ }
     ensures { λ r. ⌜ Outlines l (now (src .entry)) r (now (notes .exit)) ⌝ }
 {
@@ -107,7 +107,7 @@ pub fn outlined(src: &[u8], l: Lengths, notes: &mut [u32]) -> Answer
 pub fn check(src: &[u8], l: Lengths) -> Verdict
     ensures { λ r. ⌜ r ≡ verdictOf (outcome l (now (src .entry))) ⌝ }
 {
-    let mut notes = [0u32; STORE_LENGTH];
+    let mut notes = [0u16; STORE_LENGTH];
     let a = outlined(src, l, &mut notes);
     a.verdict
 }

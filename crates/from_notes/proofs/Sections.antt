@@ -1,9 +1,10 @@
 -- The section that is noted, read from a cursor behind its keyword line: no line's number is read.
-use Prim.Native.Nat.{ℕ, _+_}
+use Prim.Native.Nat.{ℕ}
 use mathlib.Core.Path.{_≡_, ap, _∙_}
 use mathlib.Core.List.{List, map}
 use lib.ListN.{length}
 use Rattle.laws.specs.Lists.{front}
+use Rattle.lines.specs.Places.{lineAt}
 use Rattle.cut_lines.specs.Texts.{Text}
 use Rattle.cut_lines.specs.Cursors.{rest}
 use Rattle.cut_lines.specs.declared.Cursor.{Cursor}
@@ -21,7 +22,7 @@ use Rattle.note_words.specs.Store.{sectionAt, nameAt, noteOf}
 use Rattle.note_words.specs.declared.SectionNote.{SectionNote}
 use Rattle.layout_by_notes.specs.Lies.{componentNoted, selectorNoted, tablesNoted, modelNoted}
 use Rattle.from_notes.specs.Made.{StandsBehind}
-use Rattle.from_notes.proofs.Numberless.{stands}
+use Rattle.from_notes.proofs.Numberless.{stands-behind}
 use Rattle.rules.proofs.Numberless.{Numberless, component-numberless, pins-numberless, choices-numberless, model-numberless, tables-within-numberless}
 
 -- ---- a section's record, from the texts behind its keyword
@@ -63,15 +64,15 @@ module _ (s ns : List ℕ) (n : ℕ) {c : Cursor} (h : StandsBehind s ns n c) wh
 
   pub component-noted : componentFrom (x .section) (x .start) name (rest s c) ≡ componentNoted (noteOf s ns n OfComponent)
   unfolding componentNoted
-  component-noted = stands (componentFrom (x .section) (x .start) name) (component-from (x .section) (x .start) name) h (x .line + 1)
+  component-noted = stands-behind (componentFrom (x .section) (x .start) name) (component-from (x .section) (x .start) name) h (lineAt s (x .at))
 
   pub selector-noted : selectorFrom (x .section) (x .start) name (rest s c) ≡ selectorNoted (noteOf s ns n OfSelector)
   unfolding selectorNoted
-  selector-noted = stands (selectorFrom (x .section) (x .start) name) (selector-from (x .section) (x .start) name) h (x .line + 1)
+  selector-noted = stands-behind (selectorFrom (x .section) (x .start) name) (selector-from (x .section) (x .start) name) h (lineAt s (x .at))
 
   pub model-noted : modelFrom (x .section) (x .row) (x .start) name (rest s c) ≡ modelNoted (noteOf s ns n OfModel)
   unfolding modelNoted
-  model-noted = stands (modelFrom (x .section) (x .row) (x .start) name) (model-from (x .section) (x .row) (x .start) name) h (x .line + 1)
+  model-noted = stands-behind (modelFrom (x .section) (x .row) (x .start) name) (model-from (x .section) (x .row) (x .start) name) h (lineAt s (x .at))
 
   pub tables-noted : tablesIn (front isWithin (rest s c)) ≡ tablesNoted (noteOf s ns n OfModel)
-  tables-noted = stands (λ (ts : List Text). tablesIn (front isWithin ts)) tables-within-numberless h (x .line + 1)
+  tables-noted = stands-behind (λ (ts : List Text). tablesIn (front isWithin ts)) tables-within-numberless h (lineAt s (x .at))

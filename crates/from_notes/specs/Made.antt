@@ -4,7 +4,7 @@ use Prim.Native.Char.{code}
 use mathlib.Core.Path.{_≡_}
 use mathlib.Core.List.{List, [], _++_}
 use mathlib.Core.Bool.{cond}
-use lib.ListN.{getD}
+use lib.ListN.{drop, getD}
 use lib.Dec.{leb}
 use Rattle.laws.specs.Lists.{part}
 use Rattle.cut_lines.specs.Cursors.{rest, Placed}
@@ -63,10 +63,15 @@ pub record StandsAt (s : List ℕ) (at comment : ℕ) (c : Cursor) : Type 0 wher
   pub placed : Placed s c
   pub texts : rest s c ≡ rest s (record { at = at; line = 1; comment = comment })
 
+-- c stands behind the first of the texts that d reads; where there is none it reads none
+pub record BehindText (s : List ℕ) (d c : Cursor) : Type 0 where
+  pub placed : Placed s c
+  pub texts : rest s c ≡ drop 1 (rest s d)
+
 -- ---- what is noted at place n: a row's text, and what stands behind a section's keyword line
 
 abbrev pub rowNoted : List ℕ → List ℕ → ℕ → List ℕ
-rowNoted s ns n = part (rowAt ns n .text) (rowAt ns n .«text_end») s
+rowNoted s ns n = part (rowAt ns n .at) (rowAt ns n .«text_end») s
 
 abbrev pub StandsBehind : List ℕ → List ℕ → ℕ → Cursor → Type 0
-StandsBehind s ns n c = StandsAt s (sectionAt ns n .behind) (sectionAt ns n .comment) c
+StandsBehind s ns n c = BehindText s (record { at = sectionAt ns n .at; line = 1; comment = sectionAt ns n .comment }) c

@@ -1,23 +1,23 @@
 // What the words of a store name, whatever the words are: words, parts of the file and cursors.
 ghost use mathlib.Core.Path.{_≡_};
-ghost use Prim.Native.Nat.{_+_, _*_};
+ghost use Prim.Native.Nat.{_+_};
 ghost use lib.ListN.{getD};
 ghost use Rattle.laws.specs.Lists.{part};
-ghost use Rattle.note_words.specs.Store.{wavesFrom, wordsPerWave, nameAt, nameWord};
-ghost use Rattle.from_notes.specs.Made.{markOf, StandsAt, rowNoted, StandsBehind};
+ghost use Rattle.cut_lines.specs.Cursors.{Placed};
+ghost use Rattle.note_words.specs.Store.{nameAt, nameWord, waveWord};
+ghost use Rattle.from_notes.specs.Made.{markOf, StandsAt, rowNoted, BehindText, StandsBehind};
 use cut_lines::Cursor;
+use cut_lines::Next;
+use note_words::AT;
+use note_words::KIND;
 use note_words::NAME;
-use note_words::NAME_END;
-use note_words::ROW_TEXT;
-use note_words::ROW_TEXT_END;
-use note_words::SECTION_BEHIND;
-use note_words::SECTION_COMMENT;
+use note_words::PAIR;
 use note_words::WAVES_FROM;
 use note_words::WORDS_PER_NAME;
 use note_words::WORDS_PER_WAVE;
 
 // The word i places behind a place; 0 past the end.
-pub fn word_behind(notes: &[u32], from: usize, i: usize) -> usize
+pub fn word_behind(notes: &[u16], from: usize, i: usize) -> usize
     ensures { λ r. ⌜ r ≡ getD (now (notes .entry)) (from + i) 0 ⌝ }
 {
     if notes.len() <= i {
@@ -30,7 +30,7 @@ pub fn word_behind(notes: &[u32], from: usize, i: usize) -> usize
 }
 
 // Word j of the name noted at place n.
-pub fn name_word(notes: &[u32], n: usize, j: usize) -> usize
+pub fn name_word(notes: &[u16], n: usize, j: usize) -> usize
     ensures { λ r. ⌜ r ≡ nameWord (now (notes .entry)) n j ⌝ }
 {
     if notes.len() / WORDS_PER_NAME < n {
@@ -40,8 +40,8 @@ pub fn name_word(notes: &[u32], n: usize, j: usize) -> usize
 }
 
 // Word j of the waveform noted at place n.
-pub(crate) fn wave_word(notes: &[u32], n: usize, j: usize) -> usize
-    ensures { λ r. ⌜ r ≡ getD (now (notes .entry)) (wavesFrom + wordsPerWave * n + j) 0 ⌝ }
+pub(crate) fn wave_word(notes: &[u16], n: usize, j: usize) -> usize
+    ensures { λ r. ⌜ r ≡ waveWord (now (notes .entry)) n j ⌝ }
 {
     if notes.len() / WORDS_PER_WAVE < n {
         return 0;
@@ -95,28 +95,47 @@ pub(crate) fn cursor_at(src: &[u8], at: usize, comment: usize) -> Cursor
 }
 
 // The name that is noted at place n.
-pub fn name_noted<'a>(src: &'a [u8], notes: &[u32], n: usize) -> &'a [u8]
+pub fn name_noted<'a>(src: &'a [u8], notes: &[u16], n: usize) -> &'a [u8]
     ensures { λ r. ⌜ now r ≡ nameAt (now (src .entry)) (now (notes .entry)) n ⌝ }
 {
-    let start = name_word(notes, n, NAME);
-    let end = name_word(notes, n, NAME_END);
-    part_of(src, start, end)
+    let at = name_word(notes, n, AT);
+    let name = name_word(notes, n, NAME);
+    let start = at + name / PAIR;
+    part_of(src, start, start + name % PAIR)
 }
 
 // The text of the row that is noted at place n.
-pub(crate) fn row_noted<'a>(src: &'a [u8], notes: &[u32], n: usize) -> &'a [u8]
+pub(crate) fn row_noted<'a>(src: &'a [u8], notes: &[u16], n: usize) -> &'a [u8]
     ensures { λ r. ⌜ now r ≡ rowNoted (now (src .entry)) (now (notes .entry)) n ⌝ }
 {
-    let start = name_word(notes, n, ROW_TEXT);
-    let end = name_word(notes, n, ROW_TEXT_END);
-    part_of(src, start, end)
+    let at = name_word(notes, n, AT);
+    let kind = name_word(notes, n, KIND);
+    part_of(src, at, at + kind % PAIR)
+}
+
+// Behind the next text; where there is none, the same.
+fn behind_text(src: &[u8], c: Cursor) -> Cursor
+    requires { ⌜ Placed (now src) c ⌝ }
+    ensures { λ r. ⌜ BehindText (now (src .entry)) c r ⌝ }
+{
+    match cut_lines::next_text(src, c) {
+        Next::Text {
+            line,
+            start,
+            end,
+            next,
+        } => next,
+        Next::Change { line, fault, next } => next,
+        Next::Out { line } => c,
+    }
 }
 
 // Behind the keyword line of the section that is noted at place n.
-pub fn section_noted(src: &[u8], notes: &[u32], n: usize) -> Cursor
+pub fn section_noted(src: &[u8], notes: &[u16], n: usize) -> Cursor
     ensures { λ r. ⌜ StandsBehind (now (src .entry)) (now (notes .entry)) n r ⌝ }
 {
-    let at = name_word(notes, n, SECTION_BEHIND);
-    let comment = name_word(notes, n, SECTION_COMMENT);
-    cursor_at(src, at, comment)
+    let at = name_word(notes, n, AT);
+    let kind = name_word(notes, n, KIND);
+    let c = cursor_at(src, at, kind % PAIR);
+    behind_text(src, c)
 }

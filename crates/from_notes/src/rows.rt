@@ -9,7 +9,7 @@ use crate::places::word_behind;
 use note_words::MODELS_FROM;
 
 // Writes the rows of the first n models.
-pub fn fill_rows(rows: &mut [u64], src: &[u8], notes: &[u32], n: usize)
+pub fn fill_rows(rows: &mut [u64], src: &[u8], notes: &[u16], n: usize)
     requires { ⌜ length (stored (rowsAt (now src) (now notes) n)) ≤ length (now rows) ⌝ }
     ensures { λ _. ⌜ now (rows .exit) ≡ over (now (rows .entry)) (stored (rowsAt (now (src .entry)) (now (notes .entry)) n)) ⌝ }
 {

@@ -20,7 +20,7 @@ use records::Model;
 use records::Pin;
 use records::Selector;
 
-pub fn component_at(src: &[u8], notes: &[u32], i: usize) -> Component
+pub fn component_at(src: &[u8], notes: &[u16], i: usize) -> Component
     ensures { λ r. ⌜ r ≡ componentAt (now (src .entry)) (now (notes .entry)) i ⌝ }
 {
     let n = word_behind(notes, COMPONENTS_FROM, i);
@@ -30,14 +30,14 @@ pub fn component_at(src: &[u8], notes: &[u32], i: usize) -> Component
     component_records::component_of(src, c, name_noted(src, notes, n), section, start)
 }
 
-pub fn pin_at(src: &[u8], notes: &[u32], i: usize) -> Pin
+pub fn pin_at(src: &[u8], notes: &[u16], i: usize) -> Pin
     ensures { λ r. ⌜ r ≡ pinAt (now (src .entry)) (now (notes .entry)) i ⌝ }
 {
     let n = word_behind(notes, PINS_FROM, i);
     component_records::pin_of(row_noted(src, notes, n))
 }
 
-pub fn selector_at(src: &[u8], notes: &[u32], i: usize) -> Selector
+pub fn selector_at(src: &[u8], notes: &[u16], i: usize) -> Selector
     ensures { λ r. ⌜ r ≡ selectorAt (now (src .entry)) (now (notes .entry)) i ⌝ }
 {
     let n = word_behind(notes, SELECTORS_FROM, i);
@@ -47,14 +47,14 @@ pub fn selector_at(src: &[u8], notes: &[u32], i: usize) -> Selector
     component_records::selector_of(src, c, name_noted(src, notes, n), section, start)
 }
 
-pub fn choice_at(src: &[u8], notes: &[u32], i: usize) -> Choice
+pub fn choice_at(src: &[u8], notes: &[u16], i: usize) -> Choice
     ensures { λ r. ⌜ r ≡ choiceAt (now (src .entry)) (now (notes .entry)) i ⌝ }
 {
     let n = word_behind(notes, CHOICES_FROM, i);
     component_records::choice_of(row_noted(src, notes, n))
 }
 
-pub fn model_at(src: &[u8], notes: &[u32], i: usize) -> Model
+pub fn model_at(src: &[u8], notes: &[u16], i: usize) -> Model
     ensures { λ r. ⌜ r ≡ modelAt (now (src .entry)) (now (notes .entry)) i ⌝ }
 {
     let n = word_behind(notes, MODELS_FROM, i);

@@ -79,7 +79,7 @@ fn waveform_from(src: &[u8], c: Cursor, row: usize) -> Waveform
     }
 }
 
-pub fn waveform_at(src: &[u8], notes: &[u32], i: usize) -> Waveform
+pub fn waveform_at(src: &[u8], notes: &[u16], i: usize) -> Waveform
     ensures { λ r. ⌜ r ≡ waveformAt (now (src .entry)) (now (notes .entry)) i ⌝ }
 {
     let at = wave_word(notes, i, WAVE_AT);

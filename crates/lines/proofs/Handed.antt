@@ -76,3 +76,7 @@ module _ (s : List ℕ) (at : ℕ) where
       by-test (eqb (getD s (stop - 1) 0) (code "\r"))
       (λ e. of _ (hands-return stop refl m h (eqb-true _ _ e)))
       (λ e. of _ (hands-other stop refl m h (eqb-false _ _ e)))))
+
+  -- so is a line that was handed out
+  pub raw-handed : (l : Line) → at < length s → l ≡ lineFrom s at → RawAt s at l
+  raw-handed l k e = subst (RawAt s at) (sym e) (raw-at k)

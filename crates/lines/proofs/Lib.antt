@@ -3,3 +3,4 @@
 pub mod Laws
 pub mod Places
 pub mod Handed
+pub mod Numbers

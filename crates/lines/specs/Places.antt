@@ -1,5 +1,5 @@
 -- What the places that the code answers say of the lines.
-use Prim.Native.Nat.{ℕ, _+_, _≤_, _<_, min}
+use Prim.Native.Nat.{ℕ, _+_, _-_, _≤_, _<_, min}
 use Prim.Native.Char.{code}
 use mathlib.Core.Path.{_≡_}
 use mathlib.Core.List.{List, [], _∷_}
@@ -35,6 +35,10 @@ extent s = min (length (front (other (code "\n")) s) + 1) (length s)
 -- where the line at a place ends, and where the next begins; past the last line both are the place
 unfoldable pub lineFrom : List ℕ → ℕ → Line
 lineFrom s at = record { end = at + length (firstBytes (linesOf (drop at s))); next = at + extent (drop at s) }
+
+-- the number of the line that begins at a place: the number past the last line, less the lines that are left
+unfoldable pub lineAt : List ℕ → ℕ → ℕ
+lineAt s at = 1 + length (linesOf s) - length (linesOf (drop at s))
 
 -- a reader behind the line that it handed out
 abbrev pub readerBehind : LineReader → Line → LineReader

@@ -4,7 +4,7 @@ ghost use Prim.Native.Nat.{ℕ, _+_, _≤_, _<_};
 ghost use lib.ListN.{length, drop};
 ghost use Rattle.laws.specs.Lists.{front};
 ghost use Rattle.lines.specs.Lines.{isAllowed, linesOf, faultFrom, bytesFault, cut};
-ghost use Rattle.lines.specs.Places.{checked, Goes, lineFrom, readerBehind};
+ghost use Rattle.lines.specs.Places.{checked, Goes, lineFrom, lineAt, readerBehind};
 ghost use Rattle.lines.specs.Breaks.{breakOf, isPrinted};
 use records::Fault;
 
@@ -222,6 +222,32 @@ pub fn line_at(src: &[u8], at: usize) -> Line
 {
     let mut reader = LineReader::new(src, at);
     reader.next()
+}
+
+// How many lines there are.
+fn count_lines(s: &[u8]) -> u64
+    ensures { λ r. ⌜ r ≡ length (linesOf (now (s .entry))) ⌝ }
+    ensures { λ r. ⌜ r ≤ length (now (s .entry)) ⌝ }
+{
+    let mut at = 0;
+    let mut count: u64 = 0;
+    while at < s.len() {
+        let l = line_at(s, at);
+        at = l.next;
+        count += 1;
+    }
+    count
+}
+
+// The number of the line that begins at a place.
+pub fn line_number(src: &[u8], at: usize) -> u64
+    ensures { λ r. ⌜ r ≡ lineAt (now (src .entry)) at ⌝ }
+{
+    let past = 1 + count_lines(src);
+    if src.len() <= at {
+        return past;
+    }
+    past - count_lines(&src[at..])
 }
 
 // How much of a line is left once it is cut at its comment, without trailing blanks.

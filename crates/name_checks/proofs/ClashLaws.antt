@@ -18,7 +18,7 @@ use Rattle.rules.specs.Outline.{Entry, place, is, named, isUsed}
 use Rattle.records.specs.declared.Kind.{Kind}
 use Rattle.records.specs.declared.Kind.the-variants.{OfComponent, OfPin, OfSelector, OfChoice, OfModel}
 use Rattle.notes.specs.Noted.{orUsed, clash}
-use Rattle.note_words.specs.Store.{wordsPerName, notedLine, nameAt, noteAt, notesTo}
+use Rattle.note_words.specs.Store.{notedLine, nameAt, noteAt, notesTo}
 use Rattle.note_words.proofs.Laws.{note-name, note-line}
 use Rattle.name_checks.specs.declared.Clash.the-variants.{At, NoClash}
 use Rattle.name_checks.specs.declared.Meeting.{Meeting}
@@ -85,7 +85,7 @@ module _ (s xs : List ℕ) (i : ℕ) where
       ∙ rw (note-kind s xs i) rw (note-kind s xs j) rw (note-name s xs i) rw (note-name s xs j) refl
 
   -- of its kind k, and its name at w
-  module _ (k : ℕ) (w : Word) (kind : k ≡ placeAt xs i) (said : w ≡ partSaid xs (wordsPerName * i + 2)) where
+  module _ (k : ℕ) (w : Word) (kind : k ≡ placeAt xs i) (said : w ≡ partSaid xs i 2) where
     pub used-turn : (j : ℕ) (m v : Meeting) → 0 < j → m ≡ meeting k (placeAt xs (j - 1)) (eqs (part (w .start) (w .end) s) (nameAt s xs (j - 1))) → m ≡ v → usedAt j ≡ met v (usedAt (j - 1))
     unfolding meetingAt
     used-turn j m v h g t =
@@ -254,8 +254,8 @@ module _ (s xs : List ℕ) where
       let z : i ≡ suc n = omega (arith, h, g) in
       sym (ap (λ (m : ℕ). clash (entriesTo s xs m)) z) ∙ e)
 
-  pub clash-here : (i n : ℕ) → i < n → clash (entriesTo s xs i) ≡ none → usedAt s xs i i ≡ true → clash (entriesTo s xs n) ≡ some (notedLine xs i)
-  clash-here i n g h u = clash-stays (suc i) n (notedLine xs i) g (clash-suc i h ∙ rw u (ap some (note-line s xs i)))
+  pub clash-here : (i n : ℕ) → i < n → clash (entriesTo s xs i) ≡ none → usedAt s xs i i ≡ true → clash (entriesTo s xs n) ≡ some (notedLine s xs i)
+  clash-here i n g h u = clash-stays (suc i) n (notedLine s xs i) g (clash-suc i h ∙ rw u (ap some (note-line s xs i)))
 
   pub clash-none : clash (entriesTo s xs 0) ≡ none
   unfolding notesTo clash

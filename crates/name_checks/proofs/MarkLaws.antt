@@ -9,7 +9,7 @@ use native.Mathlib.Numerals.{add-one}
 use lib.ListN.{length, getD, set}
 use lib.Seq.{getD-set-same, getD-set-other}
 use lib.Dec.{eqb}
-use borrow.Author.Tests.{eq-eqb, ne-eqb, eqb-true, eqb-false}
+use borrow.Author.Tests.{eq-eqb, ne-eqb, lt-ltb, le-ltb, eqb-true, eqb-false}
 use Rattle.laws.specs.Lists.{eqs}
 use Rattle.laws.proofs.Tests.{by-test, by-order, cond-yes, cond-no, cond-map, never, impossible}
 use Rattle.laws.proofs.Same.{eqs-refl, eqs-eq}
@@ -21,12 +21,14 @@ use Rattle.rules.specs.Last.{found, listedIn}
 use Rattle.records.specs.declared.Fault.{Fault}
 use Rattle.records.specs.declared.Kind.{Kind}
 use Rattle.records.specs.declared.Kind.the-variants.{OfComponent, OfPin, OfSelector, OfChoice, OfModel}
+use Rattle.lines.specs.Places.{lineAt}
+use Rattle.lines.proofs.Numbers.{lines-fewer}
 use Rattle.notes.specs.Noted.{clash}
 use Rattle.note_words.specs.Store.{namesHeld, byKindFrom, storeLength, notedLine, noteAt, notesTo}
 use Rattle.note_words.proofs.Laws.{note-line}
 use Rattle.name_checks.specs.declared.Last.{Last}
 use Rattle.name_checks.specs.declared.Last.the-variants.{Fine, Faulty}
-use Rattle.name_checks.specs.Lookup.{placeAt, entryAt, entriesTo, entriesFrom, Outside, modelOrSelector, enclosed, reaches, reachesAt, targetTo, toldOf, missing, isMarked, clearedTo, Clear, withMark, marked, Marks, Marked, unmarked, unmarkedFrom, lastIs, Concludes}
+use Rattle.name_checks.specs.Lookup.{placeAt, entryAt, entriesTo, entriesFrom, Outside, modelOrSelector, enclosed, reaches, reachesAt, targetTo, toldOf, toldAt, missing, isMarked, clearedTo, Clear, withMark, marked, Marks, Marked, unmarked, unmarkedFrom, lastIs, Concludes}
 use Rattle.name_checks.proofs.NoteLaws.{note-kind}
 use Rattle.name_checks.proofs.OutsideLaws.{outside-refl, outside-set, outside-place, line-outside, outside-then, entries-outside}
 use Rattle.name_checks.proofs.TargetLaws.{hits-at, target-found, target-missed, found-told, one-target, target-outside, missing-outside}
@@ -66,12 +68,12 @@ from-none s xs n =
 
 -- ---- a name that is not marked
 
-module _ (xs : List ℕ) (i k : ℕ) (later : Last) (kind : k ≡ placeAt xs i) where
+module _ (xs : List ℕ) (i k later : ℕ) (kind : k ≡ placeAt xs i) where
   pub unmarked-kept : (w : ℕ) → modelOrSelector k ≡ true → w ≡ getD xs (byKindFrom + i) 0 → w ≡ 1 → later ≡ unmarked xs i later
   unfolding unmarked
   unmarked-kept w h e o = rw (← kind) rw h rw (← e) rw o refl
 
-  pub unmarked-told : (w : ℕ) → modelOrSelector k ≡ true → w ≡ getD xs (byKindFrom + i) 0 → (w ≡ 1 → ⊥) → toldOf 16 (notedLine xs i) ≡ unmarked xs i later
+  pub unmarked-told : (w : ℕ) → modelOrSelector k ≡ true → w ≡ getD xs (byKindFrom + i) 0 → (w ≡ 1 → ⊥) → i ≡ unmarked xs i later
   unfolding unmarked
   unmarked-told w h e o = rw (← kind) rw h rw (← e) rw (ne-eqb w 1 o) refl
 
@@ -87,7 +89,7 @@ module _ (xs : List ℕ) (n : ℕ) where
       let f : j - 1 + 1 ≡ j = omega (arith, h) in
       rw e rw f refl
 
-  pub unmarked-none : Fine ≡ unmarkedFrom xs n (n - n)
+  pub unmarked-none : n ≡ unmarkedFrom xs n (n - n)
   unfolding unmarkedFrom
   unmarked-none =
       let e : n - n ≡ 0 = omega arith in
@@ -210,24 +212,45 @@ module _ (s xs : List ℕ) (n : ℕ) (unique : clash (entriesTo s xs n) ≡ none
       outside-set xs ys (byKindFrom + k) 1 o (omega arith) (omega (arith, r .0, small))
   mark-outside i ys Nothing e o = o
 
+-- ---- the fault of a name, by its place
+
+line-some : (s : List ℕ) (at : ℕ) → lineAt s at ≡ 0 → ⊥
+unfolding lineAt
+line-some s at e = omega (arith, e, lines-fewer s at)
+
+module _ (s xs : List ℕ) (number n i : ℕ) where
+  told-none : n ≤ i → toldAt s xs number n i ≡ Fine
+  told-none h = cond-no _ _ (le-ltb i n h)
+
+  told-here : i < n → toldAt s xs number n i ≡ toldOf number (noteAt s xs i .line)
+  told-here h = cond-yes _ _ (lt-ltb i n h) ∙ ap (toldOf number) (sym (note-line s xs i))
+
+  -- in a store that differs only by marks
+  told-faulty : (ys : List ℕ) → Outside xs ys → n ≤ namesHeld → i < n → toldAt s xs number n i ≡ Faulty (record { number = number; line = notedLine s ys i })
+  unfolding toldOf
+  told-faulty ys o small h =
+      cond-yes _ _ (lt-ltb i n h)
+      ∙ cond-no _ _ (ne-eqb (notedLine s xs i) 0 (line-some s _))
+      ∙ ap (λ (k : ℕ). Faulty (record { number = number; line = k })) (sym (line-outside s xs ys o i (omega (arith, h, small))))
+
 -- ---- the marks from the last name up to place i, and the first of these names that names nothing
 
-pub record Marking (s xs : List ℕ) (n i : ℕ) (first : Last) (ys : List ℕ) : Type 0 where
-  pub told : first ≡ toldOf 15 (firstFailing (found (entriesFrom s xs 0 n)) (entriesFrom s xs i (n - i)))
+pub record Marking (s xs : List ℕ) (n i first : ℕ) (ys : List ℕ) : Type 0 where
+  pub told : toldAt s xs 15 n first ≡ toldOf 15 (firstFailing (found (entriesFrom s xs 0 n)) (entriesFrom s xs i (n - i)))
   pub outside : Outside xs ys
   pub marks : Marks s xs (entriesFrom s xs i (n - i)) n ys
 
-pub marking-none : (s xs : List ℕ) (n : ℕ) → Clear xs n → Marking s xs n n Fine xs
+pub marking-none : (s xs : List ℕ) (n : ℕ) → Clear xs n → Marking s xs n n n xs
 unfolding firstFailing toldOf
 marking-none s xs n h =
     record {
-      told = rw (from-none s xs n) refl;
+      told = told-none s xs 15 n n (omega arith) ∙ rw (from-none s xs n) refl;
       outside = outside-refl xs;
       marks = rw (from-none s xs n) (λ j g. rw (h j g) (marked-none (entryAt s xs j) (noteAt s xs j .kind)));
     }
 
-pub marking-turn : (s xs : List ℕ) (n i : ℕ) (first : Last) (ys : List ℕ) → n ≤ namesHeld → storeLength ≤ length xs → clash (entriesTo s xs n) ≡ none → Marking s xs n i first ys
-    → 0 < i → i ≤ n → (r : Last) (zs : List ℕ) → r ≡ missing s ys (i - 1) first (targetTo s ys (i - 1) n) → zs ≡ withMark ys (targetTo s ys (i - 1) n)
+pub marking-turn : (s xs : List ℕ) (n i first : ℕ) (ys : List ℕ) → n ≤ namesHeld → storeLength ≤ length xs → clash (entriesTo s xs n) ≡ none → Marking s xs n i first ys
+    → 0 < i → i ≤ n → (r : ℕ) (zs : List ℕ) → r ≡ missing s ys (i - 1) first (targetTo s ys (i - 1) n) → zs ≡ withMark ys (targetTo s ys (i - 1) n)
     → Marking s xs n (i - 1) r zs
 unfolding firstFailing
 marking-turn s xs n i first ys small long unique m h g r zs e f =
@@ -235,17 +258,21 @@ marking-turn s xs n i first ys small long unique m h g r zs e f =
     let b : k ≤ namesHeld = omega (arith, g, small) in
     let t : targetTo s ys k n ≡ targetTo s xs k n = target-outside s xs ys (m .outside) k n b small in
     let z : zs ≡ withMark ys (targetTo s xs k n) = f ∙ ap (withMark ys) t in
+    let is : Bool = found (entriesFrom s xs 0 n) (entryAt s xs k) in
+    let others : ℕ = firstFailing (found (entriesFrom s xs 0 n)) (entriesFrom s xs i (n - i)) in
     record {
       told =
-          e ∙ ap (missing s ys k first) t ∙ missing-outside s xs ys (m .outside) k first (targetTo s xs k n) b ∙ sym (found-told s xs k n first)
-          ∙ ap (λ (l : Last). cond (found (entriesFrom s xs 0 n) (entryAt s xs k)) l (toldOf 15 (noteAt s xs k .line))) (m .told)
-          ∙ sym (cond-map (toldOf 15) (found (entriesFrom s xs 0 n) (entryAt s xs k)) (firstFailing (found (entriesFrom s xs 0 n)) (entriesFrom s xs i (n - i))) (noteAt s xs k .line))
+          ap (λ (j : ℕ). toldAt s xs 15 n j) (e ∙ ap (missing s ys k first) t ∙ missing-outside s xs ys (m .outside) k first (targetTo s xs k n) b ∙ sym (found-told s xs k n first))
+          ∙ cond-map (λ (j : ℕ). toldAt s xs 15 n j) is first k
+          ∙ ap (λ (l : Last). cond is l (toldAt s xs 15 n k)) (m .told)
+          ∙ ap (cond is (toldOf 15 others)) (told-here s xs 15 n k (omega (arith, h, g)))
+          ∙ sym (cond-map (toldOf 15) is others (noteAt s xs k .line))
           ∙ ap (λ (es : List Entry). toldOf 15 (firstFailing (found (entriesFrom s xs 0 n)) es)) (sym (from-turn s xs i n h g));
       outside = rw z (mark-outside s xs n unique small k ys (targetTo s xs k n) refl (m .outside));
       marks = rw z rw (from-turn s xs i n h g) (mark-turn s xs n unique small k (entriesFrom s xs i (n - i)) ys (omega (arith, m .outside .long, long)) (m .marks));
     }
 
-pub marking-end : (s xs : List ℕ) (n i : ℕ) (first : Last) (ys : List ℕ) → Marking s xs n i first ys → i ≤ 0 → Marked s xs ys n first
+pub marking-end : (s xs : List ℕ) (n i first : ℕ) (ys : List ℕ) → Marking s xs n i first ys → i ≤ 0 → Marked s xs ys n first
 marking-end s xs n i first ys m h =
     let z : i ≡ 0 = omega (arith, h) in
     let d : n - 0 ≡ n = omega arith in
@@ -254,29 +281,32 @@ marking-end s xs n i first ys m h =
 
 -- ---- what nobody lists
 
-listed-kind : (es : List Entry) (f : Entry) (y : Kind) (later line : Last) → cond (modelOrSelector (place y)) (cond (marked es f y) later line) later ≡ cond (isListed es f y) later line
+listed-kind : (es : List Entry) (f : Entry) (y : Kind) (later own : ℕ) → cond (modelOrSelector (place y)) (cond (marked es f y) later own) later ≡ cond (isListed es f y) later own
 unfolding modelOrSelector
-listed-kind es f OfComponent later line = refl
-listed-kind es f OfPin later line = refl
-listed-kind es f OfSelector later line = refl
-listed-kind es f OfChoice later line = refl
-listed-kind es f OfModel later line = refl
+listed-kind es f OfComponent later own = refl
+listed-kind es f OfPin later own = refl
+listed-kind es f OfSelector later own = refl
+listed-kind es f OfChoice later own = refl
+listed-kind es f OfModel later own = refl
 
 module _ (s xs ys : List ℕ) (n : ℕ) (es : List Entry) (small : n ≤ namesHeld) (o : Outside xs ys) (marks : Marks s xs es n ys) where
-  unlisted-told : (j : ℕ) (later : Last) → j < n → unmarked ys j later ≡ cond (listedIn es (entryAt s xs j)) later (toldOf 16 (noteAt s xs j .line))
+  unlisted-told : (j later : ℕ) → j < n → unmarked ys j later ≡ cond (listedIn es (entryAt s xs j)) later j
   unfolding unmarked
   unlisted-told j later h =
-      let b : j ≤ namesHeld = omega (arith, h, small) in
-      rw (outside-place xs ys j o b) rw (marks j h) rw (line-outside s xs ys o j b)
-      rw (← (note-kind s xs j)) rw (← (note-line s xs j)) (listed-kind es (entryAt s xs j) (noteAt s xs j .kind) later (toldOf 16 (noteAt s xs j .line)))
+      rw (outside-place xs ys j o (omega (arith, h, small))) rw (marks j h)
+      rw (← (note-kind s xs j)) (listed-kind es (entryAt s xs j) (noteAt s xs j .kind) later j)
 
-  unlisted-from : (j m : ℕ) → j + m ≤ n → unmarkedFrom ys j m ≡ toldOf 16 (firstFailing (listedIn es) (entriesFrom s xs j m))
+  unlisted-from : (j m : ℕ) → j + m ≡ n → toldAt s xs 16 n (unmarkedFrom ys j m) ≡ toldOf 16 (firstFailing (listedIn es) (entriesFrom s xs j m))
   unfolding unmarkedFrom entriesFrom firstFailing toldOf
-  unlisted-from j zero h = refl
+  unlisted-from j zero h = told-none s xs 16 n j (omega (arith, h))
   unlisted-from j (suc m) h =
-      ap (unmarked ys j) (unlisted-from (j + 1) m (omega (arith, h)))
-      ∙ unlisted-told j (toldOf 16 (firstFailing (listedIn es) (entriesFrom s xs (j + 1) m))) (omega (arith, h))
-      ∙ sym (cond-map (toldOf 16) (listedIn es (entryAt s xs j)) (firstFailing (listedIn es) (entriesFrom s xs (j + 1) m)) (noteAt s xs j .line))
+      let is : Bool = listedIn es (entryAt s xs j) in
+      let others : ℕ = firstFailing (listedIn es) (entriesFrom s xs (j + 1) m) in
+      ap (λ (u : ℕ). toldAt s xs 16 n u) (unlisted-told j (unmarkedFrom ys (j + 1) m) (omega (arith, h)))
+      ∙ cond-map (λ (u : ℕ). toldAt s xs 16 n u) is (unmarkedFrom ys (j + 1) m) j
+      ∙ ap (λ (l : Last). cond is l (toldAt s xs 16 n j)) (unlisted-from (j + 1) m (omega (arith, h)))
+      ∙ ap (cond is (toldOf 16 others)) (told-here s xs 16 n j (omega (arith, h)))
+      ∙ sym (cond-map (toldOf 16) is others (noteAt s xs j .line))
 
 -- ---- the last checks
 
@@ -299,17 +329,27 @@ module _ (a b : ℕ) (d : Outcome) where
       (λ t. rw t (by-test (eqb b 0) (λ u. rw u refl) (λ u. rw u refl)))
       (λ t. let z : Faulty (record { number = 15; line = a }) ≡ Fine = sym (cond-no _ _ t) ∙ h in impossible (cc))
 
-module _ (s xs ys : List ℕ) (n : ℕ) (r : Last) (m : Marked s xs ys n r) where
-  pub concludes-missing : (f : Fault) → r ≡ Faulty f → Concludes (entriesTo s xs n) (Faulty f)
+module _ (s xs ys : List ℕ) (n r : ℕ) (small : n ≤ namesHeld) (m : Marked s xs ys n r) where
+  pub concludes-missing : r < n → (v : Last) → v ≡ Faulty (record { number = 15; line = notedLine s ys r }) → Concludes (entriesTo s xs n) v
   unfolding lastChecks
-  concludes-missing f h d = rw (file-order s xs n) (first-told _ (firstFailing (listedIn (entriesFrom s xs 0 n)) (entriesFrom s xs 0 n)) d f (sym (m .first) ∙ h))
-
-  pub concludes-listed : r ≡ Fine → n ≤ namesHeld → (u : Last) → u ≡ unmarkedFrom ys 0 n → Concludes (entriesTo s xs n) u
-  unfolding lastChecks
-  concludes-listed h small u e d =
+  concludes-missing h v q d =
       rw (file-order s xs n)
-      (second-told _ _ d (sym (m .first) ∙ h)
-      ∙ ap (lastIs d) (sym (e ∙ unlisted-from s xs ys n (entriesFrom s xs 0 n) small (m .outside) (m .marks) 0 n (omega arith))))
+      (first-told _ (firstFailing (listedIn (entriesFrom s xs 0 n)) (entriesFrom s xs 0 n)) d _ (sym (m .first) ∙ told-faulty s xs 15 n r ys (m .outside) small h)
+      ∙ ap (lastIs d) (sym q))
+
+  module _ (u : ℕ) (e : u ≡ unmarkedFrom ys 0 n) (h : n ≤ r) where
+    listed-told : (v : Last) → toldAt s xs 16 n u ≡ v → Concludes (entriesTo s xs n) v
+    unfolding lastChecks
+    listed-told v q d =
+        rw (file-order s xs n)
+        (second-told _ _ d (sym (m .first) ∙ told-none s xs 15 n r h)
+        ∙ ap (lastIs d) (sym (ap (λ (w : ℕ). toldAt s xs 16 n w) e ∙ unlisted-from s xs ys n (entriesFrom s xs 0 n) small (m .outside) (m .marks) 0 n (omega arith)) ∙ q))
+
+    pub concludes-unlisted : u < n → (v : Last) → v ≡ Faulty (record { number = 16; line = notedLine s ys u }) → Concludes (entriesTo s xs n) v
+    concludes-unlisted g v q = listed-told v (told-faulty s xs 16 n u ys (m .outside) small g ∙ sym q)
+
+    pub concludes-fine : n ≤ u → Concludes (entriesTo s xs n) Fine
+    concludes-fine g = listed-told Fine (told-none s xs 16 n u g)
 
 -- the store with the marks cleared says the same of the names
 module _ (s xs zs : List ℕ) (n : ℕ) (small : n ≤ namesHeld) (e : zs ≡ clearedTo xs n) where

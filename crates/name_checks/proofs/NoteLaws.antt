@@ -1,10 +1,10 @@
 -- The number of a kind; a part of the file moved into it.
-use Prim.Native.Nat.{ℕ, zero, suc, _+_, _-_, _*_, _≤_, _<_}
+use Prim.Native.Nat.{ℕ, zero, suc, _-_, _≤_, _<_}
 use mathlib.Core.Path.{_≡_, refl, sym, ap, _∙_}
 use mathlib.Core.List.{List, []}
-use mathlib.Core.Bool.{Bool, false}
+use mathlib.Core.Bool.{false}
 use native.Mathlib.Omega.{arith}
-use lib.ListN.{length, drop, getD, drop-of-length-le, length-drop}
+use lib.ListN.{length, drop, drop-of-length-le, length-drop}
 use lib.Seq.{take-all}
 use borrow.Author.Tests.{ne-eqb, lt-ltb, le-ltb, le-leb, lt-leb}
 use Rattle.laws.specs.Lists.{part, eqs}
@@ -12,7 +12,7 @@ use Rattle.laws.proofs.Lists.{part-length}
 use Rattle.laws.proofs.Same.{eqs-apart}
 use Rattle.words.specs.declared.Word.{Word}
 use Rattle.rules.specs.Outline.{place}
-use Rattle.note_words.specs.Store.{wordsPerName, kindOf, nameAt, noteAt}
+use Rattle.note_words.specs.Store.{kindOf, partStart, partEnd, nameAt, noteAt}
 use Rattle.note_words.proofs.Laws as stored
 use Rattle.name_checks.specs.Lookup.{placeAt, modelAt, partSaid, movedIn, Within}
 
@@ -84,32 +84,13 @@ module _ (s : List ℕ) (w v x y : Word) (p : Within s (w .start) (w .end) x) (q
   pub within-same : eqs (part (x .start) (x .end) s) (part (y .start) (y .end) s) ≡ eqs (part (w .start) (w .end) s) (part (v .start) (v .end) s)
   within-same = rw (p .same) rw (q .same) refl
 
--- the parts that two notes say, by the words at a and behind it, and at b and behind it
-pub parts-said : (s xs : List ℕ) (w v : Word) (a b : ℕ)
-    → w ≡ partSaid xs a → v ≡ partSaid xs b → (t : Bool)
-    → t ≡ eqs (part (w .start) (w .end) s) (part (v .start) (v .end) s)
-    → (e f : ℕ) → e ≡ a + 1 → f ≡ b + 1 → t ≡ eqs (part (getD xs a 0) (getD xs e 0) s) (part (getD xs b 0) (getD xs f 0) s)
-parts-said s xs w v a b p q t h e f x y =
-    rw x rw y
-    (h ∙ ap (λ (z : Word). eqs (part (z .start) (z .end) s) (part (v .start) (v .end) s)) p
-    ∙ ap (λ (z : Word). eqs (part (getD xs a 0) (getD xs (a + 1) 0) s) (part (z .start) (z .end) s)) q)
-
--- the part that a note says, by the word at a and the one behind it
-said : (s xs : List ℕ) (w : Word) (a e : ℕ) → w ≡ partSaid xs a → e ≡ a + 1 → part (w .start) (w .end) s ≡ part (getD xs a 0) (getD xs e 0) s
-said s xs w a e q x = rw x (ap (λ (z : Word). part (z .start) (z .end) s) q)
-
--- a part that a note says, moved into the file
-pub part-said : (s xs : List ℕ) (p w : Word) (a : ℕ) → p ≡ partSaid xs a → Within s (p .start) (p .end) w
-    → (e : ℕ) → e ≡ a + 1 → part (w .start) (w .end) s ≡ part (getD xs a 0) (getD xs e 0) s
-part-said s xs p w a q h e x = h .same ∙ said s xs p a e q x
+-- the part that a note says, by word j
+said : (s xs : List ℕ) (w : Word) (i j : ℕ) → w ≡ partSaid xs i j → part (w .start) (w .end) s ≡ part (partStart xs i j) (partEnd xs i j) s
+said s xs w i j q = ap (λ (z : Word). part (z .start) (z .end) s) q
 
 module _ (s xs : List ℕ) (w : Word) (i : ℕ) where
-  pub name-said : w ≡ partSaid xs (wordsPerName * i + 2) → part (w .start) (w .end) s ≡ nameAt s xs i
-  name-said q =
-      let e : wordsPerName * i + 3 ≡ wordsPerName * i + 2 + 1 = omega arith in
-      said s xs w (wordsPerName * i + 2) (wordsPerName * i + 3) q e
+  pub name-said : w ≡ partSaid xs i 2 → part (w .start) (w .end) s ≡ nameAt s xs i
+  name-said q = said s xs w i 2 q
 
-  pub model-said : w ≡ partSaid xs (wordsPerName * i + 4) → part (w .start) (w .end) s ≡ modelAt s xs i
-  model-said q =
-      let e : wordsPerName * i + 5 ≡ wordsPerName * i + 4 + 1 = omega arith in
-      said s xs w (wordsPerName * i + 4) (wordsPerName * i + 5) q e
+  pub model-said : w ≡ partSaid xs i 3 → part (w .start) (w .end) s ≡ modelAt s xs i
+  model-said q = said s xs w i 3 q

@@ -1,10 +1,11 @@
 -- A store that differs at most in the region of the names by kind says the same of every note.
-use Prim.Native.Nat.{ℕ, _+_, _*_, _≤_, _<_}
+use Prim.Native.Nat.{ℕ, _+_, _*_, _/_, _≤_, _<_}
 use mathlib.Core.Path.{_≡_, refl, ap, _∙_}
 use mathlib.Core.List.{List, map}
 use native.Mathlib.Omega.{arith}
 use lib.ListN.{set, length-set}
 use lib.Seq.{getD-set-other}
+use Rattle.lines.specs.Places.{lineAt}
 use Rattle.rules.specs.Outline.{place}
 use Rattle.notes.specs.Noted.{entryOf}
 use Rattle.note_words.specs.Store.{namesHeld, wordsPerName, byKindFrom, wavesFrom, kindOf, nameWord, notedLine, nameAt, noteAt}
@@ -27,20 +28,20 @@ outside-note s xs ys i o h = note-agree s ys xs i (λ k a b. o .below k (omega a
 
 pub outside-place : (xs ys : List ℕ) (i : ℕ) → Outside xs ys → i ≤ namesHeld → placeAt ys i ≡ placeAt xs i
 unfolding placeAt
-outside-place xs ys i o h = ap (λ (w : ℕ). place (kindOf w)) (o .below (wordsPerName * i) (omega arith) (omega (arith, h)))
+outside-place xs ys i o h = ap (λ (w : ℕ). place (kindOf (w / 256))) (o .below (wordsPerName * i + 1) (omega arith) (omega (arith, h)))
 
 module _ (s xs ys : List ℕ) (o : Outside xs ys) where
   word-outside : (i k : ℕ) → i ≤ namesHeld → k < wordsPerName → nameWord ys i k ≡ nameWord xs i k
   word-outside i k h g = o .below (wordsPerName * i + k) (omega arith) (omega (arith, h, g))
 
-  pub line-outside : (i : ℕ) → i ≤ namesHeld → notedLine ys i ≡ notedLine xs i
-  line-outside i h = word-outside i 1 h (omega arith)
+  pub line-outside : (i : ℕ) → i ≤ namesHeld → notedLine s ys i ≡ notedLine s xs i
+  line-outside i h = ap (lineAt s) (word-outside i 0 h (omega arith))
 
   pub name-outside : (i : ℕ) → i ≤ namesHeld → nameAt s ys i ≡ nameAt s xs i
-  name-outside i h = rw (word-outside i 2 h (omega arith)) rw (word-outside i 3 h (omega arith)) refl
+  name-outside i h = rw (word-outside i 0 h (omega arith)) rw (word-outside i 2 h (omega arith)) refl
 
   pub model-outside : (i : ℕ) → i ≤ namesHeld → modelAt s ys i ≡ modelAt s xs i
-  model-outside i h = rw (word-outside i 4 h (omega arith)) rw (word-outside i 5 h (omega arith)) refl
+  model-outside i h = rw (word-outside i 0 h (omega arith)) rw (word-outside i 3 h (omega arith)) refl
 
 pub outside-then : (xs ys zs : List ℕ) → Outside xs ys → Outside ys zs → Outside xs zs
 outside-then xs ys zs o p =

@@ -18,13 +18,12 @@ use Rattle.rules.specs.Last.{found}
 use Rattle.records.specs.declared.Kind.{Kind}
 use Rattle.records.specs.declared.Kind.the-variants.{OfComponent, OfPin, OfSelector, OfChoice, OfModel}
 use Rattle.notes.specs.Noted.{orUsed, clash}
-use Rattle.note_words.specs.Store.{namesHeld, kindAt, notedLine, nameAt, noteOf, noteAt, notesTo}
-use Rattle.note_words.proofs.Laws.{note-name, note-line}
-use Rattle.name_checks.specs.declared.Last.{Last}
-use Rattle.name_checks.specs.Lookup.{placeAt, modelAt, entryAt, entriesTo, entriesFrom, Outside, modelOrSelector, enclosed, reaches, reachesAt, targetTo, excused, toldOf, missing, withMark}
+use Rattle.note_words.specs.Store.{namesHeld, kindAt, nameAt, noteOf, noteAt, notesTo}
+use Rattle.note_words.proofs.Laws.{note-name}
+use Rattle.name_checks.specs.Lookup.{placeAt, modelAt, entryAt, entriesTo, entriesFrom, Outside, modelOrSelector, enclosed, reaches, reachesAt, targetTo, excused, missing, withMark}
 use Rattle.name_checks.proofs.NoteLaws.{note-kind}
 use Rattle.name_checks.proofs.ClashLaws.{either-is, usedAt}
-use Rattle.name_checks.proofs.OutsideLaws.{outside-place, line-outside, name-outside, model-outside}
+use Rattle.name_checks.proofs.OutsideLaws.{outside-place, name-outside, model-outside}
 
 -- ---- a pin or a selector row names another entry
 
@@ -179,17 +178,17 @@ row-reaches OfSelector = refl
 row-reaches OfChoice = refl
 row-reaches OfModel = refl
 
-module _ (s xs : List ℕ) (i n : ℕ) (later : Last) where
+module _ (s xs : List ℕ) (i n : ℕ) (later : ℕ) where
   told-unless : (t : Found) → excused (placeAt xs i) (modelAt s xs i) ≡ true → later ≡ missing s xs i later t
   told-unless (At j) h = refl
-  told-unless Nothing h = sym (cond-yes later (toldOf 15 (notedLine xs i)) h)
+  told-unless Nothing h = sym (cond-yes later i h)
 
-  pin-told : (t : Found) → placeAt xs i ≡ 1 → cond (needsNoModel (modelAt s xs i) || isAt t) later (toldOf 15 (notedLine xs i)) ≡ missing s xs i later t
+  pin-told : (t : Found) → placeAt xs i ≡ 1 → cond (needsNoModel (modelAt s xs i) || isAt t) later i ≡ missing s xs i later t
   unfolding excused
   pin-told (At j) h = by-test (needsNoModel (modelAt s xs i)) (λ t. rw t refl) (λ t. rw t refl)
   pin-told Nothing h = rw h rw (or-none (needsNoModel (modelAt s xs i))) refl
 
-  row-told : (t : Found) → placeAt xs i ≡ 3 → cond (isAt t) later (toldOf 15 (notedLine xs i)) ≡ missing s xs i later t
+  row-told : (t : Found) → placeAt xs i ≡ 3 → cond (isAt t) later i ≡ missing s xs i later t
   unfolding excused
   row-told (At j) h = refl
   row-told Nothing h = rw h refl
@@ -201,7 +200,7 @@ module _ (s xs : List ℕ) (i n : ℕ) (later : Last) where
   hits-as : (k : Kind) → noteAt s xs i .kind ≡ k → (j : ℕ) → (reaches (place k) (place (noteAt s xs j .kind)) && eqs (noteAt s xs i .names) (noteAt s xs j .name)) ≡ reachesAt s xs i j
   hits-as k e j = subst (λ (x : Kind). (reaches (place x) (place (noteAt s xs j .kind)) && eqs (noteAt s xs i .names) (noteAt s xs j .name)) ≡ reachesAt s xs i j) e (hits-at s xs i j)
 
-  found-kind : (k : Kind) → noteAt s xs i .kind ≡ k → cond (isFound (entriesFrom s xs 0 n) (entryAt s xs i) k) later (toldOf 15 (notedLine xs i)) ≡ missing s xs i later (targetTo s xs i n)
+  found-kind : (k : Kind) → noteAt s xs i .kind ≡ k → cond (isFound (entriesFrom s xs 0 n) (entryAt s xs i) k) later i ≡ missing s xs i later (targetTo s xs i n)
   unfolding excused enclosed
   found-kind OfComponent e = told-unless (targetTo s xs i n) (rw (number OfComponent e) refl)
   found-kind OfPin e =
@@ -217,8 +216,8 @@ module _ (s xs : List ℕ) (i n : ℕ) (later : Last) where
       rw (named-target s xs i (is OfModel) q n) (row-told (targetTo s xs i n) (number OfChoice e))
   found-kind OfModel e = told-unless (targetTo s xs i n) (rw (number OfModel e) refl)
 
-  pub found-told : cond (found (entriesFrom s xs 0 n) (entryAt s xs i)) later (toldOf 15 (noteAt s xs i .line)) ≡ missing s xs i later (targetTo s xs i n)
-  found-told = ap (cond (found (entriesFrom s xs 0 n) (entryAt s xs i)) later) (ap (toldOf 15) (note-line s xs i)) ∙ found-kind (noteAt s xs i .kind) refl
+  pub found-told : cond (found (entriesFrom s xs 0 n) (entryAt s xs i)) later i ≡ missing s xs i later (targetTo s xs i n)
+  found-told = found-kind (noteAt s xs i .kind) refl
 
 -- ---- by the tests that the code makes
 
@@ -233,7 +232,7 @@ module _ (s xs : List ℕ) (i j k l : ℕ) (kindI : k ≡ placeAt xs i) (kindJ :
 
 module _ (s xs : List ℕ) (i k : ℕ) (kind : k ≡ placeAt xs i) where
   -- a section marks nothing
-  pub section-marks : (later : Last) (n : ℕ) → enclosed k ≡ false → (later ≡ missing s xs i later (targetTo s xs i n)) × (xs ≡ withMark xs (targetTo s xs i n))
+  pub section-marks : (later : ℕ) (n : ℕ) → enclosed k ≡ false → (later ≡ missing s xs i later (targetTo s xs i n)) × (xs ≡ withMark xs (targetTo s xs i n))
   unfolding excused enclosed
   section-marks later n h =
       let g : enclosed (placeAt xs i) ≡ false = rw (← kind) h in
@@ -249,15 +248,15 @@ module _ (s xs : List ℕ) (i k : ℕ) (kind : k ≡ placeAt xs i) where
   excused-other t h e = rw (← kind) rw (ne-eqb k 1 h) e
 
 -- nothing is found: by whether something must be
-module _ (s xs : List ℕ) (i : ℕ) (later : Last) (t : Bool) (e : t ≡ excused (placeAt xs i) (modelAt s xs i)) where
+module _ (s xs : List ℕ) (i : ℕ) (later : ℕ) (t : Bool) (e : t ≡ excused (placeAt xs i) (modelAt s xs i)) where
   pub missing-excused : t ≡ true → later ≡ missing s xs i later Nothing
-  missing-excused h = sym (cond-yes later (toldOf 15 (notedLine xs i)) (sym e ∙ h))
+  missing-excused h = sym (cond-yes later i (sym e ∙ h))
 
-  pub missing-told : t ≡ false → toldOf 15 (notedLine xs i) ≡ missing s xs i later Nothing
-  missing-told h = sym (cond-no later (toldOf 15 (notedLine xs i)) (sym e ∙ h))
+  pub missing-told : t ≡ false → i ≡ missing s xs i later Nothing
+  missing-told h = sym (cond-no later i (sym e ∙ h))
 
 -- what the search says, said of what is marked and told
-pub target-marks : (s xs : List ℕ) (i n : ℕ) (later v : Last) (t x : Found) → t ≡ targetTo s xs i n → t ≡ x → v ≡ missing s xs i later x
+pub target-marks : (s xs : List ℕ) (i n : ℕ) (later v : ℕ) (t x : Found) → t ≡ targetTo s xs i n → t ≡ x → v ≡ missing s xs i later x
     → (v ≡ missing s xs i later (targetTo s xs i n)) × (withMark xs x ≡ withMark xs (targetTo s xs i n))
 target-marks s xs i n later v t x e f g =
     let z : targetTo s xs i n ≡ x = sym e ∙ f in
@@ -277,10 +276,10 @@ module _ (s xs ys : List ℕ) (o : Outside xs ys) where
   target-outside i (suc n) h g =
       rw (reach-outside i n h (omega (arith, g))) rw (target-outside i n h (omega (arith, g))) refl
 
-  pub missing-outside : (i : ℕ) (later : Last) (t : Found) → i ≤ namesHeld → missing s ys i later t ≡ missing s xs i later t
+  pub missing-outside : (i : ℕ) (later : ℕ) (t : Found) → i ≤ namesHeld → missing s ys i later t ≡ missing s xs i later t
   missing-outside i later (At j) h = refl
   missing-outside i later Nothing h =
-      rw (outside-place xs ys i o h) rw (model-outside s xs ys o i h) rw (line-outside s xs ys o i h) refl
+      rw (outside-place xs ys i o h) rw (model-outside s xs ys o i h) refl
 
 -- ---- models and selectors have names of their own
 

@@ -20,7 +20,7 @@ use Rattle.records.specs.Bounds.{most}
 use Rattle.records.specs.declared.Kind.{Kind}
 use Rattle.records.specs.declared.Kind.the-variants.{OfComponent, OfPin, OfSelector, OfChoice, OfModel}
 use Rattle.notes.specs.Noted.{Note, entryOf}
-use Rattle.note_words.specs.Store.{byKindFrom, listFrom, wavesFrom, storeLength, kindOf, kindAt, notedLine, nameAt, rowAt, noteAt, notesTo}
+use Rattle.note_words.specs.Store.{byKindFrom, listFrom, wavesFrom, storeLength, kindOf, kindAt, notedLine, partStart, partEnd, nameAt, rowAt, noteAt, notesTo}
 use Rattle.layout_by_notes.specs.Lies.{pick, isOf}
 use Rattle.name_checks.specs.declared.Clash.{Clash}
 use Rattle.name_checks.specs.declared.Clash.the-variants.{At, NoClash}
@@ -51,9 +51,9 @@ unfoldable pub entriesFrom : List ℕ → List ℕ → ℕ → ℕ → List Entr
 entriesFrom s xs i zero = []
 entriesFrom s xs i (suc n) = entryAt s xs i ∷ entriesFrom s xs (i + 1) n
 
--- the part of the file that two words of a note say
-abbrev pub partSaid : List ℕ → ℕ → Word
-partSaid xs at = record { start = getD xs at 0; end = getD xs (at + 1) 0 }
+-- the part of the file that word j of a note says
+abbrev pub partSaid : List ℕ → ℕ → ℕ → Word
+partSaid xs i j = record { start = partStart xs i j; end = partEnd xs i j }
 
 -- a part from a to e, in a file of n bytes: cut at its end, and empty where it begins past it or ends before it begins
 unfoldable pub movedIn : ℕ → ℕ → ℕ → Word
@@ -192,10 +192,14 @@ excused k w = cond (eqb k (place OfPin)) (needsNoModel w) (not (eqb k (place OfC
 unfoldable pub toldOf : ℕ → ℕ → Last
 toldOf number line = cond (eqb line 0) Fine (Faulty (record { number = number; line = line }))
 
--- the fault of the name at place i where it names nothing, else that of the later ones
-abbrev pub missing : List ℕ → List ℕ → ℕ → Last → Found → Last
+-- the fault of the name at place i, of n names; there is none where it is not one of them
+abbrev pub toldAt : List ℕ → List ℕ → ℕ → ℕ → ℕ → Last
+toldAt s xs number n i = cond (ltb i n) (toldOf number (notedLine s xs i)) Fine
+
+-- place i where the name there names nothing, else that of the later ones
+abbrev pub missing : List ℕ → List ℕ → ℕ → ℕ → Found → ℕ
 missing s xs i later (answer.At j) = later
-missing s xs i later answer.Nothing = cond (excused (placeAt xs i) (modelAt s xs i)) later (toldOf 15 (notedLine xs i))
+missing s xs i later answer.Nothing = cond (excused (placeAt xs i) (modelAt s xs i)) later i
 
 -- ---- marks of what is listed: a word a name, where later the names lie by kind
 
@@ -226,19 +230,19 @@ marked es f OfModel = lists (is OfPin) (f .name) es || lists (is OfChoice) (f .n
 abbrev pub Marks : List ℕ → List ℕ → List Entry → ℕ → List ℕ → Type 0
 Marks s xs es n ys = (j : ℕ) → j < n → isMarked ys j ≡ marked es (entryAt s xs j) (noteAt s xs j .kind)
 
--- all pins and selector rows have marked what they name, and r is the fault of the first that names nothing
-pub record Marked (s xs ys : List ℕ) (n : ℕ) (r : Last) : Type 0 where
-  pub first : r ≡ toldOf 15 (firstFailing (found (entriesFrom s xs 0 n)) (entriesFrom s xs 0 n))
+-- all pins and selector rows have marked what they name, and r is the place of the first that names nothing
+pub record Marked (s xs ys : List ℕ) (n r : ℕ) : Type 0 where
+  pub first : toldAt s xs 15 n r ≡ toldOf 15 (firstFailing (found (entriesFrom s xs 0 n)) (entriesFrom s xs 0 n))
   pub outside : Outside xs ys
   pub marks : Marks s xs (entriesFrom s xs 0 n) n ys
 
--- the fault of the name at place j where it is a model's or a selector's and not marked, else that of the later ones
-unfoldable pub unmarked : List ℕ → ℕ → Last → Last
-unmarked xs j later = cond (modelOrSelector (placeAt xs j)) (cond (isMarked xs j) later (toldOf 16 (notedLine xs j))) later
+-- place j where the name there is a model's or a selector's and not marked, else that of the later ones
+unfoldable pub unmarked : List ℕ → ℕ → ℕ → ℕ
+unmarked xs j later = cond (modelOrSelector (placeAt xs j)) (cond (isMarked xs j) later j) later
 
--- the first such fault of n names from place j on
-unfoldable pub unmarkedFrom : List ℕ → ℕ → ℕ → Last
-unmarkedFrom xs j zero = Fine
+-- the first such place of n names from place j on; the place behind them if there is none
+unfoldable pub unmarkedFrom : List ℕ → ℕ → ℕ → ℕ
+unmarkedFrom xs j zero = j
 unmarkedFrom xs j (suc n) = unmarked xs j (unmarkedFrom xs (j + 1) n)
 
 abbrev pub lastIs : Outcome → Last → Outcome

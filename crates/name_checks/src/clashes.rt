@@ -21,7 +21,6 @@ use note_words::OF_CHOICE;
 use note_words::OF_MODEL;
 use note_words::OF_PIN;
 use note_words::OF_SELECTOR;
-use note_words::WORDS_PER_NAME;
 use words::Word;
 
 pub fn model_or_selector(k: usize) -> bool
@@ -54,12 +53,12 @@ pub fn is_enclosed(k: usize) -> bool
 }
 
 // A name of kind k, and the earlier one at place j.
-fn meet(src: &[u8], notes: &[u32], k: usize, name: Word, j: usize) -> Meeting
+fn meet(src: &[u8], notes: &[u16], k: usize, name: Word, j: usize) -> Meeting
     requires { ⌜ j ≤ namesHeld ⌝ }
     ensures { λ r. ⌜ r ≡ meeting k (placeAt (now (notes .entry)) j) (eqs (part (name .start) (name .end) (now (src .entry))) (nameAt (now (src .entry)) (now (notes .entry)) j)) ⌝ }
 {
     if are_rivals(k, kind_at(notes, j)) {
-        let earlier = part_at(notes, WORDS_PER_NAME * j + NAME);
+        let earlier = part_at(notes, j, NAME);
         if same_parts(src, name, earlier) {
             return Meeting::Equal;
         }
@@ -72,7 +71,7 @@ fn meet(src: &[u8], notes: &[u32], k: usize, name: Word, j: usize) -> Meeting
 }
 
 // The first name that an earlier one equals, by its line.
-pub fn first_clash(src: &[u8], notes: &[u32], n: usize) -> Clash
+pub fn first_clash(src: &[u8], notes: &[u16], n: usize) -> Clash
     requires { ⌜ n ≤ mostNames ⌝ }
     ensures { λ r. ⌜ r ≡ clashOf (clash (entriesTo (now (src .entry)) (now (notes .entry)) n)) ⌝ }
 {
@@ -81,7 +80,7 @@ pub fn first_clash(src: &[u8], notes: &[u32], n: usize) -> Clash
     let mut i = 0;
     'scan: while i < n {
         let k = kind_at(notes, i);
-        let name = part_at(notes, WORDS_PER_NAME * i + NAME);
+        let name = part_at(notes, i, NAME);
         let key = key_of(src, name, k, section);
         let mut j = to_meet(&seen, key, i);
         while 0 < j {
@@ -98,7 +97,7 @@ pub fn first_clash(src: &[u8], notes: &[u32], n: usize) -> Clash
         i += 1;
     }
     if i < n {
-        return Clash::At(line_at(notes, i));
+        return Clash::At(line_at(src, notes, i));
     }
     Clash::NoClash
 }

@@ -12,7 +12,6 @@ use crate::seen::SEEN_WORDS;
 use crate::seen::see;
 use note_words::NAME;
 use note_words::OF_MODEL;
-use note_words::WORDS_PER_NAME;
 use words::Word;
 
 // A slot for each remainder of a key, with the place of a name that has such a key: 64 names seldom meet in one.
@@ -28,7 +27,7 @@ pub fn target_key(src: &[u8], name: Word) -> usize
 // The name at place i is listed where it is a model's or a selector's.
 fn list_name(
     src: &[u8],
-    notes: &[u32],
+    notes: &[u16],
     i: usize,
     seen: &mut [u64; SEEN_WORDS],
     slots: &mut [u16; SLOTS],
@@ -40,7 +39,7 @@ fn list_name(
     if !model_or_selector(kind_at(notes, i)) {
         return;
     }
-    let name = part_at(notes, WORDS_PER_NAME * i + NAME);
+    let name = part_at(notes, i, NAME);
     let key = target_key(src, name);
     see(seen, key);
     slots[key % SLOTS] = i as u16;
@@ -49,7 +48,7 @@ fn list_name(
 // The first n names are listed.
 pub fn list_names(
     src: &[u8],
-    notes: &[u32],
+    notes: &[u16],
     n: usize,
     seen: &mut [u64; SEEN_WORDS],
     slots: &mut [u16; SLOTS],

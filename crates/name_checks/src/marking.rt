@@ -7,8 +7,9 @@ ghost use lib.ListN.{length};
 ghost use lib.Dec.{ltb};
 ghost use Rattle.name_table.specs.declared.Found.the-variants.{Nothing};
 ghost use Rattle.notes.specs.Noted.{clash};
-ghost use Rattle.note_words.specs.Store.{namesHeld, storeLength};
-ghost use Rattle.name_checks.specs.Lookup.{reaches, reachesAt, targetTo, excused, modelAt, placeAt, toldOf, missing, clearedTo, Clear, withMark, entriesTo, Listed, Outside, Marked, unmarked, unmarkedFrom, Concludes};
+ghost use Rattle.note_words.specs.Store.{namesHeld, storeLength, notedLine};
+ghost use Rattle.name_checks.specs.declared.Last.the-variants.{Faulty};
+ghost use Rattle.name_checks.specs.Lookup.{reaches, reachesAt, targetTo, excused, modelAt, placeAt, missing, clearedTo, Clear, withMark, entriesTo, Listed, Outside, Marked, unmarked, unmarkedFrom, Concludes};
 use crate::Last;
 use crate::clashes::is_enclosed;
 use crate::clashes::model_or_selector;
@@ -30,7 +31,6 @@ use note_words::OF_MODEL;
 use note_words::OF_PIN;
 use note_words::OF_SELECTOR;
 use note_words::ROW_MODEL;
-use note_words::WORDS_PER_NAME;
 use records::Fault;
 
 // A pin names a model or a selector, a selector row a model.
@@ -47,21 +47,21 @@ fn may_name(k: usize, l: usize) -> bool
 }
 
 // The name at place i names the one at place j.
-fn names_it(src: &[u8], notes: &[u32], i: usize, j: usize) -> bool
+fn names_it(src: &[u8], notes: &[u16], i: usize, j: usize) -> bool
     requires { ⌜ (i ≤ namesHeld) × (j ≤ namesHeld) ⌝ }
     ensures { λ r. ⌜ r ≡ reachesAt (now (src .entry)) (now (notes .entry)) i j ⌝ }
 {
     let k = kind_at(notes, i);
     if may_name(k, kind_at(notes, j)) {
-        let model = part_at(notes, WORDS_PER_NAME * i + ROW_MODEL);
-        let name = part_at(notes, WORDS_PER_NAME * j + NAME);
+        let model = part_at(notes, i, ROW_MODEL);
+        let name = part_at(notes, j, NAME);
         return same_parts(src, model, name);
     }
     false
 }
 
 // The last of n names that the one at place i names. Most files have their models behind the pins.
-fn search_target(src: &[u8], notes: &[u32], n: usize, i: usize) -> Found
+fn search_target(src: &[u8], notes: &[u16], n: usize, i: usize) -> Found
     requires { ⌜ (n ≤ namesHeld) × (i ≤ namesHeld) ⌝ }
     ensures { λ r. ⌜ r ≡ targetTo (now (src .entry)) (now (notes .entry)) i n ⌝ }
 {
@@ -76,7 +76,7 @@ fn search_target(src: &[u8], notes: &[u32], n: usize, i: usize) -> Found
 }
 
 // The name at place i names the one at place j, which is one of n.
-fn is_target(src: &[u8], notes: &[u32], n: usize, i: usize, j: usize) -> bool
+fn is_target(src: &[u8], notes: &[u16], n: usize, i: usize, j: usize) -> bool
     requires { ⌜ (n ≤ namesHeld) × (i ≤ namesHeld) ⌝ }
     ensures { λ r. ⌜ r ≡ (ltb j n && reachesAt (now (src .entry)) (now (notes .entry)) i j) ⌝ }
 {
@@ -95,7 +95,7 @@ fn place_of(slot: u16) -> usize
 // What the name at place i names, of n: nothing where the key was not seen, else the name in the key's slot, else what is searched for.
 fn find_target(
     src: &[u8],
-    notes: &[u32],
+    notes: &[u16],
     n: usize,
     i: usize,
     seen: &[u64; SEEN_WORDS],
@@ -105,7 +105,7 @@ fn find_target(
     requires { ⌜ (clash (entriesTo (now src) (now notes) n) ≡ none) × Listed (now src) (now notes) n (now seen) ⌝ }
     ensures { λ r. ⌜ r ≡ targetTo (now (src .entry)) (now (notes .entry)) i n ⌝ }
 {
-    let model = part_at(notes, WORDS_PER_NAME * i + ROW_MODEL);
+    let model = part_at(notes, i, ROW_MODEL);
     let key = target_key(src, model);
     if !is_seen(seen, key) {
         return Found::Nothing;
@@ -117,24 +117,25 @@ fn find_target(
     search_target(src, notes, n, i)
 }
 
-// A fault is told at its line; where there is no line there is none.
-fn told(f: Fault) -> Last
-    ensures { λ r. ⌜ r ≡ toldOf (f .number) (f .line) ⌝ }
+// The name at place i is at fault.
+fn faulty(src: &[u8], notes: &[u16], number: u8, i: usize) -> Last
+    requires { ⌜ i ≤ namesHeld ⌝ }
+    ensures { λ r. ⌜ r ≡ Faulty (record { number = number; line = notedLine (now (src .entry)) (now (notes .entry)) i }) ⌝ }
 {
-    if f.line == 0 {
-        return Last::Fine;
-    }
-    Last::Faulty(f)
+    Last::Faulty(Fault {
+        number: number,
+        line: line_at(src, notes, i),
+    })
 }
 
 // Nothing need be found: of a section, and of a pin that needs no model.
-fn is_excused(src: &[u8], notes: &[u32], i: usize) -> bool
+fn is_excused(src: &[u8], notes: &[u16], i: usize) -> bool
     requires { ⌜ i ≤ namesHeld ⌝ }
     ensures { λ r. ⌜ r ≡ excused (placeAt (now (notes .entry)) i) (modelAt (now (src .entry)) (now (notes .entry)) i) ⌝ }
 {
     let k = kind_at(notes, i);
     if k == OF_PIN {
-        let w = within(src, part_at(notes, WORDS_PER_NAME * i + ROW_MODEL));
+        let w = within(src, part_at(notes, i, ROW_MODEL));
         let a = w.start;
         let e = w.end;
         return named_lines::needs_no_model(&src[a..e]);
@@ -142,16 +143,16 @@ fn is_excused(src: &[u8], notes: &[u32], i: usize) -> bool
     k != OF_CHOICE
 }
 
-// Marks what the name at place i names. The fault of the first from there on that names nothing, given that of the later ones.
+// Marks what the name at place i names. The place of the first from there on that names nothing, given that of the later ones.
 fn mark_target(
     src: &[u8],
-    notes: &mut [u32],
+    notes: &mut [u16],
     n: usize,
     i: usize,
     seen: &[u64; SEEN_WORDS],
     slots: &[u16; SLOTS],
-    later: Last,
-) -> Last
+    later: usize,
+) -> usize
     requires { ⌜ (n ≤ namesHeld) × (i < n) × (storeLength ≤ length (now notes)) ⌝ }
     requires { ⌜ (clash (entriesTo (now src) (now notes) n) ≡ none) × Listed (now src) (now notes) n (now seen) ⌝ }
     ensures { λ r. ⌜ r ≡ missing (now (src .entry)) (now (notes .entry)) i later (targetTo (now (src .entry)) (now (notes .entry)) i n) ⌝ }
@@ -165,16 +166,13 @@ fn mark_target(
         if is_excused(src, notes, i) {
             return later;
         }
-        return told(Fault {
-            number: 15,
-            line: line_at(notes, i),
-        });
+        return i;
     };
     notes[BY_KIND_FROM + j] = 1;
     later
 }
 
-fn clear_marks(notes: &mut [u32], n: usize)
+fn clear_marks(notes: &mut [u16], n: usize)
     requires { ⌜ (n ≤ namesHeld) × (storeLength ≤ length (now notes)) ⌝ }
     ensures { λ _. ⌜ now (notes .exit) ≡ clearedTo (now (notes .entry)) n ⌝ }
 {
@@ -185,8 +183,8 @@ fn clear_marks(notes: &mut [u32], n: usize)
     }
 }
 
-// From the last name up to the first: each marks what it names. The fault of the first that names nothing.
-fn mark_targets(src: &[u8], notes: &mut [u32], n: usize) -> Last
+// From the last name up to the first: each marks what it names. The place of the first that names nothing; n if there is none.
+fn mark_targets(src: &[u8], notes: &mut [u16], n: usize) -> usize
     requires { ⌜ (n ≤ namesHeld) × (storeLength ≤ length (now notes)) ⌝ }
     requires { ⌜ clash (entriesTo (now src) (now notes) n) ≡ none ⌝ }
     requires { ⌜ Clear (now notes) n ⌝ }
@@ -195,7 +193,7 @@ fn mark_targets(src: &[u8], notes: &mut [u32], n: usize) -> Last
     let mut seen = [0u64; SEEN_WORDS];
     let mut slots = [0u16; SLOTS];
     list_names(src, notes, n, &mut seen, &mut slots);
-    let mut first = Last::Fine;
+    let mut first = n;
     let mut i = n;
     while 0 < i {
         i -= 1;
@@ -204,8 +202,8 @@ fn mark_targets(src: &[u8], notes: &mut [u32], n: usize) -> Last
     first
 }
 
-// The fault of the name at place j where it is a model's or a selector's and not marked, else that of the later ones.
-fn unlisted_at(notes: &[u32], j: usize, later: Last) -> Last
+// Place j where the name there is a model's or a selector's and not marked, else that of the later ones.
+fn unlisted_at(notes: &[u16], j: usize, later: usize) -> usize
     requires { ⌜ j ≤ namesHeld ⌝ }
     ensures { λ r. ⌜ r ≡ unmarked (now (notes .entry)) j later ⌝ }
 {
@@ -213,20 +211,17 @@ fn unlisted_at(notes: &[u32], j: usize, later: Last) -> Last
         if note_words::word(notes, BY_KIND_FROM + j) == 1 {
             return later;
         }
-        return told(Fault {
-            number: 16,
-            line: line_at(notes, j),
-        });
+        return j;
     }
     later
 }
 
-// The fault of the first model or selector that is not marked.
-fn first_unlisted(notes: &[u32], n: usize) -> Last
+// The place of the first model or selector that is not marked; n if there is none.
+fn first_unlisted(notes: &[u16], n: usize) -> usize
     requires { ⌜ n ≤ namesHeld ⌝ }
     ensures { λ r. ⌜ r ≡ unmarkedFrom (now (notes .entry)) 0 n ⌝ }
 {
-    let mut first = Last::Fine;
+    let mut first = n;
     let mut j = n;
     while 0 < j {
         j -= 1;
@@ -236,7 +231,7 @@ fn first_unlisted(notes: &[u32], n: usize) -> Last
 }
 
 // The first name that is not found; where all are, the first section that nobody lists. The marks lie where later the names lie by kind.
-pub fn last_fault(src: &[u8], notes: &mut [u32], n: usize) -> Last
+pub fn last_fault(src: &[u8], notes: &mut [u16], n: usize) -> Last
     requires { ⌜ (n ≤ namesHeld) × (storeLength ≤ length (now notes)) ⌝ }
     requires { ⌜ clash (entriesTo (now src) (now notes) n) ≡ none ⌝ }
     ensures { λ r. ⌜ Concludes (entriesTo (now (src .entry)) (now (notes .entry)) n) r ⌝ }
@@ -244,8 +239,12 @@ pub fn last_fault(src: &[u8], notes: &mut [u32], n: usize) -> Last
 {
     clear_marks(notes, n);
     let missing = mark_targets(src, notes, n);
-    match missing {
-        Last::Fine => first_unlisted(notes, n),
-        Last::Faulty(f) => Last::Faulty(f),
+    if missing < n {
+        return faulty(src, notes, 15, missing);
     }
+    let unlisted = first_unlisted(notes, n);
+    if unlisted < n {
+        return faulty(src, notes, 16, unlisted);
+    }
+    Last::Fine
 }

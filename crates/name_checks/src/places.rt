@@ -1,40 +1,47 @@
 // A note's words: its kind by number, its line, and where its names lie.
 ghost use mathlib.Core.Path.{_≡_};
-ghost use Prim.Native.Nat.{_≤_};
+ghost use Prim.Native.Nat.{_≤_, _<_};
 ghost use Rattle.laws.specs.Lists.{part, eqs};
-ghost use Rattle.note_words.specs.Store.{namesHeld, byKindFrom, notedLine};
+ghost use Rattle.note_words.specs.Store.{namesHeld, wordsPerName, notedLine};
 ghost use Rattle.name_checks.specs.Lookup.{placeAt, partSaid, Within};
-use note_words::LINE;
+use note_words::AT;
+use note_words::KIND;
 use note_words::OF_MODEL;
+use note_words::PAIR;
 use note_words::WORDS_PER_NAME;
 use words::Word;
 
-pub fn kind_at(notes: &[u32], i: usize) -> usize
+pub fn kind_at(notes: &[u16], i: usize) -> usize
     requires { ⌜ i ≤ namesHeld ⌝ }
     ensures { λ r. ⌜ r ≡ placeAt (now (notes .entry)) i ⌝ }
 {
-    let w = note_words::word(notes, WORDS_PER_NAME * i);
-    if w < OF_MODEL {
-        return w;
+    let k = note_words::word(notes, WORDS_PER_NAME * i + KIND) / PAIR;
+    if k < OF_MODEL {
+        return k;
     }
     OF_MODEL
 }
 
-pub fn line_at(notes: &[u32], i: usize) -> u64
+// The number of the line that the name at place i stands on: lines are counted for it, so it is asked for once.
+pub fn line_at(src: &[u8], notes: &[u16], i: usize) -> u64
     requires { ⌜ i ≤ namesHeld ⌝ }
-    ensures { λ r. ⌜ r ≡ notedLine (now (notes .entry)) i ⌝ }
+    ensures { λ r. ⌜ r ≡ notedLine (now (src .entry)) (now (notes .entry)) i ⌝ }
 {
-    note_words::word(notes, WORDS_PER_NAME * i + LINE) as u64
+    let at = note_words::word(notes, WORDS_PER_NAME * i + AT);
+    lines::line_number(src, at)
 }
 
-// The part of the file that a note's words at + 0 and at + 1 say, as they stand.
-pub fn part_at(notes: &[u32], at: usize) -> Word
-    requires { ⌜ at ≤ byKindFrom ⌝ }
-    ensures { λ r. ⌜ r ≡ partSaid (now (notes .entry)) at ⌝ }
+// The part of the file that word j of the name at place i says, as it stands.
+pub fn part_at(notes: &[u16], i: usize, j: usize) -> Word
+    requires { ⌜ (i ≤ namesHeld) × (j < wordsPerName) ⌝ }
+    ensures { λ r. ⌜ r ≡ partSaid (now (notes .entry)) i j ⌝ }
 {
+    let at = note_words::word(notes, WORDS_PER_NAME * i + AT);
+    let w = note_words::word(notes, WORDS_PER_NAME * i + j);
+    let start = at + w / PAIR;
     Word {
-        start: note_words::word(notes, at),
-        end: note_words::word(notes, at + 1),
+        start: start,
+        end: start + w % PAIR,
     }
 }
 

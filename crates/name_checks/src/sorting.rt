@@ -29,7 +29,7 @@ fn kind_from(k: usize) -> usize
     }
 }
 
-pub fn sort_by_kind(notes: &mut [u32], n: usize)
+pub fn sort_by_kind(notes: &mut [u16], n: usize)
     requires { ⌜ (n ≤ namesHeld) × (storeLength ≤ length (now notes)) ⌝ }
     requires { ⌜ Roomy (now notes) n ⌝ }
     ensures { λ _. ⌜ now (notes .exit) ≡ sortedTo (now (notes .entry)) n ⌝ }
@@ -41,7 +41,7 @@ pub fn sort_by_kind(notes: &mut [u32], n: usize)
         let k = kind_at(notes, i);
         let m = used[k];
         let at = kind_from(k) + m;
-        notes[at] = i as u32;
+        notes[at] = i as u16;
         used[k] = m + 1;
         i += 1;
     }

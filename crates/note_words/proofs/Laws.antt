@@ -1,5 +1,5 @@
 -- Laws of `specs/Store.antt`: what is read where words were written, and where none were.
-use Prim.Native.Nat.{ℕ, zero, suc, _+_, _*_, _≤_, _<_}
+use Prim.Native.Nat.{ℕ, zero, suc, _+_, _*_, _/_, _%_, _≤_, _<_}
 use mathlib.Core.Path.{_≡_, refl, ap, _∙_}
 use mathlib.Core.List.{List, [], _∷_}
 use mathlib.Core.Bool.{true, false, cond}
@@ -11,7 +11,7 @@ use Rattle.records.specs.declared.Counts.{Counts}
 use Rattle.laws.proofs.Tests.{by-test, cond-yes, cond-no}
 use Rattle.records.specs.declared.Kind.{Kind}
 use Rattle.notes.specs.Noted.{Note}
-use Rattle.note_words.specs.Store.{namesHeld, mostNames, wordsPerName, wordsPerWave, wavesFrom, wordsOfSection, sectionFrom, sectionAt, wordsOfRow, rowFrom, rowAt, kindOf, kindAt, nameWord, notedLine, nameAt, isSection, noteOf, noteAt, waveWords, waveAt, notesTo, wavesTo, logIn}
+use Rattle.note_words.specs.Store.{namesHeld, mostNames, wordsPerName, wordsPerWave, wavesFrom, wordsOfSection, SectionFits, cursorAt, sectionFrom, sectionAt, wordsOfRow, RowFits, rowFrom, rowAt, kindOf, kindAt, nameWord, notedLine, partStart, partEnd, nameAt, isSection, noteOf, noteAt, waveWords, waveAt, notesTo, wavesTo, logIn}
 use Rattle.note_words.specs.declared.SectionNote.{SectionNote}
 use Rattle.note_words.specs.declared.RowNote.{RowNote}
 use lib.Seq.{sets, getD-set-same, getD-set-other, drop-cons}
@@ -53,27 +53,26 @@ abbrev pub Agree : ℕ → ℕ → List ℕ → List ℕ → Type 0
 Agree a b xs ys = (k : ℕ) → a ≤ k → k < b → getD xs k 0 ≡ getD ys k 0
 
 module _ (s xs ys : List ℕ) (i : ℕ) (h : Agree (wordsPerName * i) (wordsPerName * i + wordsPerName) xs ys) where
-  first-agree : getD xs (wordsPerName * i) 0 ≡ getD ys (wordsPerName * i) 0
-  first-agree = h (wordsPerName * i) (omega arith) (omega arith)
-
   word-agree : (j : ℕ) → j < wordsPerName → nameWord xs i j ≡ nameWord ys i j
   word-agree j b = h (wordsPerName * i + j) (omega arith) (omega arith)
 
+  kind-agree : kindAt xs i ≡ kindAt ys i
+  kind-agree = rw (word-agree 1 (omega arith)) refl
+
   section-agree : sectionAt xs i ≡ sectionAt ys i
   section-agree =
-      rw first-agree rw (word-agree 1 (omega arith)) rw (word-agree 2 (omega arith)) rw (word-agree 3 (omega arith)) rw (word-agree 4 (omega arith))
-      rw (word-agree 5 (omega arith)) rw (word-agree 6 (omega arith)) rw (word-agree 7 (omega arith)) rw (word-agree 8 (omega arith)) refl
+      rw (word-agree 0 (omega arith)) rw (word-agree 1 (omega arith)) rw (word-agree 2 (omega arith)) rw (word-agree 3 (omega arith))
+      rw (word-agree 4 (omega arith)) rw (word-agree 5 (omega arith)) refl
 
   row-agree : rowAt xs i ≡ rowAt ys i
   row-agree =
-      rw first-agree rw (word-agree 1 (omega arith)) rw (word-agree 2 (omega arith)) rw (word-agree 3 (omega arith)) rw (word-agree 4 (omega arith))
-      rw (word-agree 5 (omega arith)) rw (word-agree 6 (omega arith)) rw (word-agree 7 (omega arith)) refl
+      rw (word-agree 0 (omega arith)) rw (word-agree 1 (omega arith)) rw (word-agree 2 (omega arith)) rw (word-agree 3 (omega arith)) refl
 
   pub note-agree : noteAt s xs i ≡ noteAt s ys i
   unfolding noteAt
   note-agree =
       let k = kindAt ys i in
-      ap (λ (w : ℕ). noteOf s xs i (kindOf w)) first-agree
+      ap (noteOf s xs i) kind-agree
       ∙ ap (λ (x : SectionNote). cond (isSection k) (sectionFrom s k x) (rowFrom s k (rowAt xs i))) section-agree
       ∙ ap (λ (y : RowNote). cond (isSection k) (sectionFrom s k (sectionAt ys i)) (rowFrom s k y)) row-agree
 
@@ -87,7 +86,7 @@ pub wave-agree : (s xs ys : List ℕ) (j : ℕ) → Agree (wavesFrom + wordsPerW
 unfolding waveAt
 wave-agree s xs ys j h =
     let w = wavesFrom + wordsPerWave * j in
-    rw (h w (omega arith) (omega arith)) rw (h (w + 1) (omega arith) (omega arith)) rw (h (w + 2) (omega arith) (omega arith)) rw (h (w + 3) (omega arith) (omega arith)) refl
+    rw (h (w + 0) (omega arith) (omega arith)) rw (h (w + 1) (omega arith) (omega arith)) rw (h (w + 2) (omega arith) (omega arith)) refl
 
 pub waves-agree : (s xs ys : List ℕ) (n : ℕ) → Agree wavesFrom (wavesFrom + wordsPerWave * n) xs ys → wavesTo s xs n ≡ wavesTo s ys n
 unfolding wavesTo
@@ -105,7 +104,7 @@ module _ (s xs : List ℕ) (i : ℕ) where
   unfolding noteAt
   note-kind = of-kind (kindAt xs i)
 
-  pub note-line : noteAt s xs i .line ≡ notedLine xs i
+  pub note-line : noteAt s xs i .line ≡ notedLine s xs i
   unfolding noteAt
   note-line = by-test (isSection (kindAt xs i)) (λ t. rw t refl) (λ t. rw t refl)
 
@@ -116,68 +115,86 @@ module _ (s xs : List ℕ) (i : ℕ) where
 -- ---- what a note that was put says
 
 module _ (s xs : List ℕ) (i : ℕ) (h : wordsPerName * i + wordsPerName ≤ length xs) where
-  module _ (ws : List ℕ) (nine : length ws ≡ wordsPerName) where
-    word-put : (j : ℕ) → j < wordsPerName → nameWord (sets xs (wordsPerName * i) ws) i j ≡ getD ws j 0
-    word-put j b = get-among xs ws (wordsPerName * i) j (omega (arith, nine)) (omega (arith, nine))
+  word-put : (ws : List ℕ) → length ws ≡ wordsPerName → (j : ℕ) → j < wordsPerName → nameWord (sets xs (wordsPerName * i) ws) i j ≡ getD ws j 0
+  word-put ws six j b = get-among xs ws (wordsPerName * i) j (omega (arith, six)) (omega (arith, six))
 
-    first-put : getD (sets xs (wordsPerName * i) ws) (wordsPerName * i) 0 ≡ getD ws 0 0
-    first-put =
-        let e : wordsPerName * i ≡ wordsPerName * i + 0 = omega arith in
-        ap (λ (k : ℕ). getD (sets xs (wordsPerName * i) ws) k 0) e ∙ word-put 0 (omega arith)
+  module _ (x : SectionNote) (f : SectionFits x) where
+    abbrev withSection : List ℕ
+    withSection = sets xs (wordsPerName * i) (wordsOfSection x)
 
-  section-put : (x : SectionNote) → sectionAt (sets xs (wordsPerName * i) (wordsOfSection x)) i ≡ x
-  section-put x =
-      let g : (j : ℕ) → j < wordsPerName → nameWord (sets xs (wordsPerName * i) (wordsOfSection x)) i j ≡ getD (wordsOfSection x) j 0 = word-put (wordsOfSection x) refl in
-      rw (first-put (wordsOfSection x) refl) rw (g 1 (omega arith)) rw (g 2 (omega arith)) rw (g 3 (omega arith)) rw (g 4 (omega arith)) rw (g 5 (omega arith))
-      rw (g 6 (omega arith)) rw (g 7 (omega arith)) rw (g 8 (omega arith)) refl
+    section-word : (j : ℕ) → j < wordsPerName → nameWord withSection i j ≡ getD (wordsOfSection x) j 0
+    section-word = word-put (wordsOfSection x) refl
 
-  row-put : (x : RowNote) → rowAt (sets xs (wordsPerName * i) (wordsOfRow x)) i ≡ x
-  row-put x =
-      let g : (j : ℕ) → j < wordsPerName → nameWord (sets xs (wordsPerName * i) (wordsOfRow x)) i j ≡ getD (wordsOfRow x) j 0 = word-put (wordsOfRow x) refl in
-      rw (first-put (wordsOfRow x) refl) rw (g 1 (omega arith)) rw (g 2 (omega arith)) rw (g 3 (omega arith)) rw (g 4 (omega arith)) rw (g 5 (omega arith))
-      rw (g 6 (omega arith)) rw (g 7 (omega arith)) refl
+    section-kind : nameWord withSection i 1 / 256 ≡ x .kind
+    section-kind = omega (arith, section-word 1 (omega arith), f .comment)
+
+    section-put : sectionAt withSection i ≡ x
+    section-put =
+        let at : nameWord withSection i 0 ≡ x .at = section-word 0 (omega arith) in
+        let comment : nameWord withSection i 1 % 256 ≡ x .comment = omega (arith, section-word 1 (omega arith), f .comment) in
+        let name : partStart withSection i 2 ≡ x .name = omega (arith, at, section-word 2 (omega arith), f .from, f .order, f .short) in
+        let end : partEnd withSection i 2 ≡ x .«name_end» = omega (arith, at, section-word 2 (omega arith), f .from, f .order, f .short) in
+        λ t. record { kind = section-kind t; at = at t; name = name t; «name_end» = end t; start = section-word 3 (omega arith) t; row = section-word 4 (omega arith) t; comment = comment t; section = section-word 5 (omega arith) t }
+
+  module _ (x : RowNote) (f : RowFits x) where
+    abbrev withRow : List ℕ
+    withRow = sets xs (wordsPerName * i) (wordsOfRow x)
+
+    row-word : (j : ℕ) → j < wordsPerName → nameWord withRow i j ≡ getD (wordsOfRow x) j 0
+    row-word = word-put (wordsOfRow x) refl
+
+    row-kind : nameWord withRow i 1 / 256 ≡ x .kind
+    row-kind = omega (arith, row-word 1 (omega arith), f .text, f .short)
+
+    row-put : rowAt withRow i ≡ x
+    row-put =
+        let at : nameWord withRow i 0 ≡ x .at = row-word 0 (omega arith) in
+        let text : nameWord withRow i 0 + nameWord withRow i 1 % 256 ≡ x .«text_end» = omega (arith, at, row-word 1 (omega arith), f .text, f .short) in
+        let name : partStart withRow i 2 ≡ x .name = omega (arith, at, row-word 2 (omega arith), f .from, f .order, f .ends, f .short) in
+        let end : partEnd withRow i 2 ≡ x .«name_end» = omega (arith, at, row-word 2 (omega arith), f .from, f .order, f .ends, f .short) in
+        let model : partStart withRow i 3 ≡ x .model = omega (arith, at, row-word 3 (omega arith), f .model-from, f .model-order, f .model-ends, f .short) in
+        let model-end : partEnd withRow i 3 ≡ x .«model_end» = omega (arith, at, row-word 3 (omega arith), f .model-from, f .model-order, f .model-ends, f .short) in
+        λ t. record { kind = row-kind t; at = at t; name = name t; «name_end» = end t; model = model t; «model_end» = model-end t; «text_end» = text t }
 
   module _ (k : Kind) where
-    pub section-said : (x : SectionNote) → kindOf (x .kind) ≡ k → isSection k ≡ true → noteAt s (sets xs (wordsPerName * i) (wordsOfSection x)) i ≡ sectionFrom s k x
+    pub section-said : (x : SectionNote) → SectionFits x → kindOf (x .kind) ≡ k → isSection k ≡ true → noteAt s (sets xs (wordsPerName * i) (wordsOfSection x)) i ≡ sectionFrom s k x
     unfolding noteAt
-    section-said x e t =
+    section-said x f e t =
         let ys = sets xs (wordsPerName * i) (wordsOfSection x) in
-        ap (noteOf s ys i) (ap kindOf (first-put (wordsOfSection x) refl) ∙ e) ∙ cond-yes _ _ t ∙ ap (sectionFrom s k) (section-put x)
+        ap (noteOf s ys i) (ap kindOf (section-kind x f) ∙ e) ∙ cond-yes _ _ t ∙ ap (sectionFrom s k) (section-put x f)
 
-    pub row-said : (x : RowNote) → kindOf (x .kind) ≡ k → isSection k ≡ false → noteAt s (sets xs (wordsPerName * i) (wordsOfRow x)) i ≡ rowFrom s k x
+    pub row-said : (x : RowNote) → RowFits x → kindOf (x .kind) ≡ k → isSection k ≡ false → noteAt s (sets xs (wordsPerName * i) (wordsOfRow x)) i ≡ rowFrom s k x
     unfolding noteAt
-    row-said x e t =
+    row-said x f e t =
         let ys = sets xs (wordsPerName * i) (wordsOfRow x) in
-        ap (noteOf s ys i) (ap kindOf (first-put (wordsOfRow x) refl) ∙ e) ∙ cond-no _ _ t ∙ ap (rowFrom s k) (row-put x)
+        ap (noteOf s ys i) (ap kindOf (row-kind x f) ∙ e) ∙ cond-no _ _ t ∙ ap (rowFrom s k) (row-put x f)
 
 -- a name's note goes in front of the notes, and leaves the waveforms
 pub log-note : (s xs : List ℕ) (i : ℕ) (ws : List ℕ) (n : Note) (c : Counts) → i ≤ namesHeld → length ws ≡ wordsPerName → noteAt s (sets xs (wordsPerName * i) ws) i ≡ n
     → logIn s (sets xs (wordsPerName * i) ws) (i + 1) c ≡ record { notes = n ∷ notesTo s xs i; waves = wavesTo s xs (c .waveforms); counts = c }
 unfolding logIn notesTo
-log-note s xs i ws n c h nine says =
+log-note s xs i ws n c h six says =
     rw (add-one i) rw says
     rw (notes-agree s (sets xs (wordsPerName * i) ws) xs i (λ k a b. get-before xs ws (wordsPerName * i) k b))
-    rw (waves-agree s (sets xs (wordsPerName * i) ws) xs (c .waveforms) (λ k a b. get-behind xs ws (wordsPerName * i) k (omega (arith, a, h, nine)))) refl
+    rw (waves-agree s (sets xs (wordsPerName * i) ws) xs (c .waveforms) (λ k a b. get-behind xs ws (wordsPerName * i) k (omega (arith, a, h, six)))) refl
 
-wave-put : (s xs : List ℕ) (j at line char row : ℕ) → wavesFrom + wordsPerWave * j + wordsPerWave ≤ length xs
-    → waveAt s (sets xs (wavesFrom + wordsPerWave * j) (waveWords at line char row)) j ≡ record { from = rest s (record { at = at; line = line; comment = char }); row = row }
+wave-put : (s xs : List ℕ) (j at char row : ℕ) → wavesFrom + wordsPerWave * j + wordsPerWave ≤ length xs
+    → waveAt s (sets xs (wavesFrom + wordsPerWave * j) (waveWords at char row)) j ≡ record { from = rest s (cursorAt s at char); row = row }
 unfolding waveAt
-wave-put s xs j at line char row h =
+wave-put s xs j at char row h =
     let w = wavesFrom + wordsPerWave * j in
-    let e : w ≡ w + 0 = omega arith in
-    let ys : List ℕ = sets xs w (waveWords at line char row) in
-    let g : (k : ℕ) → k < wordsPerWave → getD ys (w + k) 0 ≡ getD (waveWords at line char row) k 0 = λ k b. get-among xs (waveWords at line char row) w k b h in
-    let z : getD ys w 0 ≡ at = ap (λ (k : ℕ). getD ys k 0) e ∙ g 0 (omega arith) in
-    rw z rw (g 1 (omega arith)) rw (g 2 (omega arith)) rw (g 3 (omega arith)) refl
+    let ys : List ℕ = sets xs w (waveWords at char row) in
+    let g : (k : ℕ) → k < wordsPerWave → getD ys (w + k) 0 ≡ getD (waveWords at char row) k 0 = λ k b. get-among xs (waveWords at char row) w k b h in
+    rw (g 0 (omega arith)) rw (g 1 (omega arith)) rw (g 2 (omega arith)) refl
 
 -- a waveform's note goes in front of the waveforms, and leaves the names
-pub log-wave : (s xs : List ℕ) (n j at line char row : ℕ) (c : Counts) → n ≤ mostNames → wavesFrom + wordsPerWave * j + wordsPerWave ≤ length xs → c .waveforms ≡ j + 1
-    → logIn s (sets xs (wavesFrom + wordsPerWave * j) (waveWords at line char row)) n c
-    ≡ record { notes = notesTo s xs n; waves = record { from = rest s (record { at = at; line = line; comment = char }); row = row } ∷ wavesTo s xs j; counts = c }
+pub log-wave : (s xs : List ℕ) (n j at char row : ℕ) (c : Counts) → n ≤ mostNames → wavesFrom + wordsPerWave * j + wordsPerWave ≤ length xs → c .waveforms ≡ j + 1
+    → logIn s (sets xs (wavesFrom + wordsPerWave * j) (waveWords at char row)) n c
+    ≡ record { notes = notesTo s xs n; waves = record { from = rest s (cursorAt s at char); row = row } ∷ wavesTo s xs j; counts = c }
 unfolding logIn wavesTo
-log-wave s xs n j at line char row c h g e =
+log-wave s xs n j at char row c h g e =
     let w = wavesFrom + wordsPerWave * j in
-    let ys : List ℕ = sets xs w (waveWords at line char row) in
-    rw e rw (add-one j) rw (wave-put s xs j at line char row g)
-    rw (notes-agree s ys xs n (λ k a b. get-before xs (waveWords at line char row) w k (omega (arith, b, h))))
-    rw (waves-agree s ys xs j (λ k a b. get-before xs (waveWords at line char row) w k b)) refl
+    let ys : List ℕ = sets xs w (waveWords at char row) in
+    rw e rw (add-one j) rw (wave-put s xs j at char row g)
+    rw (notes-agree s ys xs n (λ k a b. get-before xs (waveWords at char row) w k (omega (arith, b, h))))
+    rw (waves-agree s ys xs j (λ k a b. get-before xs (waveWords at char row) w k b)) refl

@@ -1,11 +1,13 @@
--- The store: nine words a name, then the names by kind, then four words a waveform.
-use Prim.Native.Nat.{ℕ, zero, suc, _+_, _*_}
+-- The store: six words a name, then the names by kind, then three words a waveform. A word is of two bytes.
+use Prim.Native.Nat.{ℕ, zero, suc, _+_, _-_, _*_, _/_, _%_, _≤_, _<_}
 use mathlib.Core.List.{List, [], _∷_}
 use mathlib.Core.Bool.{Bool, true, false, cond}
-use lib.ListN.{getD}
+use lib.ListN.{drop, getD}
 use lib.Dec.{eqb}
 use Rattle.laws.specs.Lists.{part}
+use Rattle.lines.specs.Places.{lineAt}
 use Rattle.cut_lines.specs.Cursors.{rest}
+use Rattle.cut_lines.specs.declared.Cursor.{Cursor}
 use Rattle.records.specs.Bounds.{most, mostWaveforms}
 use Rattle.records.specs.declared.Kind.{Kind}
 use Rattle.records.specs.declared.Kind.the-variants.{OfComponent, OfPin, OfSelector, OfChoice, OfModel}
@@ -25,10 +27,10 @@ abbrev pub mostNames : ℕ
 mostNames = namesHeld + 1
 
 abbrev pub wordsPerName : ℕ
-wordsPerName = 9
+wordsPerName = 6
 
 abbrev pub wordsPerWave : ℕ
-wordsPerWave = 4
+wordsPerWave = 3
 
 abbrev pub byKindFrom : ℕ
 byKindFrom = wordsPerName * mostNames
@@ -47,48 +49,92 @@ wavesFrom = byKindFrom + namesHeld
 abbrev pub storeLength : ℕ
 storeLength = wavesFrom + wordsPerWave * mostWaveforms
 
--- ---- a section's words, and its note: behind its keyword line stand its lines
+-- ---- two numbers in a word
+
+-- above and below; each is less than 256
+abbrev pub paired : ℕ → ℕ → ℕ
+paired high low = high * 256 + low
+
+-- ---- a section's words, and its note: its line is the one that begins at its place, and behind that stand its lines
 
 abbrev pub wordsOfSection : SectionNote → List ℕ
-wordsOfSection x = x .kind ∷ x .line ∷ x .name ∷ x .«name_end» ∷ x .start ∷ x .row ∷ x .behind ∷ x .comment ∷ x .section ∷ []
+wordsOfSection x =
+    x .at ∷ paired (x .kind) (x .comment) ∷ paired (x .name - x .at) (x .«name_end» - x .name) ∷ x .start ∷ x .row ∷ x .section ∷ []
+
+-- it can be noted
+pub record SectionFits (x : SectionNote) : Type 0 where
+  pub at : x .at < 65536
+  pub kind : x .kind < 256
+  pub comment : x .comment < 256
+  pub from : x .at ≤ x .name
+  pub order : x .name ≤ x .«name_end»
+  pub short : x .«name_end» < x .at + 256
+  pub start : x .start < 65536
+  pub row : x .row < 65536
+  pub section : x .section < 65536
+
+-- at the line that begins at a place, under a comment character
+abbrev pub cursorAt : List ℕ → ℕ → ℕ → Cursor
+cursorAt s at char = record { at = at; line = lineAt s at; comment = char }
 
 abbrev pub sectionFrom : List ℕ → Kind → SectionNote → Note
 sectionFrom s k x =
-    record { kind = k; line = x .line; name = part (x .name) (x .«name_end») s; names = []; text = []; behind = rest s (record { at = x .behind; line = x .line + 1; comment = x .comment }); section = x .section; start = x .start; row = x .row }
+    record { kind = k; line = lineAt s (x .at); name = part (x .name) (x .«name_end») s; names = []; text = []; behind = drop 1 (rest s (cursorAt s (x .at) (x .comment))); section = x .section; start = x .start; row = x .row }
 
--- ---- a row's words, of which the last says nothing, and its note
+-- ---- a row's words, of which the last two say nothing, and its note: its text begins at its place
 
 abbrev pub wordsOfRow : RowNote → List ℕ
-wordsOfRow x = x .kind ∷ x .line ∷ x .name ∷ x .«name_end» ∷ x .model ∷ x .«model_end» ∷ x .text ∷ x .«text_end» ∷ 0 ∷ []
+wordsOfRow x =
+    x .at ∷ paired (x .kind) (x .«text_end» - x .at) ∷ paired (x .name - x .at) (x .«name_end» - x .name) ∷ paired (x .model - x .at) (x .«model_end» - x .model) ∷ 0 ∷ 0 ∷ []
+
+pub record RowFits (x : RowNote) : Type 0 where
+  pub at : x .at < 65536
+  pub kind : x .kind < 256
+  pub text : x .at ≤ x .«text_end»
+  pub short : x .«text_end» < x .at + 256
+  pub from : x .at ≤ x .name
+  pub order : x .name ≤ x .«name_end»
+  pub ends : x .«name_end» ≤ x .«text_end»
+  pub model-from : x .at ≤ x .model
+  pub model-order : x .model ≤ x .«model_end»
+  pub model-ends : x .«model_end» ≤ x .«text_end»
 
 abbrev pub rowFrom : List ℕ → Kind → RowNote → Note
 rowFrom s k x =
-    record { kind = k; line = x .line; name = part (x .name) (x .«name_end») s; names = part (x .model) (x .«model_end») s; text = part (x .text) (x .«text_end») s; behind = []; section = 0; start = 0; row = 0 }
+    record { kind = k; line = lineAt s (x .at); name = part (x .name) (x .«name_end») s; names = part (x .model) (x .«model_end») s; text = part (x .at) (x .«text_end») s; behind = []; section = 0; start = 0; row = 0 }
 
 -- ---- read back, name i; kinds are numbered as they are listed
 
 unfoldable pub kindOf : ℕ → Kind
 kindOf n = cond (eqb n 0) OfComponent (cond (eqb n 1) OfPin (cond (eqb n 2) OfSelector (cond (eqb n 3) OfChoice OfModel)))
 
-abbrev pub kindAt : List ℕ → ℕ → Kind
-kindAt xs i = kindOf (getD xs (wordsPerName * i) 0)
-
+-- word j of its six
 abbrev pub nameWord : List ℕ → ℕ → ℕ → ℕ
 nameWord xs i j = getD xs (wordsPerName * i + j) 0
 
-abbrev pub notedLine : List ℕ → ℕ → ℕ
-notedLine xs i = nameWord xs i 1
+abbrev pub kindAt : List ℕ → ℕ → Kind
+kindAt xs i = kindOf (nameWord xs i 1 / 256)
+
+abbrev pub notedLine : List ℕ → List ℕ → ℕ → ℕ
+notedLine s xs i = lineAt s (nameWord xs i 0)
+
+-- where the part lies that word j says
+abbrev pub partStart : List ℕ → ℕ → ℕ → ℕ
+partStart xs i j = nameWord xs i 0 + nameWord xs i j / 256
+
+abbrev pub partEnd : List ℕ → ℕ → ℕ → ℕ
+partEnd xs i j = nameWord xs i 0 + nameWord xs i j / 256 + nameWord xs i j % 256
 
 abbrev pub nameAt : List ℕ → List ℕ → ℕ → List ℕ
-nameAt s xs i = part (nameWord xs i 2) (nameWord xs i 3) s
+nameAt s xs i = part (partStart xs i 2) (partEnd xs i 2) s
 
 abbrev pub sectionAt : List ℕ → ℕ → SectionNote
 sectionAt xs i =
-    record { kind = getD xs (wordsPerName * i) 0; line = nameWord xs i 1; name = nameWord xs i 2; «name_end» = nameWord xs i 3; start = nameWord xs i 4; row = nameWord xs i 5; behind = nameWord xs i 6; comment = nameWord xs i 7; section = nameWord xs i 8 }
+    record { kind = nameWord xs i 1 / 256; at = nameWord xs i 0; name = partStart xs i 2; «name_end» = partEnd xs i 2; start = nameWord xs i 3; row = nameWord xs i 4; comment = nameWord xs i 1 % 256; section = nameWord xs i 5 }
 
 abbrev pub rowAt : List ℕ → ℕ → RowNote
 rowAt xs i =
-    record { kind = getD xs (wordsPerName * i) 0; line = nameWord xs i 1; name = nameWord xs i 2; «name_end» = nameWord xs i 3; model = nameWord xs i 4; «model_end» = nameWord xs i 5; text = nameWord xs i 6; «text_end» = nameWord xs i 7 }
+    record { kind = nameWord xs i 1 / 256; at = nameWord xs i 0; name = partStart xs i 2; «name_end» = partEnd xs i 2; model = partStart xs i 3; «model_end» = partEnd xs i 3; «text_end» = nameWord xs i 0 + nameWord xs i 1 % 256 }
 
 -- the other kinds are those of rows
 abbrev pub isSection : Kind → Bool
@@ -105,14 +151,17 @@ noteOf s xs i k = cond (isSection k) (sectionFrom s k (sectionAt xs i)) (rowFrom
 unfoldable pub noteAt : List ℕ → List ℕ → ℕ → Note
 noteAt s xs i = noteOf s xs i (kindAt xs i)
 
--- ---- a waveform's note
+-- ---- a waveform's note: its texts from its place on
 
-abbrev pub waveWords : ℕ → ℕ → ℕ → ℕ → List ℕ
-waveWords at line char row = at ∷ line ∷ char ∷ row ∷ []
+abbrev pub waveWords : ℕ → ℕ → ℕ → List ℕ
+waveWords at char row = at ∷ char ∷ row ∷ []
+
+-- word k of its three
+abbrev pub waveWord : List ℕ → ℕ → ℕ → ℕ
+waveWord xs j k = getD xs (wavesFrom + wordsPerWave * j + k) 0
 
 unfoldable pub waveAt : List ℕ → List ℕ → ℕ → Wave
-waveAt s xs j =
-    record { from = rest s (record { at = getD xs (wavesFrom + wordsPerWave * j) 0; line = getD xs (wavesFrom + wordsPerWave * j + 1) 0; comment = getD xs (wavesFrom + wordsPerWave * j + 2) 0 }); row = getD xs (wavesFrom + wordsPerWave * j + 3) 0 }
+waveAt s xs j = record { from = rest s (cursorAt s (waveWord xs j 0) (waveWord xs j 1)); row = waveWord xs j 2 }
 
 -- ---- all of them, the latest first
 

@@ -1,9 +1,10 @@
-// The store of what is noted of a file: nine words a name, then the names by kind, then four words a waveform.
+// The store of what is noted of a file, in words of two bytes: six a name, then the names by kind, then three a waveform. No line's number is noted:
+// it is counted from the place where the line begins.
 ghost use mathlib.Core.Path.{_≡_};
-ghost use Prim.Native.Nat.{_+_, _*_, _≤_};
+ghost use Prim.Native.Nat.{_+_, _*_, _≤_, _<_};
 ghost use lib.ListN.{length, getD};
 ghost use lib.Seq.{sets};
-ghost use Rattle.note_words.specs.Store.{wordsOfSection, wordsOfRow, waveWords, wordsPerName, wordsPerWave, wavesFrom};
+ghost use Rattle.note_words.specs.Store.{paired, wordsOfSection, SectionFits, wordsOfRow, RowFits, waveWords, wordsPerName, wordsPerWave, wavesFrom};
 use records::MOST_CHOICES;
 use records::MOST_COMPONENTS;
 use records::MOST_MODELS;
@@ -23,7 +24,7 @@ pub const NAMES_HELD: usize = MOST_COMPONENTS
 // And one more: a name is noted before its table is found full, for it may be used twice.
 pub const MOST_NAMES: usize = NAMES_HELD + 1;
 
-pub const WORDS_PER_NAME: usize = 9;
+pub const WORDS_PER_NAME: usize = 6;
 
 // The names by kind: the place of each, in the list of its kind. Before that, marks of what is listed.
 pub const BY_KIND_FROM: usize = WORDS_PER_NAME * MOST_NAMES;
@@ -40,13 +41,16 @@ pub const MODELS_FROM: usize = CHOICES_FROM + MOST_CHOICES;
 
 pub const WAVES_FROM: usize = MODELS_FROM + MOST_MODELS;
 
-pub const WORDS_PER_WAVE: usize = 4;
+pub const WORDS_PER_WAVE: usize = 3;
 
 pub const STORE_LENGTH: usize = WAVES_FROM + WORDS_PER_WAVE * MOST_WAVEFORMS;
 
 // ---- which word says what
 
-// A name's kind stands first: kinds are numbered as they are listed.
+// Two numbers below this one share a word: the first is the upper.
+pub const PAIR: usize = 256;
+
+// Kinds are numbered as they are listed.
 pub const OF_COMPONENT: usize = 0;
 
 pub const OF_PIN: usize = 1;
@@ -59,47 +63,40 @@ pub const OF_MODEL: usize = 4;
 
 pub const KINDS: usize = 5;
 
-// Of every name.
-pub const LINE: usize = 1;
+// Of every name: where its line begins.
+pub const AT: usize = 0;
 
+// The kind; and of a section the comment character at its line, of a row the length of its text, which begins where the line does.
+pub const KIND: usize = 1;
+
+// How far behind the line's beginning the name lies, and its length.
 pub const NAME: usize = 2;
 
-pub const NAME_END: usize = 3;
-
 // Of a section.
-pub const SECTION_START: usize = 4;
+pub const SECTION_START: usize = 3;
 
-pub const SECTION_ROW: usize = 5;
+pub const SECTION_ROW: usize = 4;
 
-pub const SECTION_BEHIND: usize = 6;
+pub const SECTION_PLACE: usize = 5;
 
-pub const SECTION_COMMENT: usize = 7;
+// Of a pin or a selector row: the model that it names, like the name.
+pub const ROW_MODEL: usize = 3;
 
-pub const SECTION_PLACE: usize = 8;
-
-// Of a pin or a selector row.
-pub const ROW_MODEL: usize = 4;
-
-pub const ROW_TEXT: usize = 6;
-
-pub const ROW_TEXT_END: usize = 7;
-
-const UNUSED: u32 = 0;
+const UNUSED: u16 = 0;
 
 // Of a waveform.
 pub const WAVE_AT: usize = 0;
 
-pub const WAVE_LINE: usize = 1;
+pub const WAVE_COMMENT: usize = 1;
 
-pub const WAVE_COMMENT: usize = 2;
-
-pub const WAVE_ROW: usize = 3;
+pub const WAVE_ROW: usize = 2;
 
 // ---- words
 
 // The word at a place; 0 past the end.
-pub fn word(notes: &[u32], k: usize) -> usize
+pub fn word(notes: &[u16], k: usize) -> usize
     ensures { λ r. ⌜ r ≡ getD (now (notes .entry)) k 0 ⌝ }
+    ensures { λ r. ⌜ r < 65536 ⌝ }
 {
     if k < notes.len() {
         let w = notes[k];
@@ -108,7 +105,14 @@ pub fn word(notes: &[u32], k: usize) -> usize
     0
 }
 
-pub fn put_words(notes: &mut [u32], at: usize, words: &[u32])
+fn pair(high: usize, low: usize) -> u16
+    requires { ⌜ (high < 256) × (low < 256) ⌝ }
+    ensures { λ r. ⌜ r ≡ paired high low ⌝ }
+{
+    (high * PAIR + low) as u16
+}
+
+pub fn put_words(notes: &mut [u16], at: usize, words: &[u16])
     requires { ⌜ at + length (now words) ≤ length (now notes) ⌝ }
     ensures { λ _. ⌜ now (notes .exit) ≡ sets (now (notes .entry)) at (now (words .entry)) ⌝ }
 {
@@ -121,75 +125,68 @@ pub fn put_words(notes: &mut [u32], at: usize, words: &[u32])
 
 // ---- notes
 
-// What is noted of a section: where its name lies; the places of its first pin, row or waveform, and of its first table row;
-// where its lines begin, and the comment character there; its place among the sections.
+// What is noted of a section: where its line begins and its name lies; the places of its first pin, row or waveform, and of its first table row; the
+// comment character at its line; its place among the sections.
 pub struct SectionNote {
-    pub kind: u32,
-    pub line: u32,
-    pub name: u32,
-    pub name_end: u32,
-    pub start: u32,
-    pub row: u32,
-    pub behind: u32,
-    pub comment: u32,
-    pub section: u32,
+    pub kind: usize,
+    pub at: usize,
+    pub name: usize,
+    pub name_end: usize,
+    pub start: usize,
+    pub row: usize,
+    pub comment: usize,
+    pub section: usize,
 }
 
-// What is noted of a pin or a selector row: where its name, the model it names and its text lie.
+// What is noted of a pin or a selector row: where its line begins, and with that its text; where its name and the model it names lie, and its text ends.
 pub struct RowNote {
-    pub kind: u32,
-    pub line: u32,
-    pub name: u32,
-    pub name_end: u32,
-    pub model: u32,
-    pub model_end: u32,
-    pub text: u32,
-    pub text_end: u32,
+    pub kind: usize,
+    pub at: usize,
+    pub name: usize,
+    pub name_end: usize,
+    pub model: usize,
+    pub model_end: usize,
+    pub text_end: usize,
 }
 
 // Notes a section as the name at place i.
-pub fn put_section(notes: &mut [u32], i: usize, x: SectionNote)
+pub fn put_section(notes: &mut [u16], i: usize, x: SectionNote)
     requires { ⌜ wordsPerName * i + wordsPerName ≤ length (now notes) ⌝ }
+    requires { ⌜ SectionFits x ⌝ }
     ensures { λ _. ⌜ now (notes .exit) ≡ sets (now (notes .entry)) (wordsPerName * i) (wordsOfSection x) ⌝ }
 {
+    let kind = pair(x.kind, x.comment);
+    let name = pair(x.name - x.at, x.name_end - x.name);
     let words = [
-        x.kind,
-        x.line,
-        x.name,
-        x.name_end,
-        x.start,
-        x.row,
-        x.behind,
-        x.comment,
-        x.section,
+        x.at as u16,
+        kind,
+        name,
+        x.start as u16,
+        x.row as u16,
+        x.section as u16,
     ];
     put_words(notes, WORDS_PER_NAME * i, &words);
 }
 
-// Notes a row as the name at place i; its last word says nothing.
-pub fn put_row(notes: &mut [u32], i: usize, x: RowNote)
+// Notes a row as the name at place i; its last words say nothing.
+pub fn put_row(notes: &mut [u16], i: usize, x: RowNote)
     requires { ⌜ wordsPerName * i + wordsPerName ≤ length (now notes) ⌝ }
+    requires { ⌜ RowFits x ⌝ }
     ensures { λ _. ⌜ now (notes .exit) ≡ sets (now (notes .entry)) (wordsPerName * i) (wordsOfRow x) ⌝ }
 {
-    let words = [
-        x.kind,
-        x.line,
-        x.name,
-        x.name_end,
-        x.model,
-        x.model_end,
-        x.text,
-        x.text_end,
-        UNUSED,
-    ];
+    let kind = pair(x.kind, x.text_end - x.at);
+    let name = pair(x.name - x.at, x.name_end - x.name);
+    let model = pair(x.model - x.at, x.model_end - x.model);
+    let words = [x.at as u16, kind, name, model, UNUSED, UNUSED];
     put_words(notes, WORDS_PER_NAME * i, &words);
 }
 
-// Notes the waveform at place j: where its keyword line begins, that line's number, the comment character there, its first row's place.
-pub fn put_wave(notes: &mut [u32], j: usize, at: u32, line: u32, comment: u32, row: u32)
+// Notes the waveform at place j: where its keyword line begins, the comment character there, its first row's place.
+pub fn put_wave(notes: &mut [u16], j: usize, at: usize, comment: u8, row: usize)
     requires { ⌜ wavesFrom + wordsPerWave * j + wordsPerWave ≤ length (now notes) ⌝ }
-    ensures { λ _. ⌜ now (notes .exit) ≡ sets (now (notes .entry)) (wavesFrom + wordsPerWave * j) (waveWords at line comment row) ⌝ }
+    requires { ⌜ (at < 65536) × (row < 65536) ⌝ }
+    ensures { λ _. ⌜ now (notes .exit) ≡ sets (now (notes .entry)) (wavesFrom + wordsPerWave * j) (waveWords at comment row) ⌝ }
 {
-    let words = [at, line, comment, row];
+    let words = [at as u16, comment as u16, row as u16];
     put_words(notes, WAVES_FROM + WORDS_PER_WAVE * j, &words);
 }

@@ -1,7 +1,7 @@
 -- Laws of `specs/Events.antt`: the log with one thing more is the store with its words written.
 use Prim.Native.Nat.{ℕ, _+_, _*_, _≤_, _<_, min}
-use mathlib.Core.Path.{_≡_, refl, sym, ap, _∙_}
-use mathlib.Core.List.{List, []}
+use mathlib.Core.Path.{_≡_, refl, sym, ap, _∙_, subst}
+use mathlib.Core.List.{List, [], _∷_}
 use mathlib.Core.Bool.{Bool, true, false, cond}
 use native.Mathlib.Omega.{arith}
 use lib.ListN.{length, drop}
@@ -12,7 +12,10 @@ use Rattle.laws.specs.Lists.{part}
 use Rattle.laws.proofs.Tests.{by-test, cond-yes, cond-no}
 use Rattle.words.specs.Words.{word, words}
 use Rattle.words.specs.declared.Word.{Word}
+use Rattle.lines.specs.Places.{lineAt}
+use Rattle.cut_lines.specs.Texts.{plain}
 use Rattle.cut_lines.specs.Cursors.{rest}
+use Rattle.cut_lines.proofs.Laws.{line-placed}
 use Rattle.rules.specs.Whole.{bound}
 use Rattle.records.specs.Bounds.{most, mostWaveforms}
 use Rattle.records.specs.declared.Kind.{Kind}
@@ -21,7 +24,7 @@ use Rattle.rules.specs.declared.Event.the-variants.{WaveformOpened, TableRow, E
 use Rattle.records.specs.declared.Lengths.{Lengths}
 use Rattle.notes.specs.Noted.{Note, used, oneMore, moreWaveforms, moreRows, sections, rowNote, going, full, withNote}
 use Rattle.notes.proofs.Settles.{more-waveforms}
-use Rattle.note_words.specs.Store.{namesHeld, wordsPerName, wordsPerWave, wavesFrom, wordsOfSection, sectionFrom, wordsOfRow, rowFrom, kindOf, isSection, noteAt, waveWords, logIn}
+use Rattle.note_words.specs.Store.{namesHeld, wordsPerName, wordsPerWave, wavesFrom, wordsOfSection, SectionFits, cursorAt, sectionFrom, wordsOfRow, RowFits, rowFrom, kindOf, isSection, noteAt, waveWords, logIn}
 use Rattle.note_words.specs.declared.SectionNote.{SectionNote}
 use Rattle.note_words.specs.declared.RowNote.{RowNote}
 use Rattle.note_words.proofs.Laws.{section-said, row-said, log-note, log-wave}
@@ -57,11 +60,11 @@ module _ (l : Lengths) (t : Tally) (k : Kind) where
 name-told : (s xs ws : List ℕ) (l : Lengths) (t : Tally) (n : Note) → Within t → length ws ≡ wordsPerName → noteAt s (sets xs (wordsPerName * t .names) ws) (t .names) ≡ n
     → withNote l (logOf s xs t) n ≡ toldIs s (sets xs (wordsPerName * t .names) ws) (n .line) (counted l t (n .kind))
 unfolding withNote logIn counted
-name-told s xs ws l t n within nine says =
+name-told s xs ws l t n within six says =
     let held = names-small t within in
     by-test (leb (bound l (n .kind)) (used (t .counts) (n .kind)))
-    (λ h. rw h rw (log-note s xs (t .names) ws n (t .counts) held nine says) refl)
-    (λ h. rw h rw (log-note s xs (t .names) ws n (oneMore (t .counts) (n .kind)) held nine says) rw (more-waveforms (t .counts) (n .kind)) refl)
+    (λ h. rw h rw (log-note s xs (t .names) ws n (t .counts) held six says) refl)
+    (λ h. rw h rw (log-note s xs (t .names) ws n (oneMore (t .counts) (n .kind)) held six says) rw (more-waveforms (t .counts) (n .kind)) refl)
 
 -- ---- the bounds
 
@@ -78,23 +81,66 @@ module _ (s xs : List ℕ) (l : Lengths) (t : Tally) (p : Spot) (ready : Ready s
   pub name-fits : wordsPerName * t .names + wordsPerName ≤ length xs
   name-fits = omega (arith, names-small t (ready .within), ready .store)
 
-  pub told-section : (k : Kind) (n a e start row : ℕ) (w : List ℕ) {x : SectionNote} {ys : List ℕ} {r : Told} → x ≡ sectionIn n p a e (t .counts) start row → kindOf n ≡ k → isSection k ≡ true → part a e s ≡ w
+  -- a text is short, and so lies within two bytes
+  pub text-ends : (p .end ≤ p .start + 120) × (p .end ≤ 65536)
+  text-ends = (ready .text .short (ready .clean), omega (arith, ready .text .fits, ready .small))
+
+  line-at : p .line ≡ lineAt s (p .start)
+  line-at = line-placed s (ready .cursor) (p .line) (p .start) (ready .counted) (ready .text .place)
+
+  -- from its line's place on stands the text itself, and then what is behind it
+  pub here-at : rest s (cursorAt s (p .start) (p .next .comment)) ≡ plain (p .line) (part (p .start) (p .end) s) ∷ rest s (p .next)
+  here-at = ap (λ (k : ℕ). rest s (record { at = p .start; line = k; comment = p .next .comment })) (sym line-at) ∙ ready .text .here
+
+  pub section-fits : (n a e start row : ℕ) → n < 256 → p .start ≤ a → a ≤ e → e ≤ p .end → start < 65536 → row < 65536 → p .next .comment < 256 → SectionFits (sectionIn n p a e (t .counts) start row)
+  section-fits n a e start row kind from order ends first rows comment =
+      let w = ready .within in
+      record {
+        at = omega (arith, ready .text .starts, text-ends .1);
+        kind = kind;
+        comment = comment;
+        from = from;
+        order = order;
+        short = omega (arith, ends, text-ends .0);
+        start = first;
+        row = rows;
+        section = omega (arith, w .components, w .selectors, w .models);
+      }
+
+  pub row-fits : (n : ℕ) (name model : Word) → n < 256 → p .start ≤ name .start → name .start ≤ name .end → name .end ≤ p .end → p .start ≤ model .start → model .start ≤ model .end → model .end ≤ p .end
+      → RowFits (rowIn n p name model)
+  row-fits n name model kind from order ends model-from model-order model-ends =
+      record {
+        at = omega (arith, ready .text .starts, text-ends .1);
+        kind = kind;
+        text = omega (arith, ready .text .starts);
+        short = omega (arith, text-ends .0);
+        from = from;
+        order = order;
+        ends = ends;
+        model-from = model-from;
+        model-order = model-order;
+        model-ends = model-ends;
+      }
+
+  pub told-section : (k : Kind) (n a e start row : ℕ) (w : List ℕ) {x : SectionNote} {ys : List ℕ} {r : Told} → x ≡ sectionIn n p a e (t .counts) start row → SectionFits x → kindOf n ≡ k → isSection k ≡ true → part a e s ≡ w
       → ys ≡ sets xs (wordsPerName * t .names) (wordsOfSection x) → r ≡ counted l t k
       → withNote l (logOf s xs t) (record { kind = k; line = p .line; name = w; names = []; text = []; behind = rest s (p .next); section = sections (t .counts); start = start; row = row }) ≡ toldIs s ys (p .line) r
-  unfolding rest sections
-  told-section k n a e start row w is of kinds text written counts =
+  unfolding sections
+  told-section k n a e start row w is fits of kinds text written counts =
       let y = sectionIn n p a e (t .counts) start row in
-      rw (written, counts, is, sym text, ready .text .line)
-      (name-told s xs (wordsOfSection y) l t (sectionFrom s k y) (ready .within) refl (section-said s xs (t .names) name-fits k y of kinds))
+      let behind : drop 1 (rest s (cursorAt s (p .start) (p .next .comment))) ≡ rest s (p .next) = ap (drop 1) here-at in
+      rw (written, counts, is, sym text, sym behind, line-at)
+      (name-told s xs (wordsOfSection y) l t (sectionFrom s k y) (ready .within) refl (section-said s xs (t .names) name-fits k y (subst SectionFits is fits) of kinds))
 
-  pub told-row : (k : Kind) (n : ℕ) (name model : Word) (m : ℕ) {x : RowNote} {ys : List ℕ} {r : Told} → x ≡ rowIn n p name model → kindOf n ≡ k → isSection k ≡ false
+  pub told-row : (k : Kind) (n : ℕ) (name model : Word) (m : ℕ) {x : RowNote} {ys : List ℕ} {r : Told} → x ≡ rowIn n p name model → RowFits x → kindOf n ≡ k → isSection k ≡ false
       → part (name .start) (name .end) s ≡ word 0 (words (part (p .start) (p .end) s)) → part (model .start) (model .end) s ≡ word m (words (part (p .start) (p .end) s))
       → ys ≡ sets xs (wordsPerName * t .names) (wordsOfRow x) → r ≡ counted l t k
       → withNote l (logOf s xs t) (rowNote k (p .line) m (part (p .start) (p .end) s)) ≡ toldIs s ys (p .line) r
-  told-row k n name model m is of kinds named says written counts =
+  told-row k n name model m is fits of kinds named says written counts =
       let y = rowIn n p name model in
-      rw (written, counts, is, sym named, sym says)
-      (name-told s xs (wordsOfRow y) l t (rowFrom s k y) (ready .within) refl (row-said s xs (t .names) name-fits k y of kinds))
+      rw (written, counts, is, sym named, sym says, line-at)
+      (name-told s xs (wordsOfRow y) l t (rowFrom s k y) (ready .within) refl (row-said s xs (t .names) name-fits k y (subst RowFits is fits) of kinds))
 
 pub third-in : (s : List ℕ) (a e : ℕ) (x y z : Word) → FirstIn s a e x → FirstIn s (x .end) e y → FirstIn s (y .end) e z → part (z .start) (z .end) s ≡ word 2 (words (part a e s))
 unfolding word
@@ -111,13 +157,13 @@ module _ (s xs : List ℕ) (l : Lengths) (t : Tally) (p : Spot) (ready : Ready s
 
   pub waveform-going : t .counts .waveforms < min mostWaveforms (l .waveforms)
       → loggedAt l s xs t p WaveformOpened
-      ≡ going (logOf s (sets xs (wavesFrom + wordsPerWave * t .counts .waveforms) (waveWords (p .start) (p .line) (p .next .comment) (t .counts .rows))) (record { names = t .names; counts = moreWaveforms (t .counts) }))
+      ≡ going (logOf s (sets xs (wavesFrom + wordsPerWave * t .counts .waveforms) (waveWords (p .start) (p .next .comment) (t .counts .rows))) (record { names = t .names; counts = moreWaveforms (t .counts) }))
   unfolding logIn
   waveform-going h =
       let n : t .names ≤ namesHeld = names-small t (ready .within) in
       rw (lt-leb (min mostWaveforms (l .waveforms)) (t .counts .waveforms) h)
-      rw (log-wave s xs (t .names) (t .counts .waveforms) (p .start) (p .line) (p .next .comment) (t .counts .rows) (moreWaveforms (t .counts)) (omega (arith, n)) (omega (arith, h, ready .store)) refl)
-      rw (ready .text .here) refl
+      rw (log-wave s xs (t .names) (t .counts .waveforms) (p .start) (p .next .comment) (t .counts .rows) (moreWaveforms (t .counts)) (omega (arith, n)) (omega (arith, h, ready .store)) refl)
+      rw (here-at s xs l t p ready) refl
 
   pub kept-waveform : t .counts .waveforms < min mostWaveforms (l .waveforms) → KeptCounts t (record { names = t .names; counts = moreWaveforms (t .counts) })
   kept-waveform h =

@@ -8,7 +8,7 @@ use lib.Dec.{leb}
 use Rattle.laws.specs.Lists.{part}
 use Rattle.words.specs.declared.Word.{Word}
 use Rattle.cut_lines.specs.Texts.{plain}
-use Rattle.cut_lines.specs.Cursors.{rest, TextIs}
+use Rattle.cut_lines.specs.Cursors.{firstCursor, rest, past, CleanFrom, TextIs}
 use Rattle.cut_lines.specs.declared.Cursor.{Cursor}
 use Rattle.rules.specs.declared.Event.{Event}
 use Rattle.rules.specs.Whole.{bound}
@@ -40,11 +40,11 @@ loggedAt l s xs t p e = logged l (logOf s xs t) (plain (p .line) (part (p .start
 -- the note of a section whose name lies from a to e, and that of a row; kind is its number
 abbrev pub sectionIn : ℕ → Spot → ℕ → ℕ → Counts → ℕ → ℕ → SectionNote
 sectionIn kind p a e c start row =
-    record { kind = kind; line = p .line; name = a; «name_end» = e; start = start; row = row; behind = p .next .at; comment = p .next .comment; section = c .components + c .selectors + c .models }
+    record { kind = kind; at = p .start; name = a; «name_end» = e; start = start; row = row; comment = p .next .comment; section = c .components + c .selectors + c .models }
 
 abbrev pub rowIn : ℕ → Spot → Word → Word → RowNote
 rowIn kind p name model =
-    record { kind = kind; line = p .line; name = name .start; «name_end» = name .end; model = model .start; «model_end» = model .end; text = p .start; «text_end» = p .end }
+    record { kind = kind; at = p .start; name = name .start; «name_end» = name .end; model = model .start; «model_end» = model .end; «text_end» = p .end }
 
 -- a name that is noted is counted, or its table is full
 unfoldable pub counted : Lengths → Tally → Kind → Told
@@ -71,10 +71,12 @@ abbrev pub KeptBy : Tally → Told → Type 0
 KeptBy t (Going u) = KeptCounts t u
 KeptBy t (Full n u) = u .names ≤ mostNames
 
--- a text of the file, with room in the store for what it adds
+-- a text of a file without faulty bytes, its lines counted from the first, with room in the store for what it adds
 pub record Ready (s xs : List ℕ) (t : Tally) (p : Spot) : Type 0 where
   pub cursor : Cursor
   pub text : TextIs s cursor (p .line) (p .start) (p .end) (p .next)
+  pub counted : past s cursor ≡ past s firstCursor
+  pub clean : CleanFrom s cursor
   pub small : length s ≤ 65536
   pub store : storeLength ≤ length xs
   pub within : Within t

@@ -2,6 +2,7 @@
 ghost use mathlib.Core.Path.{_≡_};
 ghost use Prim.Native.Nat.{_+_, _<_, _^_};
 ghost use Rattle.rules.specs.declared.Event.the-variants.{Opened, PinRow, ChoiceRow, WaveformOpened, TableRow, Ended};
+ghost use Rattle.note_words.specs.Store.{SectionFits, RowFits};
 ghost use Rattle.noted_events.specs.Events.{toldIs, loggedAt, counted, sectionIn, rowIn, Within, KeptBy, Ready};
 use crate::Spot;
 use crate::Tally;
@@ -62,42 +63,41 @@ fn section_note(
     start: usize,
     row: usize,
 ) -> SectionNote
-    requires { ⌜ (kind < 2 ^ 32) × (p .line < 2 ^ 32) × (a < 2 ^ 32) × (e < 2 ^ 32) × (start < 2 ^ 32) × (row < 2 ^ 32) × (p .next .at < 2 ^ 32) × (c .components + c .selectors + c .models < 2 ^ 32) ⌝ }
-    ensures { λ r. ⌜ r ≡ sectionIn kind p a e c start row ⌝ }
+    requires { ⌜ c .components + c .selectors + c .models < 2 ^ 32 ⌝ }
+    requires { ⌜ (p .next .comment < 256 → SectionFits (sectionIn kind p a e c start row)) ⌝ }
+    ensures { λ r. ⌜ (r ≡ sectionIn kind p a e c start row) × SectionFits r ⌝ }
 {
     let next = p.next;
     SectionNote {
-        kind: kind as u32,
-        line: p.line as u32,
-        name: a as u32,
-        name_end: e as u32,
-        start: start as u32,
-        row: row as u32,
-        behind: next.at as u32,
-        comment: next.comment as u32,
-        section: (c.components + c.selectors + c.models) as u32,
+        kind: kind,
+        at: p.start,
+        name: a,
+        name_end: e,
+        start: start,
+        row: row,
+        comment: next.comment as usize,
+        section: c.components + c.selectors + c.models,
     }
 }
 
 // The note of a row with its name and the model it names.
 fn row_note(kind: usize, p: Spot, name: Word, model: Word) -> RowNote
-    requires { ⌜ (kind < 2 ^ 32) × (p .line < 2 ^ 32) × (p .start < 2 ^ 32) × (p .end < 2 ^ 32) × (name .start < 2 ^ 32) × (name .end < 2 ^ 32) × (model .start < 2 ^ 32) × (model .end < 2 ^ 32) ⌝ }
-    ensures { λ r. ⌜ r ≡ rowIn kind p name model ⌝ }
+    requires { ⌜ RowFits (rowIn kind p name model) ⌝ }
+    ensures { λ r. ⌜ (r ≡ rowIn kind p name model) × RowFits r ⌝ }
 {
     RowNote {
-        kind: kind as u32,
-        line: p.line as u32,
-        name: name.start as u32,
-        name_end: name.end as u32,
-        model: model.start as u32,
-        model_end: model.end as u32,
-        text: p.start as u32,
-        text_end: p.end as u32,
+        kind: kind,
+        at: p.start,
+        name: name.start,
+        name_end: name.end,
+        model: model.start,
+        model_end: model.end,
+        text_end: p.end,
     }
 }
 
 // Notes a section, then asks for room in its table.
-fn note_section(notes: &mut [u32], src: &[u8], l: Lengths, t: Tally, p: Spot, o: Section) -> Told
+fn note_section(notes: &mut [u16], src: &[u8], l: Lengths, t: Tally, p: Spot, o: Section) -> Told
     requires { ⌜ Ready (now src) (now notes) t p ⌝ }
     ensures { λ r. ⌜ loggedAt l (now (src .entry)) (now (notes .entry)) t p (Opened o) ≡ toldIs (now (src .entry)) (now (notes .exit)) (p .line) r ⌝ }
     ensures { λ r. ⌜ KeptBy t r ⌝ }
@@ -126,7 +126,7 @@ fn note_section(notes: &mut [u32], src: &[u8], l: Lengths, t: Tally, p: Spot, o:
 }
 
 // Notes a pin, then asks for room in the table of pins.
-pub fn note_pin(notes: &mut [u32], src: &[u8], l: Lengths, t: Tally, p: Spot) -> Told
+pub fn note_pin(notes: &mut [u16], src: &[u8], l: Lengths, t: Tally, p: Spot) -> Told
     requires { ⌜ Ready (now src) (now notes) t p ⌝ }
     ensures { λ r. ⌜ loggedAt l (now (src .entry)) (now (notes .entry)) t p PinRow ≡ toldIs (now (src .entry)) (now (notes .exit)) (p .line) r ⌝ }
     ensures { λ r. ⌜ KeptBy t r ⌝ }
@@ -140,7 +140,7 @@ pub fn note_pin(notes: &mut [u32], src: &[u8], l: Lengths, t: Tally, p: Spot) ->
 }
 
 // Notes a selector's row, then asks for room in their table.
-fn note_choice(notes: &mut [u32], src: &[u8], l: Lengths, t: Tally, p: Spot) -> Told
+fn note_choice(notes: &mut [u16], src: &[u8], l: Lengths, t: Tally, p: Spot) -> Told
     requires { ⌜ Ready (now src) (now notes) t p ⌝ }
     ensures { λ r. ⌜ loggedAt l (now (src .entry)) (now (notes .entry)) t p ChoiceRow ≡ toldIs (now (src .entry)) (now (notes .exit)) (p .line) r ⌝ }
     ensures { λ r. ⌜ KeptBy t r ⌝ }
@@ -151,7 +151,7 @@ fn note_choice(notes: &mut [u32], src: &[u8], l: Lengths, t: Tally, p: Spot) -> 
     count_name(l, t, Kind::OfChoice)
 }
 
-fn note_waveform(notes: &mut [u32], src: &[u8], l: Lengths, t: Tally, p: Spot) -> Told
+fn note_waveform(notes: &mut [u16], src: &[u8], l: Lengths, t: Tally, p: Spot) -> Told
     requires { ⌜ Ready (now src) (now notes) t p ⌝ }
     ensures { λ r. ⌜ loggedAt l (now (src .entry)) (now (notes .entry)) t p WaveformOpened ≡ toldIs (now (src .entry)) (now (notes .exit)) (p .line) r ⌝ }
     ensures { λ r. ⌜ KeptBy t r ⌝ }
@@ -162,14 +162,7 @@ fn note_waveform(notes: &mut [u32], src: &[u8], l: Lengths, t: Tally, p: Spot) -
         return Told::Full(17, t);
     }
     let next = p.next;
-    put_wave(
-        notes,
-        j,
-        p.start as u32,
-        p.line as u32,
-        next.comment as u32,
-        c.rows as u32,
-    );
+    put_wave(notes, j, p.start, next.comment, c.rows);
     let mut d = c;
     d.waveforms = j + 1;
     Told::Going(Tally {
@@ -178,7 +171,7 @@ fn note_waveform(notes: &mut [u32], src: &[u8], l: Lengths, t: Tally, p: Spot) -
     })
 }
 
-fn count_row(src: &[u8], notes: &[u32], l: Lengths, t: Tally, p: Spot) -> Told
+fn count_row(src: &[u8], notes: &[u16], l: Lengths, t: Tally, p: Spot) -> Told
     requires { ⌜ Ready (now src) (now notes) t p ⌝ }
     ensures { λ r. ⌜ loggedAt l (now (src .entry)) (now (notes .entry)) t p TableRow ≡ toldIs (now (src .entry)) (now (notes .entry)) (p .line) r ⌝ }
     ensures { λ r. ⌜ KeptBy t r ⌝ }
@@ -196,7 +189,7 @@ fn count_row(src: &[u8], notes: &[u32], l: Lengths, t: Tally, p: Spot) -> Told
 }
 
 // [End], standing alone or not: a file has a component.
-fn end_file(src: &[u8], notes: &[u32], l: Lengths, t: Tally, p: Spot, alone: bool) -> Told
+fn end_file(src: &[u8], notes: &[u16], l: Lengths, t: Tally, p: Spot, alone: bool) -> Told
     requires { ⌜ Ready (now src) (now notes) t p ⌝ }
     ensures { λ r. ⌜ loggedAt l (now (src .entry)) (now (notes .entry)) t p (Ended alone) ≡ toldIs (now (src .entry)) (now (notes .entry)) (p .line) r ⌝ }
     ensures { λ r. ⌜ KeptBy t r ⌝ }
@@ -212,7 +205,7 @@ fn end_file(src: &[u8], notes: &[u32], l: Lengths, t: Tally, p: Spot, alone: boo
 }
 
 // Notes what a line's event adds.
-pub fn note_event(notes: &mut [u32], src: &[u8], l: Lengths, t: Tally, p: Spot, e: Event) -> Told
+pub fn note_event(notes: &mut [u16], src: &[u8], l: Lengths, t: Tally, p: Spot, e: Event) -> Told
     requires { ⌜ Ready (now src) (now notes) t p ⌝ }
     ensures { λ r. ⌜ loggedAt l (now (src .entry)) (now (notes .entry)) t p e ≡ toldIs (now (src .entry)) (now (notes .exit)) (p .line) r ⌝ }
     ensures { λ r. ⌜ KeptBy t r ⌝ }

@@ -128,7 +128,7 @@ fn put_waveform(waveforms: &mut [Waveform], i: usize, waveform: Waveform)
     waveforms[i] = waveform;
 }
 
-fn fill_components(components: &mut [Component], src: &[u8], notes: &[u32], o: Counts)
+fn fill_components(components: &mut [Component], src: &[u8], notes: &[u16], o: Counts)
     requires { ⌜ o .components ≤ length (now components) ⌝ }
     ensures { λ _. ⌜ now (components .exit) ≡ filledTo (λ k. componentAt (now (src .entry)) (now (notes .entry)) k) (o .components) (now (components .entry)) ⌝ }
 {
@@ -141,7 +141,7 @@ fn fill_components(components: &mut [Component], src: &[u8], notes: &[u32], o: C
     }
 }
 
-fn fill_pins(pins: &mut [Pin], src: &[u8], notes: &[u32], o: Counts)
+fn fill_pins(pins: &mut [Pin], src: &[u8], notes: &[u16], o: Counts)
     requires { ⌜ o .pins ≤ length (now pins) ⌝ }
     ensures { λ _. ⌜ now (pins .exit) ≡ filledTo (λ k. pinAt (now (src .entry)) (now (notes .entry)) k) (o .pins) (now (pins .entry)) ⌝ }
 {
@@ -154,7 +154,7 @@ fn fill_pins(pins: &mut [Pin], src: &[u8], notes: &[u32], o: Counts)
     }
 }
 
-fn fill_selectors(selectors: &mut [Selector], src: &[u8], notes: &[u32], o: Counts)
+fn fill_selectors(selectors: &mut [Selector], src: &[u8], notes: &[u16], o: Counts)
     requires { ⌜ o .selectors ≤ length (now selectors) ⌝ }
     ensures { λ _. ⌜ now (selectors .exit) ≡ filledTo (λ k. selectorAt (now (src .entry)) (now (notes .entry)) k) (o .selectors) (now (selectors .entry)) ⌝ }
 {
@@ -167,7 +167,7 @@ fn fill_selectors(selectors: &mut [Selector], src: &[u8], notes: &[u32], o: Coun
     }
 }
 
-fn fill_choices(choices: &mut [Choice], src: &[u8], notes: &[u32], o: Counts)
+fn fill_choices(choices: &mut [Choice], src: &[u8], notes: &[u16], o: Counts)
     requires { ⌜ o .choices ≤ length (now choices) ⌝ }
     ensures { λ _. ⌜ now (choices .exit) ≡ filledTo (λ k. choiceAt (now (src .entry)) (now (notes .entry)) k) (o .choices) (now (choices .entry)) ⌝ }
 {
@@ -180,7 +180,7 @@ fn fill_choices(choices: &mut [Choice], src: &[u8], notes: &[u32], o: Counts)
     }
 }
 
-fn fill_models(models: &mut [Model], src: &[u8], notes: &[u32], o: Counts)
+fn fill_models(models: &mut [Model], src: &[u8], notes: &[u16], o: Counts)
     requires { ⌜ o .models ≤ length (now models) ⌝ }
     ensures { λ _. ⌜ now (models .exit) ≡ filledTo (λ k. modelAt (now (src .entry)) (now (notes .entry)) k) (o .models) (now (models .entry)) ⌝ }
 {
@@ -193,7 +193,7 @@ fn fill_models(models: &mut [Model], src: &[u8], notes: &[u32], o: Counts)
     }
 }
 
-fn fill_waveforms(waveforms: &mut [Waveform], src: &[u8], notes: &[u32], o: Counts)
+fn fill_waveforms(waveforms: &mut [Waveform], src: &[u8], notes: &[u16], o: Counts)
     requires { ⌜ o .waveforms ≤ length (now waveforms) ⌝ }
     ensures { λ _. ⌜ now (waveforms .exit) ≡ filledTo (λ k. waveformAt (now (src .entry)) (now (notes .entry)) k) (o .waveforms) (now (waveforms .entry)) ⌝ }
 {
@@ -207,7 +207,7 @@ fn fill_waveforms(waveforms: &mut [Waveform], src: &[u8], notes: &[u32], o: Coun
 }
 
 // The rows of all models, one after the other.
-fn fill_rows(rows: &mut [u64], src: &[u8], notes: &[u32], o: Counts)
+fn fill_rows(rows: &mut [u64], src: &[u8], notes: &[u16], o: Counts)
     requires { ⌜ rowsFit (now src) (now notes) o (now rows) ⌝ }
     ensures { λ _. ⌜ now (rows .exit) ≡ rowsFilled (now (src .entry)) (now (notes .entry)) o (now (rows .entry)) ⌝ }
 {
@@ -227,7 +227,7 @@ pub fn read(
 ) -> Answer
     ensures { λ r. ⌜ Read (now (src .entry)) (now (components .entry)) (now (pins .entry)) (now (selectors .entry)) (now (choices .entry)) (now (models .entry)) (now (waveforms .entry)) (now (rows .entry)) r (now (components .exit)) (now (pins .exit)) (now (selectors .exit)) (now (choices .exit)) (now (models .exit)) (now (waveforms .exit)) (now (rows .exit)) ⌝ }
 {
-    let mut notes = [0u32; STORE_LENGTH];
+    let mut notes = [0u16; STORE_LENGTH];
     let l = lengths_of(
         components.len(),
         pins.len(),

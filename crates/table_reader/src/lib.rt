@@ -51,7 +51,7 @@ pub fn read(
 ) -> Answer
     ensures { λ r. ⌜ ReadInWords (now (src .entry)) (wordTables (now (components .entry)) (now (pins .entry)) (now (selectors .entry)) (now (choices .entry)) (now (models .entry)) (now (waveforms .entry)) (now (rows .entry))) r (wordTables (now (components .exit)) (now (pins .exit)) (now (selectors .exit)) (now (choices .exit)) (now (models .exit)) (now (waveforms .exit)) (now (rows .exit))) ⌝ }
 {
-    let mut notes = [0u32; STORE_LENGTH];
+    let mut notes = [0u16; STORE_LENGTH];
     let l = room_in(
         components,
         pins,

@@ -26,7 +26,7 @@ use record_words::tables::selector_words;
 use section_words::Used;
 use section_words::put;
 
-pub(crate) fn fill_components(out: &mut [u64], src: &[u8], notes: &[u32], n: usize)
+pub(crate) fn fill_components(out: &mut [u64], src: &[u8], notes: &[u16], n: usize)
     requires { ⌜ componentSize * n ≤ length (now out) ⌝ }
     ensures { λ _. ⌜ now (out .exit) ≡ over (now (out .entry)) (wordsTo (λ k. componentWords (componentAt (now (src .entry)) (now (notes .entry)) k)) n) ⌝ }
 {
@@ -39,7 +39,7 @@ pub(crate) fn fill_components(out: &mut [u64], src: &[u8], notes: &[u32], n: usi
     }
 }
 
-pub(crate) fn fill_pins(out: &mut [u64], src: &[u8], notes: &[u32], n: usize)
+pub(crate) fn fill_pins(out: &mut [u64], src: &[u8], notes: &[u16], n: usize)
     requires { ⌜ pinSize * n ≤ length (now out) ⌝ }
     ensures { λ _. ⌜ now (out .exit) ≡ over (now (out .entry)) (wordsTo (λ k. pinWords (pinAt (now (src .entry)) (now (notes .entry)) k)) n) ⌝ }
 {
@@ -52,7 +52,7 @@ pub(crate) fn fill_pins(out: &mut [u64], src: &[u8], notes: &[u32], n: usize)
     }
 }
 
-pub(crate) fn fill_selectors(out: &mut [u64], src: &[u8], notes: &[u32], n: usize)
+pub(crate) fn fill_selectors(out: &mut [u64], src: &[u8], notes: &[u16], n: usize)
     requires { ⌜ selectorSize * n ≤ length (now out) ⌝ }
     ensures { λ _. ⌜ now (out .exit) ≡ over (now (out .entry)) (wordsTo (λ k. selectorWords (selectorAt (now (src .entry)) (now (notes .entry)) k)) n) ⌝ }
 {
@@ -65,7 +65,7 @@ pub(crate) fn fill_selectors(out: &mut [u64], src: &[u8], notes: &[u32], n: usiz
     }
 }
 
-pub(crate) fn fill_choices(out: &mut [u64], src: &[u8], notes: &[u32], n: usize)
+pub(crate) fn fill_choices(out: &mut [u64], src: &[u8], notes: &[u16], n: usize)
     requires { ⌜ choiceSize * n ≤ length (now out) ⌝ }
     ensures { λ _. ⌜ now (out .exit) ≡ over (now (out .entry)) (wordsTo (λ k. choiceWords (choiceAt (now (src .entry)) (now (notes .entry)) k)) n) ⌝ }
 {
@@ -84,7 +84,7 @@ fn fill_model(
     waveforms: &mut [u64],
     rows: &mut [u64],
     src: &[u8],
-    notes: &[u32],
+    notes: &[u16],
     i: usize,
 ) -> Used
     requires { ⌜ modelSize ≤ length (now model) ⌝ }
@@ -119,7 +119,7 @@ pub(crate) fn fill_models(
     waveforms: &mut [u64],
     rows: &mut [u64],
     src: &[u8],
-    notes: &[u32],
+    notes: &[u16],
     n: usize,
 )
     requires { ⌜ modelSize * n ≤ length (now models) ⌝ }

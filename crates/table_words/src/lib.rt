@@ -60,7 +60,7 @@ pub fn put_answer(answer: &mut [u64; ANSWER_WORDS], a: Answer)
 
 pub fn fill_tables(
     src: &[u8],
-    notes: &[u32],
+    notes: &[u16],
     o: Counts,
     components: &mut [u64],
     pins: &mut [u64],

@@ -5,19 +5,19 @@ use native.Mathlib.Omega.{arith}
 use lib.ListN.{length}
 use borrow.Author.Needs.{needs}
 use denote.Ref.{now}
-use Rattle.cut_lines.specs.Cursors.{rest, past, Placed, OneIs}
-use Rattle.cut_lines.proofs.Laws.{rest-end, past-end, past-step, placed-step, rest-empty, rest-text, rest-change, rest-here}
+use Rattle.cut_lines.specs.Cursors.{rest, past, CleanFrom, Placed, OneIs}
+use Rattle.cut_lines.proofs.Laws.{rest-end, past-end, past-step, placed-step, clean-step, text-short, rest-empty, rest-text, rest-change, rest-here}
 use Rattle.cut_lines.proofs.next_text.Statement.{statement}
 use Rattle.cut_lines.proofs.next_text.Tie as tie
 
 abbrev Inv-loop : tie.InvT-loop
-Inv-loop s d₀ d = Placed s d × (d₀ .at ≤ d .at) × (past s d₀ ≡ past s d) × (rest s d₀ ≡ rest s d)
+Inv-loop s d₀ d = Placed s d × (d₀ .at ≤ d .at) × (past s d₀ ≡ past s d) × (rest s d₀ ≡ rest s d) × (CleanFrom s d₀ → CleanFrom s d)
 
 abbrev μ-loop : tie.MeasureT-loop
 μ-loop s d₀ d = length s - d .at
 
 loop-holds : tie.Need-loop-holds Inv-loop μ-loop
-loop-holds c = (c .before .pre, omega arith, refl, refl)
+loop-holds c = (c .before .pre, omega arith, refl, refl, λ g. g)
 
 one-line-requires : tie.Need-one-line-requires Inv-loop μ-loop
 one-line-requires c κs = (c .before .before .loop .inv .0, c .if1 .taken)
@@ -26,6 +26,7 @@ enum-known-end : tie.Need-enum-known-end Inv-loop μ-loop
 enum-known-end c = search needs
 
 returns : tie.Need-returns Inv-loop μ-loop
+unfolding past
 returns c =
     let s = now (c .before .before .before .before .before .before .before .before .before .args .s) in
     let l = c .before .before .before .before .before .before .before .loop in
@@ -36,7 +37,9 @@ returns c =
       line = o .steps .line;
       from = l .inv .1;
       lines = l .inv .0 .lines;
-      goes = record { placed = placed-step s (l .d) _ _ (o .steps) (l .inv .0); rises = omega (arith, l .inv .1, o .steps .rises); ends = l .inv .2 ∙ past-step s (l .d) _ _ (o .steps) };
+      place = l .inv .2;
+      short = λ g. text-short s (l .d) _ _ o (l .inv .4 g);
+      goes = record { placed = placed-step s (l .d) _ _ (o .steps) (l .inv .0); rises = omega (arith, l .inv .1, o .steps .rises); ends = l .inv .2 ∙ past-step s (l .d) _ _ (o .steps); clean = λ g. clean-step s (l .d) _ _ (o .steps) (l .inv .4 g) };
       starts = c .if2 .taken;
       fits = o .ends;
     }
@@ -51,7 +54,7 @@ loop-again c =
     let s = now (c .before .before .before .before .before .before .before .before .before .args .s) in
     let l = c .before .before .before .before .before .before .before .loop in
     let o = subst (OneIs s (l .d)) (c .before .before .end .given .1) (c .before .before .before .before .one-line .ensures) in
-    (placed-step s (l .d) _ _ (o .steps) (l .inv .0), omega (arith, l .inv .1, o .steps .rises), l .inv .2 ∙ past-step s (l .d) _ _ (o .steps), l .inv .3 ∙ rest-empty s (l .d) _ _ o (c .if2 .left))
+    (placed-step s (l .d) _ _ (o .steps) (l .inv .0), omega (arith, l .inv .1, o .steps .rises), l .inv .2 ∙ past-step s (l .d) _ _ (o .steps), l .inv .3 ∙ rest-empty s (l .d) _ _ o (c .if2 .left), λ g. clean-step s (l .d) _ _ (o .steps) (l .inv .4 g))
 
 enum-known-fault : tie.Need-enum-known-fault Inv-loop μ-loop
 enum-known-fault c = search needs
@@ -63,7 +66,7 @@ returns-2 c =
     let o = subst (OneIs s (l .d)) (c .before .fault .given .1) (c .before .before .before .one-line .ensures) in
     record {
       more = l .inv .3 ∙ rest-change s (l .d) _ _ o;
-      goes = record { placed = placed-step s (l .d) _ _ (o .steps) (l .inv .0); rises = omega (arith, l .inv .1, o .steps .rises); ends = l .inv .2 ∙ past-step s (l .d) _ _ (o .steps) };
+      goes = record { placed = placed-step s (l .d) _ _ (o .steps) (l .inv .0); rises = omega (arith, l .inv .1, o .steps .rises); ends = l .inv .2 ∙ past-step s (l .d) _ _ (o .steps); clean = λ g. clean-step s (l .d) _ _ (o .steps) (l .inv .4 g) };
     }
 
 returns-3 : tie.Need-returns-3 Inv-loop μ-loop

@@ -1,16 +1,11 @@
 -- The line whole by `line_at`; then whether it is a [Comment Char] line says which of the two it is.
-use Prim.Native.Nat.{ℕ, _<_}
 use mathlib.Core.Path.{_≡_, refl, sym, ap, _∙_, subst}
-use mathlib.Core.List.{List}
 use native.Mathlib.Omega.{arith}
-use lib.ListN.{length}
 use borrow.Author.Needs.{needs}
 use denote.Ref.{now}
 use Rattle.laws.proofs.Lists.{part-length}
 use Rattle.lines.specs.Lines.{cut}
-use Rattle.lines.specs.Places.{lineFrom, RawAt}
-use Rattle.lines.specs.declared.Line.{Line}
-use Rattle.lines.proofs.Handed.{raw-at}
+use Rattle.lines.proofs.Handed.{raw-handed}
 use Rattle.cut_lines.specs.Change.{isChange, changeOf}
 use Rattle.cut_lines.specs.Cursors.{changeRead, changeSays}
 use Rattle.laws.specs.Said.{Said, faultIn, orElse}
@@ -20,21 +15,17 @@ use Rattle.cut_lines.proofs.Laws.{cut-at}
 use Rattle.cut_lines.proofs.one_line.Statement.{statement}
 use Rattle.cut_lines.proofs.one_line.Tie as tie
 
--- the line handed out is the first of the lines from its place on
-handed : (s : List ℕ) (at : ℕ) (l : Line) → at < length s → l ≡ lineFrom s at → RawAt s at l
-handed s at l h e = subst (RawAt s at) (sym e) (raw-at s at h)
-
 line-at-requires : tie.Need-line-at-requires
 line-at-requires c κs = search needs
 
 sub-line : tie.Need-sub-line
-sub-line c = handed _ _ _ (c .before .before .pre .1) (c .line-at .ensures) .starts
+sub-line c = raw-handed _ _ _ (c .before .before .pre .1) (c .line-at .ensures) .starts
 
 part-line-start : tie.Need-part-line-start
-part-line-start c = handed _ _ _ (c .before .before .pre .1) (c .line-at .ensures) .starts
+part-line-start c = raw-handed _ _ _ (c .before .before .pre .1) (c .line-at .ensures) .starts
 
 part-line-end : tie.Need-part-line-end
-part-line-end c = handed _ _ _ (c .before .before .pre .1) (c .line-at .ensures) .ends
+part-line-end c = raw-handed _ _ _ (c .before .before .pre .1) (c .line-at .ensures) .ends
 
 changes-requires : tie.Need-changes-requires
 changes-requires c κs = tt
@@ -50,7 +41,7 @@ returns c =
     let s = now (c .before .before .before .before .before .before .before .args .s) in
     let d = c .before .before .before .before .before .before .before .args .c in
     let l = c .before .before .before .before .before .line-at in
-    let r = handed s (d .at) (l .result) (c .before .before .before .before .before .before .before .pre .1) (l .ensures) in
+    let r = raw-handed s (d .at) (l .result) (c .before .before .before .before .before .before .before .pre .1) (l .ensures) in
     let said : changeSays (c .before .change-of .result) ≡ changeOf (r .line .bytes) =
     change-said _ _ (c .before .change-of .ensures) ∙ ap changeOf (r .text) in
     subst (OneIs s d) (sym (c .changed .ensures))
@@ -76,7 +67,7 @@ returns-2 c =
     let s = now (c .before .before .before .before .before .before .before .args .s) in
     let d = c .before .before .before .before .before .before .before .args .c in
     let l = c .before .before .before .before .before .line-at in
-    let r = handed s (d .at) (l .result) (c .before .before .before .before .before .before .before .pre .1) (l .ensures) in
+    let r = raw-handed s (d .at) (l .result) (c .before .before .before .before .before .before .before .pre .1) (l .ensures) in
     let n = c .before .cut-length in
     record {
       physical = r .line;

@@ -27,7 +27,7 @@ nothing-requires : tie.Need-nothing-requires Inv-loop μ-loop
 nothing-requires c κs = tt
 
 loop-holds : tie.Need-loop-holds Inv-loop μ-loop
-loop-holds c = (rw (c .before .first .ensures) rw (c .nothing .ensures) (first-sound (now (c .before .before .before .before .args .src)) (now (c .before .before .before .before .args .notes)) (c .before .before .before .before .pre .0) (c .before .before .before .before .pre .1)), refl, refl)
+loop-holds c = (rw (c .before .first .ensures) rw (c .nothing .ensures) (first-sound (now (c .before .before .before .before .args .src)) (now (c .before .before .before .before .args .notes)) (c .before .before .before .before .pre .0 .0) (c .before .before .before .before .pre .0 .1) (c .before .before .before .before .pre .1)), refl, refl)
 
 next-text-requires : tie.Need-next-text-requires Inv-loop μ-loop
 next-text-requires c κs = c .loop .inv .0 .placed

@@ -4,13 +4,16 @@ use native.Mathlib.Omega.{arith}
 use borrow.Author.Needs.{needs}
 use denote.Ref.{now}
 use Rattle.name_checks.proofs.ClashLaws.{found-clash, no-clash}
-use Rattle.file_answer.proofs.Laws.{small}
+use Rattle.file_answer.proofs.Laws.{small, clean-first}
 use Rattle.file_answer.proofs.Accepts.{refuses, twice, broken, all-read}
 use Rattle.file_answer.proofs.settling.settle.Statement.{statement}
 use Rattle.file_answer.proofs.settling.settle.Tie as tie
 
 scan-requires : tie.Need-scan-requires
-scan-requires c κs = (small (c .before .before .before .args .l) (now (c .before .before .before .args .src)) (c .before .before .before .pre .0), c .before .before .before .pre .1)
+scan-requires c κs =
+    let f = c .before .before .before in
+    let s = now (f .args .src) in
+    ((small (f .args .l) s (f .pre .0), f .pre .1), clean-first (f .args .l) s (f .pre .0))
 
 first-clash-requires : tie.Need-first-clash-requires
 first-clash-requires c κs = c .before .before .before .before .scan .ensures .1 .0

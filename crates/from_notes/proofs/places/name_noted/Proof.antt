@@ -1,5 +1,8 @@
 -- By the two words.
+use Prim.Native.Nat.{_+_, _*_}
 use mathlib.Core.Path.{refl}
+use native.Mathlib.Omega.{arith}
+use Rattle.note_words.specs.Store.{wordsPerName}
 use Rattle.from_notes.proofs.places.name_noted.Statement.{statement}
 use Rattle.from_notes.proofs.places.name_noted.Tie as tie
 
@@ -9,6 +12,14 @@ name-word-requires c κs = tt
 name-word-requires-2 : tie.Need-name-word-requires-2
 name-word-requires-2 c κs = tt
 
+add-start : tie.Need-add-start
+add-start c =
+    omega (arith, c .before .name-word .ensures, c .name-word2 .ensures, c .before .before .shared-slice-known2 .given (wordsPerName * c .before .before .before .before .args .n + 0), c .before .before .shared-slice-known2 .given (wordsPerName * c .before .before .before .before .args .n + 2))
+
+add-part-of : tie.Need-add-part-of
+add-part-of c =
+    omega (arith, c .before .name-word .ensures, c .name-word2 .ensures, c .before .before .shared-slice-known2 .given (wordsPerName * c .before .before .before .before .args .n + 0), c .before .before .shared-slice-known2 .given (wordsPerName * c .before .before .before .before .args .n + 2))
+
 part-of-requires : tie.Need-part-of-requires
 part-of-requires c κs = tt
 
@@ -17,4 +28,4 @@ returns c = rw (c .part-of .ensures, c .before .name-word2 .ensures, c .before .
 
 pub name-noted-spec : {M : Type 1} → statement M
 name-noted-spec =
-    tie.close (tie.spec name-word-requires name-word-requires-2 part-of-requires returns)
+    tie.close (tie.spec name-word-requires name-word-requires-2 add-start add-part-of part-of-requires returns)

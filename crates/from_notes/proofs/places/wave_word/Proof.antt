@@ -1,4 +1,4 @@
--- Behind the last place of four words there is nothing.
+-- Behind the last place of three words there is nothing.
 use Prim.Native.Nat.{_+_, _*_}
 use native.Mathlib.Omega.{arith}
 use borrow.Author.Needs.{needs}

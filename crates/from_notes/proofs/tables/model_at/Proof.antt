@@ -28,7 +28,7 @@ name-noted-requires : tie.Need-name-noted-requires
 name-noted-requires c κs = tt
 
 model-of-requires : tie.Need-model-of-requires
-model-of-requires c κs = (c .before .section-noted .ensures .placed, omega (arith, c .before .before .before .name-word2 .ensures, c .before .before .before .before .before .before .shared-slice-known2 .given (wordsPerName * c .before .before .before .before .before .word-behind .result + 5)))
+model-of-requires c κs = (c .before .section-noted .ensures .placed, omega (arith, c .before .before .before .name-word2 .ensures, c .before .before .before .before .before .before .shared-slice-known2 .given (wordsPerName * c .before .before .before .before .before .word-behind .result + 4)))
 
 returns : tie.Need-returns
 unfolding modelAt

@@ -1,10 +1,9 @@
 -- By the words noted, whatever the line's number.
-use Prim.Native.Nat.{ℕ, _+_, _*_}
-use mathlib.Core.Path.{_≡_, sym, ap, _∙_}
-use lib.ListN.{getD}
-use native.Mathlib.Omega.{arith}
+use Prim.Native.Nat.{ℕ}
+use mathlib.Core.Path.{sym}
 use denote.Ref.{now}
-use Rattle.note_words.specs.Store.{wavesFrom, wordsPerWave, waveAt}
+use Rattle.lines.specs.Places.{lineAt}
+use Rattle.note_words.specs.Store.{waveWord, waveAt}
 use Rattle.layout_by_notes.specs.Lies.{waveformFrom, waveNoted}
 use Rattle.from_notes.specs.Made.{waveformAt}
 use Rattle.from_notes.proofs.Numberless.{stands, waveform-numberless}
@@ -29,11 +28,9 @@ waveform-from-requires c κs = c .cursor-at .ensures .placed
 returns : tie.Need-returns
 unfolding waveformAt waveNoted waveAt
 returns c =
-    let ns = now (c .before .before .before .before .before .before .before .args .notes) in
-    let at : ℕ = wavesFrom + wordsPerWave * c .before .before .before .before .before .before .before .args .i in
-    let z : c .before .before .before .before .wave-word .result ≡ getD ns at 0 = c .before .before .before .before .wave-word .ensures ∙ ap (λ (k : ℕ). getD ns k 0) (omega arith) in
-    rw (c .waveform-from .ensures, c .before .before .wave-word3 .ensures, sym (c .before .before .before .wave-word2 .ensures), sym z)
-    (stands (waveformFrom (getD ns (at + 3) 0)) (waveform-numberless (getD ns (at + 3) 0)) (c .before .cursor-at .ensures) (getD ns (at + 1) 0))
+    let row : ℕ = waveWord (now (c .before .before .before .before .before .before .before .args .notes)) (c .before .before .before .before .before .before .before .args .i) 2 in
+    rw (c .waveform-from .ensures, c .before .before .wave-word3 .ensures, sym (c .before .before .before .wave-word2 .ensures), sym (c .before .before .before .before .wave-word .ensures))
+    (stands (waveformFrom row) (waveform-numberless row) (c .before .cursor-at .ensures) (lineAt (now (c .before .before .before .before .before .before .before .args .src)) (c .before .before .before .before .wave-word .result)))
 
 pub waveform-at-spec : {M : Type 1} → statement M
 waveform-at-spec =

@@ -31,12 +31,6 @@ scan-holds c = (omega arith, clash-none (now (c .before .before .args .src)) (no
 kind-at-requires : tie.Need-kind-at-requires Inv-loop μ-loop Inv-scan μ-scan
 kind-at-requires c κs = search needs
 
-mul-part-at : tie.Need-mul-part-at Inv-loop μ-loop Inv-scan μ-scan
-mul-part-at c = search needs
-
-add-part-at : tie.Need-add-part-at Inv-loop μ-loop Inv-scan μ-scan
-add-part-at c = search needs
-
 part-at-requires : tie.Need-part-at-requires Inv-loop μ-loop Inv-scan μ-scan
 part-at-requires c κs = search needs
 
@@ -136,8 +130,6 @@ first-clash-spec =
     μ-scan
     scan-holds
     kind-at-requires
-    mul-part-at
-    add-part-at
     part-at-requires
     key-of-requires
     to-meet-requires

@@ -18,12 +18,6 @@ kind-at-requires c κs = search needs
 are-rivals-requires : tie.Need-are-rivals-requires
 are-rivals-requires c κs = tt
 
-mul-part-at : tie.Need-mul-part-at
-mul-part-at c = search needs
-
-add-part-at : tie.Need-add-part-at
-add-part-at c = search needs
-
 part-at-requires : tie.Need-part-at-requires
 part-at-requires c κs = search needs
 
@@ -69,8 +63,6 @@ meet-spec =
     (tie.spec
     kind-at-requires
     are-rivals-requires
-    mul-part-at
-    add-part-at
     part-at-requires
     same-parts-requires
     returns

@@ -20,12 +20,6 @@ returns c =
     let a = c .before .before .before .before .before .args in
     list-other (now (a .src)) (now (a .notes)) (a .i) (c .before .before .kind-at .result) (c .before .before .kind-at .ensures) (now (a .seen)) (now (a .slots)) (sym (c .before .model-or-selector .ensures) ∙ not-true (c .before .model-or-selector .result) (c .if1 .taken))
 
-mul-part-at : tie.Need-mul-part-at
-mul-part-at c = search needs
-
-add-part-at : tie.Need-add-part-at
-add-part-at c = search needs
-
 part-at-requires : tie.Need-part-at-requires
 part-at-requires c κs = search needs
 
@@ -57,8 +51,6 @@ list-name-spec =
     kind-at-requires
     model-or-selector-requires
     returns
-    mul-part-at
-    add-part-at
     part-at-requires
     target-key-requires
     see-requires

@@ -9,12 +9,6 @@ use Rattle.name_checks.proofs.ListingLaws.{unseen-nothing, hit-target}
 use Rattle.name_checks.proofs.marking.find_target.Statement.{statement}
 use Rattle.name_checks.proofs.marking.find_target.Tie as tie
 
-mul-part-at : tie.Need-mul-part-at
-mul-part-at c = search needs
-
-add-part-at : tie.Need-add-part-at
-add-part-at c = search needs
-
 part-at-requires : tie.Need-part-at-requires
 part-at-requires c κs = search needs
 
@@ -58,8 +52,6 @@ pub find-target-spec : {M : Type 1} → statement M
 find-target-spec =
     tie.close
     (tie.spec
-    mul-part-at
-    add-part-at
     part-at-requires
     target-key-requires
     is-seen-requires

@@ -1,24 +1,15 @@
 -- By the kind: a pin's word decides.
-use Prim.Native.Nat.{_+_, _*_}
-use mathlib.Core.Path.{_≡_, refl, ap, _∙_}
-use native.Mathlib.Omega.{arith}
+use mathlib.Core.Path.{refl, ap, _∙_}
 use borrow.Author.Needs.{needs}
 use denote.Ref.{now}
 use Rattle.line_rules.specs.Fields.{needsNoModel}
-use Rattle.note_words.specs.Store.{wordsPerName}
-use Rattle.name_checks.proofs.NoteLaws.{part-said}
+use Rattle.name_checks.proofs.NoteLaws.{model-said}
 use Rattle.name_checks.proofs.TargetLaws.{excused-pin, excused-other}
 use Rattle.name_checks.proofs.marking.is_excused.Statement.{statement}
 use Rattle.name_checks.proofs.marking.is_excused.Tie as tie
 
 kind-at-requires : tie.Need-kind-at-requires
 kind-at-requires c κs = search needs
-
-mul-part-at : tie.Need-mul-part-at
-mul-part-at c = search needs
-
-add-part-at : tie.Need-add-part-at
-add-part-at c = search needs
 
 part-at-requires : tie.Need-part-at-requires
 part-at-requires c κs = search needs
@@ -41,9 +32,8 @@ needs-no-model-requires c κs = tt
 returns : tie.Need-returns
 returns c =
     let a = c .before .before .before .before .before .before .before .before .args in
-    let e : wordsPerName * (a .i) + 5 ≡ wordsPerName * (a .i) + 4 + 1 = omega arith in
     excused-pin (now (a .src)) (now (a .notes)) (a .i) (c .before .before .before .before .before .kind-at .result) (c .before .before .before .before .before .kind-at .ensures) (c .needs-no-model .result) (c .before .before .before .before .if1 .taken)
-    (c .needs-no-model .ensures ∙ ap needsNoModel (part-said (now (a .src)) (now (a .notes)) (c .before .before .before .part-at .result) (c .before .before .within .result) (wordsPerName * (a .i) + 4) (c .before .before .before .part-at .ensures) (c .before .before .within .ensures) (wordsPerName * (a .i) + 5) e))
+    (c .needs-no-model .ensures ∙ ap needsNoModel (c .before .before .within .ensures .same ∙ model-said (now (a .src)) (now (a .notes)) (c .before .before .before .part-at .result) (a .i) (c .before .before .before .part-at .ensures)))
 
 returns-2 : tie.Need-returns-2
 returns-2 c =
@@ -55,8 +45,6 @@ is-excused-spec =
     tie.close
     (tie.spec
     kind-at-requires
-    mul-part-at
-    add-part-at
     part-at-requires
     within-requires
     sub-needs-no-model

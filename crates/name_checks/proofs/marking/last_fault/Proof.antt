@@ -1,8 +1,8 @@
--- By whether all names are found; the store with the marks cleared says the same of the names.
+-- By whether all names are found, and all are listed; the store with the marks cleared says the same of the names.
 use borrow.Author.Needs.{needs}
 use denote.Ref.{now}
-use Rattle.name_checks.specs.declared.Last.the-variants.{Faulty}
-use Rattle.name_checks.proofs.MarkLaws.{cleared-ready, cleared-said, concludes-missing, concludes-listed}
+use Rattle.name_checks.specs.declared.Last.the-variants.{Fine}
+use Rattle.name_checks.proofs.MarkLaws.{cleared-ready, cleared-said, concludes-missing, concludes-unlisted, concludes-fine}
 use Rattle.name_checks.proofs.marking.last_fault.Statement.{statement}
 use Rattle.name_checks.proofs.marking.last_fault.Tie as tie
 
@@ -14,32 +14,46 @@ mark-targets-requires c κs =
     let a = c .before .before .before .before .before .before .before .args in
     cleared-ready (now (a .src)) (now (a .notes)) _ (a .n) (c .before .before .before .before .before .before .before .pre .0 .0) (c .before .before .before .clear-marks .ensures) (c .before .before .before .before .before .before .before .pre .0 .1) (c .before .before .before .before .before .before .before .pre .1)
 
-enum-told : tie.Need-enum-told
-enum-told c = search needs
-
-first-unlisted-requires : tie.Need-first-unlisted-requires
-first-unlisted-requires c κs = search needs
-
-enum-known-missing : tie.Need-enum-known-missing
-enum-known-missing c = search needs
+faulty-requires : tie.Need-faulty-requires
+faulty-requires c κs = search needs
 
 same-length : tie.Need-same-length
 same-length c = search needs
 
 returns : tie.Need-returns
 returns c =
-    let a = c .before .before .before .before .before .before .before .before .before .before .before .before .before .before .args in
-    let m = c .before .before .before .before .before .before .mark-targets .ensures in
-    cleared-said (now (a .src)) (now (a .notes)) _ (a .n) (c .before .before .before .before .before .before .before .before .before .before .before .before .before .before .pre .0 .0) (c .before .before .before .before .before .before .before .before .before .before .clear-marks .ensures) (c .first-unlisted .result) _ (concludes-listed (now (a .src)) _ _ (a .n) (c .before .before .before .before .before .before .mark-targets .result) m (c .before .before .enum-told .given .1) (c .before .before .before .before .before .before .before .before .before .before .before .before .before .before .pre .0 .0) (c .first-unlisted .result) (c .first-unlisted .ensures)) (m .outside)
+    let a = c .before .before .before .before .before .before .before .before .before .before .before .before .before .args in
+    let small = c .before .before .before .before .before .before .before .before .before .before .before .before .before .pre .0 .0 in
+    let m = c .before .before .before .before .before .mark-targets in
+    cleared-said (now (a .src)) (now (a .notes)) _ (a .n) small (c .before .before .before .before .before .before .before .before .before .clear-marks .ensures) (c .faulty .result) _ (concludes-missing (now (a .src)) _ _ (a .n) (m .result) small (m .ensures) (c .before .before .if1 .taken) (c .faulty .result) (c .faulty .ensures)) (m .ensures .outside)
+
+first-unlisted-requires : tie.Need-first-unlisted-requires
+first-unlisted-requires c κs = search needs
+
+faulty-requires-2 : tie.Need-faulty-requires-2
+faulty-requires-2 c κs = search needs
 
 same-length-2 : tie.Need-same-length-2
 same-length-2 c = search needs
 
 returns-2 : tie.Need-returns-2
 returns-2 c =
-    let a = c .before .before .before .before .before .before .before .before .before .before .before .before .before .args in
-    let m = c .before .before .before .before .before .mark-targets .ensures in
-    cleared-said (now (a .src)) (now (a .notes)) _ (a .n) (c .before .before .before .before .before .before .before .before .before .before .before .before .before .pre .0 .0) (c .before .before .before .before .before .before .before .before .before .clear-marks .ensures) (Faulty (c .before .missing .given .0 .0)) _ (concludes-missing (now (a .src)) _ _ (a .n) (c .before .before .before .before .before .mark-targets .result) m (c .before .missing .given .0 .0) (c .before .missing .given .1)) (m .outside)
+    let a = c .before .before .before .before .before .before .before .before .before .before .before .before .before .before .before .before .args in
+    let small = c .before .before .before .before .before .before .before .before .before .before .before .before .before .before .before .before .pre .0 .0 in
+    let m = c .before .before .before .before .before .before .before .before .mark-targets in
+    let u = c .before .before .before .first-unlisted in
+    cleared-said (now (a .src)) (now (a .notes)) _ (a .n) small (c .before .before .before .before .before .before .before .before .before .before .before .before .clear-marks .ensures) (c .faulty2 .result) _ (concludes-unlisted (now (a .src)) _ _ (a .n) (m .result) small (m .ensures) (u .result) (u .ensures) (c .before .before .before .before .before .if1 .left) (c .before .before .if2 .taken) (c .faulty2 .result) (c .faulty2 .ensures)) (m .ensures .outside)
+
+same-length-3 : tie.Need-same-length-3
+same-length-3 c = search needs
+
+returns-3 : tie.Need-returns-3
+returns-3 c =
+    let a = c .before .before .before .before .before .before .before .before .before .before .before .before .before .before .args in
+    let small = c .before .before .before .before .before .before .before .before .before .before .before .before .before .before .pre .0 .0 in
+    let m = c .before .before .before .before .before .before .mark-targets in
+    let u = c .before .first-unlisted in
+    cleared-said (now (a .src)) (now (a .notes)) _ (a .n) small (c .before .before .before .before .before .before .before .before .before .before .clear-marks .ensures) Fine _ (concludes-fine (now (a .src)) _ _ (a .n) (m .result) small (m .ensures) (u .result) (u .ensures) (c .before .before .before .if1 .left) (c .if2 .left)) (m .ensures .outside)
 
 pub last-fault-spec : {M : Type 1} → statement M
 last-fault-spec =
@@ -47,10 +61,12 @@ last-fault-spec =
     (tie.spec
     clear-marks-requires
     mark-targets-requires
-    enum-told
-    first-unlisted-requires
-    enum-known-missing
+    faulty-requires
     same-length
     returns
+    first-unlisted-requires
+    faulty-requires-2
     same-length-2
-    returns-2)
+    returns-2
+    same-length-3
+    returns-3)

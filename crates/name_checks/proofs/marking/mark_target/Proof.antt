@@ -1,11 +1,10 @@
 -- By what the search answers; a section has nothing to search for, and what is not found is the fault.
-use mathlib.Core.Path.{refl, sym, ap, _∙_}
+use mathlib.Core.Path.{refl, sym, _∙_}
 use native.Mathlib.Omega.{arith}
 use borrow.Author.Needs.{needs}
 use borrow.Author.Tests.{not-true}
 use denote.Ref.{now}
 use Rattle.name_table.specs.declared.Found.the-variants.{At, Nothing}
-use Rattle.name_checks.specs.Lookup.{toldOf}
 use Rattle.name_checks.proofs.TargetLaws.{section-marks, missing-excused, missing-told, target-marks, target-within}
 use Rattle.name_checks.proofs.marking.mark_target.Statement.{statement}
 use Rattle.name_checks.proofs.marking.mark_target.Tie as tie
@@ -47,20 +46,14 @@ returns-2 c =
     target-marks (now (a .src)) (now (a .notes)) (a .i) (a .n) (a .later) (a .later) (c .before .before .before .before .before .find-target .result) Nothing (c .before .before .before .before .before .find-target .ensures) (c .before .before .before .enum-told .given .1)
     (missing-excused (now (a .src)) (now (a .notes)) (a .i) (a .later) (c .before .is-excused .result) (c .before .is-excused .ensures) (c .if2 .taken))
 
-line-at-requires : tie.Need-line-at-requires
-line-at-requires c κs = search needs
-
-told-requires : tie.Need-told-requires
-told-requires c κs = tt
-
 same-length-3 : tie.Need-same-length-3
 same-length-3 c = search needs
 
 returns-3 : tie.Need-returns-3
 returns-3 c =
-    let a = c .before .before .before .before .before .before .before .before .before .before .before .before .before .before .before .before .args in
-    target-marks (now (a .src)) (now (a .notes)) (a .i) (a .n) (a .later) (c .told .result) (c .before .before .before .before .before .before .before .before .find-target .result) Nothing (c .before .before .before .before .before .before .before .before .find-target .ensures) (c .before .before .before .before .before .before .enum-told .given .1)
-    (c .told .ensures ∙ ap (toldOf 15) (c .before .line-at .ensures) ∙ missing-told (now (a .src)) (now (a .notes)) (a .i) (a .later) (c .before .before .before .before .is-excused .result) (c .before .before .before .before .is-excused .ensures) (c .before .before .before .if2 .left))
+    let a = c .before .before .before .before .before .before .before .before .before .before .before .before .before .args in
+    target-marks (now (a .src)) (now (a .notes)) (a .i) (a .n) (a .later) (a .i) (c .before .before .before .before .before .find-target .result) Nothing (c .before .before .before .before .before .find-target .ensures) (c .before .before .before .enum-told .given .1)
+    (missing-told (now (a .src)) (now (a .notes)) (a .i) (a .later) (c .before .is-excused .result) (c .before .is-excused .ensures) (c .if2 .left))
 
 add-notes : tie.Need-add-notes
 add-notes c = omega (arith, target-within (now (c .before .before .before .before .before .before .before .before .before .before .before .args .src)) (now (c .before .before .before .before .before .before .before .before .before .before .before .args .notes)) (c .before .before .before .before .before .before .before .before .before .before .before .args .i) (c .before .before .before .before .before .before .before .before .before .before .before .args .n) (c .before .target .given .0 .0) (c .before .before .before .find-target .result) (c .before .before .before .find-target .ensures) (c .before .target .given .1))
@@ -93,8 +86,6 @@ mark-target-spec =
     is-excused-requires
     same-length-2
     returns-2
-    line-at-requires
-    told-requires
     same-length-3
     returns-3
     add-notes

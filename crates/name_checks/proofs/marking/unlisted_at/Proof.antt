@@ -1,8 +1,7 @@
 -- By the kind, and by the mark.
-use mathlib.Core.Path.{sym, ap, _∙_}
+use mathlib.Core.Path.{sym, _∙_}
 use borrow.Author.Needs.{needs}
 use denote.Ref.{now}
-use Rattle.name_checks.specs.Lookup.{toldOf}
 use Rattle.name_checks.proofs.MarkLaws.{unmarked-kept, unmarked-told, unmarked-other}
 use Rattle.name_checks.proofs.marking.unlisted_at.Statement.{statement}
 use Rattle.name_checks.proofs.marking.unlisted_at.Tie as tie
@@ -22,19 +21,12 @@ word-requires c κs = tt
 returns : tie.Need-returns
 returns c =
     let a = c .before .before .before .before .before .before .args in
-    unmarked-kept (now (a .notes)) (a .j) (c .before .before .before .before .kind-at .result) (a .later) (c .before .before .before .before .kind-at .ensures) (c .before .word .result) (sym (c .before .before .before .model-or-selector .ensures) ∙ c .before .before .if1 .taken) (c .before .word .ensures) (c .if2 .taken)
-
-line-at-requires : tie.Need-line-at-requires
-line-at-requires c κs = search needs
-
-told-requires : tie.Need-told-requires
-told-requires c κs = tt
+    unmarked-kept (now (a .notes)) (a .j) (c .before .before .before .before .kind-at .result) (a .later) (c .before .before .before .before .kind-at .ensures) (c .before .word .result) (sym (c .before .before .before .model-or-selector .ensures) ∙ c .before .before .if1 .taken) (c .before .word .ensures .0) (c .if2 .taken)
 
 returns-2 : tie.Need-returns-2
 returns-2 c =
-    let a = c .before .before .before .before .before .before .before .before .args in
-    c .told .ensures ∙ ap (toldOf 16) (c .before .line-at .ensures)
-    ∙ unmarked-told (now (a .notes)) (a .j) (c .before .before .before .before .before .before .kind-at .result) (a .later) (c .before .before .before .before .before .before .kind-at .ensures) (c .before .before .before .word .result) (sym (c .before .before .before .before .before .model-or-selector .ensures) ∙ c .before .before .before .before .if1 .taken) (c .before .before .before .word .ensures) (c .before .before .if2 .left)
+    let a = c .before .before .before .before .before .before .args in
+    unmarked-told (now (a .notes)) (a .j) (c .before .before .before .before .kind-at .result) (a .later) (c .before .before .before .before .kind-at .ensures) (c .before .word .result) (sym (c .before .before .before .model-or-selector .ensures) ∙ c .before .before .if1 .taken) (c .before .word .ensures .0) (c .if2 .left)
 
 returns-3 : tie.Need-returns-3
 returns-3 c =
@@ -50,7 +42,5 @@ unlisted-at-spec =
     add-word
     word-requires
     returns
-    line-at-requires
-    told-requires
     returns-2
     returns-3)

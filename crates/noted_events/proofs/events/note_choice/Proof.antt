@@ -1,12 +1,11 @@
 -- The note is the row's, by the place of its first word.
-use Prim.Native.Nat.{_≤_}
 use mathlib.Core.Path.{refl}
 use native.Mathlib.Omega.{arith}
 use borrow.Author.Needs.{needs}
 use denote.Ref.{now}
 use Rattle.records.specs.declared.Kind.the-variants.{OfChoice}
 use Rattle.note_words.specs.Store.{kindOf}
-use Rattle.noted_events.proofs.EventLaws.{name-fits, told-row}
+use Rattle.noted_events.proofs.EventLaws.{name-fits, row-fits, told-row}
 use Rattle.noted_events.proofs.events.note_choice.Statement.{statement}
 use Rattle.noted_events.proofs.events.note_choice.Tie as tie
 
@@ -15,15 +14,14 @@ first-in-requires c κs = (omega (arith, c .before .before .pre .text .starts), 
 
 row-note-requires : tie.Need-row-note-requires
 row-note-requires c κs =
-    let r = c .before .before .before .pre in
-    let x = c .first-in .ensures in
-    let e : c .before .before .before .args .p .end ≤ 65536 = omega (arith, r .text .fits, r .small) in
-    (omega arith, omega (arith, r .text .lines, r .text .starts, e), omega (arith, r .text .starts, e), omega (arith, e), omega (arith, x .starts, x .ends, e), omega (arith, x .ends, e), omega (arith, x .starts, x .ends, e), omega (arith, x .ends, e))
+    let a = c .before .before .before .args in
+    let x = c .first-in in
+    row-fits (now (a .src)) (now (a .notes)) (a .l) (a .t) (a .p) (c .before .before .before .pre) 3 (x .result) (x .result) (omega arith) (x .ensures .from) (x .ensures .starts) (x .ensures .ends) (x .ensures .from) (x .ensures .starts) (x .ensures .ends)
 
 put-row-requires : tie.Need-put-row-requires
 put-row-requires c κs =
     let a = c .before .before .before .before .before .args in
-    name-fits (now (a .src)) (now (a .notes)) (a .l) (a .t) (a .p) (c .before .before .before .before .before .pre)
+    (name-fits (now (a .src)) (now (a .notes)) (a .l) (a .t) (a .p) (c .before .before .before .before .before .pre), c .before .row-note .ensures .1)
 
 count-name-requires : tie.Need-count-name-requires
 count-name-requires c κs = c .before .before .before .before .before .before .before .before .pre .within
@@ -38,7 +36,7 @@ returns c =
     let s = now (a .src) in
     let p = a .p in
     let name = c .before .before .before .before .before .before .first-in in
-    (told-row s (now (a .notes)) (a .l) (a .t) p (c .before .before .before .before .before .before .before .before .before .pre) OfChoice 3 (name .result) (name .result) _ (c .before .before .before .before .before .row-note .ensures) refl refl (name .ensures .text) (name .ensures .text) (c .before .before .before .put-row .ensures) (c .count-name .ensures .0), c .count-name .ensures .1)
+    (told-row s (now (a .notes)) (a .l) (a .t) p (c .before .before .before .before .before .before .before .before .before .pre) OfChoice 3 (name .result) (name .result) _ (c .before .before .before .before .before .row-note .ensures .0) (c .before .before .before .before .before .row-note .ensures .1) refl refl (name .ensures .text) (name .ensures .text) (c .before .before .before .put-row .ensures) (c .count-name .ensures .0), c .count-name .ensures .1)
 
 pub note-choice-spec : {M : Type 1} → statement M
 note-choice-spec =

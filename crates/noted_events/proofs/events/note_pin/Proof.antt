@@ -1,12 +1,11 @@
 -- The note is the row's, by the places of its first and third words.
-use Prim.Native.Nat.{_≤_}
 use mathlib.Core.Path.{refl}
 use native.Mathlib.Omega.{arith}
 use borrow.Author.Needs.{needs}
 use denote.Ref.{now}
 use Rattle.records.specs.declared.Kind.the-variants.{OfPin}
 use Rattle.note_words.specs.Store.{kindOf}
-use Rattle.noted_events.proofs.EventLaws.{name-fits, told-row, third-in}
+use Rattle.noted_events.proofs.EventLaws.{name-fits, row-fits, told-row, third-in}
 use Rattle.noted_events.proofs.events.note_pin.Statement.{statement}
 use Rattle.noted_events.proofs.events.note_pin.Tie as tie
 
@@ -21,16 +20,17 @@ first-in-requires-3 c κs = (c .first-in2 .ensures .ends, c .before .before .bef
 
 row-note-requires : tie.Need-row-note-requires
 row-note-requires c κs =
-    let r = c .before .before .before .before .before .pre in
-    let x = c .before .before .first-in .ensures in
-    let z = c .first-in3 .ensures in
-    let e : c .before .before .before .before .before .args .p .end ≤ 65536 = omega (arith, r .text .fits, r .small) in
-    (omega arith, omega (arith, r .text .lines, r .text .starts, e), omega (arith, r .text .starts, e), omega (arith, e), omega (arith, x .starts, x .ends, e), omega (arith, x .ends, e), omega (arith, z .starts, z .ends, e), omega (arith, z .ends, e))
+    let a = c .before .before .before .before .before .args in
+    let x = c .before .before .first-in in
+    let y = c .before .first-in2 in
+    let z = c .first-in3 in
+    row-fits (now (a .src)) (now (a .notes)) (a .l) (a .t) (a .p) (c .before .before .before .before .before .pre) 1 (x .result) (z .result) (omega arith) (x .ensures .from) (x .ensures .starts) (x .ensures .ends)
+    (omega (arith, x .ensures .from, x .ensures .starts, y .ensures .from, y .ensures .starts, z .ensures .from)) (z .ensures .starts) (z .ensures .ends)
 
 put-row-requires : tie.Need-put-row-requires
 put-row-requires c κs =
     let a = c .before .before .before .before .before .before .before .args in
-    name-fits (now (a .src)) (now (a .notes)) (a .l) (a .t) (a .p) (c .before .before .before .before .before .before .before .pre)
+    (name-fits (now (a .src)) (now (a .notes)) (a .l) (a .t) (a .p) (c .before .before .before .before .before .before .before .pre), c .before .row-note .ensures .1)
 
 count-name-requires : tie.Need-count-name-requires
 count-name-requires c κs = c .before .before .before .before .before .before .before .before .before .before .pre .within
@@ -47,7 +47,7 @@ returns c =
     let name = c .before .before .before .before .before .before .before .before .first-in in
     let signal = c .before .before .before .before .before .before .before .first-in2 in
     let model = c .before .before .before .before .before .before .first-in3 in
-    (told-row s (now (a .notes)) (a .l) (a .t) p (c .before .before .before .before .before .before .before .before .before .before .before .pre) OfPin 1 (name .result) (model .result) _ (c .before .before .before .before .before .row-note .ensures) refl refl (name .ensures .text) (third-in s (p .start) (p .end) (name .result) (signal .result) (model .result) (name .ensures) (signal .ensures) (model .ensures)) (c .before .before .before .put-row .ensures) (c .count-name .ensures .0), c .count-name .ensures .1)
+    (told-row s (now (a .notes)) (a .l) (a .t) p (c .before .before .before .before .before .before .before .before .before .before .before .pre) OfPin 1 (name .result) (model .result) _ (c .before .before .before .before .before .row-note .ensures .0) (c .before .before .before .before .before .row-note .ensures .1) refl refl (name .ensures .text) (third-in s (p .start) (p .end) (name .result) (signal .result) (model .result) (name .ensures) (signal .ensures) (model .ensures)) (c .before .before .before .put-row .ensures) (c .count-name .ensures .0), c .count-name .ensures .1)
 
 pub note-pin-spec : {M : Type 1} → statement M
 note-pin-spec =

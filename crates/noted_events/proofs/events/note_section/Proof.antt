@@ -1,5 +1,5 @@
 -- The note is the section's, by the places of its argument and of its first word.
-use Prim.Native.Nat.{ℕ, _≤_}
+use Prim.Native.Nat.{ℕ}
 use mathlib.Core.Path.{refl, ap, _∙_}
 use mathlib.Core.List.{List}
 use native.Mathlib.Omega.{arith}
@@ -8,7 +8,7 @@ use denote.Ref.{now}
 use Rattle.words.specs.Words.{word, words}
 use Rattle.records.specs.declared.Kind.the-variants.{OfComponent, OfSelector, OfModel}
 use Rattle.note_words.specs.Store.{kindOf, logIn}
-use Rattle.noted_events.proofs.EventLaws.{name-fits, told-section}
+use Rattle.noted_events.proofs.EventLaws.{name-fits, section-fits, told-section}
 use Rattle.noted_events.proofs.events.note_section.Statement.{statement}
 use Rattle.noted_events.proofs.events.note_section.Tie as tie
 
@@ -23,15 +23,16 @@ enum-told c = search needs
 
 section-note-requires : tie.Need-section-note-requires
 section-note-requires c κs =
+    let a = c .before .before .before .before .before .before .before .args in
+    let p = a .p in
     let r = c .before .before .before .before .before .before .before .pre in
-    let w = r .within in
-    let e : c .before .before .before .before .before .before .before .args .p .end ≤ 65536 = omega (arith, r .text .fits, r .small) in
-    (omega arith, omega (arith, r .text .lines, r .text .starts, e), omega (arith, c .before .before .before .argument-in .ensures .ends, e), omega (arith, e), omega (arith, w .pins), omega arith, omega (arith, r .text .goes .placed .within, r .small), omega (arith, w .components, w .selectors, w .models))
+    let d = c .before .before .before in
+    (omega (arith, r .within .components, r .within .selectors, r .within .models), section-fits (now (a .src)) (now (a .notes)) (a .l) (a .t) p r 0 (d .argument-in .result) (p .end) (a .t .counts .pins) (0) (omega arith) (d .argument-in .ensures .from) (d .argument-in .ensures .ends) (omega arith) (omega (arith, r .within .pins)) (omega arith))
 
 put-section-requires : tie.Need-put-section-requires
 put-section-requires c κs =
     let a = c .before .before .before .before .before .before .before .before .before .args in
-    name-fits (now (a .src)) (now (a .notes)) (a .l) (a .t) (a .p) (c .before .before .before .before .before .before .before .before .before .pre)
+    (name-fits (now (a .src)) (now (a .notes)) (a .l) (a .t) (a .p) (c .before .before .before .before .before .before .before .before .before .pre), c .before .section-note .ensures .1)
 
 count-name-requires : tie.Need-count-name-requires
 count-name-requires c κs = c .before .before .before .before .before .before .before .before .before .before .before .before .pre .within
@@ -41,16 +42,17 @@ enum-told-2 c = search needs
 
 section-note-requires-2 : tie.Need-section-note-requires-2
 section-note-requires-2 c κs =
+    let a = c .before .before .before .before .before .before .before .args in
+    let p = a .p in
     let r = c .before .before .before .before .before .before .before .pre in
-    let w = r .within in
-    let x = c .before .before .first-in .ensures in
-    let e : c .before .before .before .before .before .before .before .args .p .end ≤ 65536 = omega (arith, r .text .fits, r .small) in
-    (omega arith, omega (arith, r .text .lines, r .text .starts, e), omega (arith, x .starts, x .ends, e), omega (arith, x .ends, e), omega (arith, w .choices), omega arith, omega (arith, r .text .goes .placed .within, r .small), omega (arith, w .components, w .selectors, w .models))
+    let d = c .before .before .before in
+    let w = c .before .before .first-in in
+    (omega (arith, r .within .components, r .within .selectors, r .within .models), section-fits (now (a .src)) (now (a .notes)) (a .l) (a .t) p r 2 (w .result .start) (w .result .end) (a .t .counts .choices) (0) (omega arith) (omega (arith, d .argument-in .ensures .from, w .ensures .from)) (w .ensures .starts) (w .ensures .ends) (omega (arith, r .within .choices)) (omega arith))
 
 put-section-requires-2 : tie.Need-put-section-requires-2
 put-section-requires-2 c κs =
     let a = c .before .before .before .before .before .before .before .before .before .args in
-    name-fits (now (a .src)) (now (a .notes)) (a .l) (a .t) (a .p) (c .before .before .before .before .before .before .before .before .before .pre)
+    (name-fits (now (a .src)) (now (a .notes)) (a .l) (a .t) (a .p) (c .before .before .before .before .before .before .before .before .before .pre), c .before .section-note2 .ensures .1)
 
 count-name-requires-2 : tie.Need-count-name-requires-2
 count-name-requires-2 c κs = c .before .before .before .before .before .before .before .before .before .before .before .before .pre .within
@@ -60,16 +62,17 @@ enum-told-3 c = search needs
 
 section-note-requires-3 : tie.Need-section-note-requires-3
 section-note-requires-3 c κs =
+    let a = c .before .before .before .before .before .before .before .args in
+    let p = a .p in
     let r = c .before .before .before .before .before .before .before .pre in
-    let w = r .within in
-    let x = c .before .before .first-in .ensures in
-    let e : c .before .before .before .before .before .before .before .args .p .end ≤ 65536 = omega (arith, r .text .fits, r .small) in
-    (omega arith, omega (arith, r .text .lines, r .text .starts, e), omega (arith, x .starts, x .ends, e), omega (arith, x .ends, e), omega (arith, w .waveforms), omega (arith, r .rows, r .text .starts, e), omega (arith, r .text .goes .placed .within, r .small), omega (arith, w .components, w .selectors, w .models))
+    let d = c .before .before .before in
+    let w = c .before .before .first-in in
+    (omega (arith, r .within .components, r .within .selectors, r .within .models), section-fits (now (a .src)) (now (a .notes)) (a .l) (a .t) p r 4 (w .result .start) (w .result .end) (a .t .counts .waveforms) (a .t .counts .rows) (omega arith) (omega (arith, d .argument-in .ensures .from, w .ensures .from)) (w .ensures .starts) (w .ensures .ends) (omega (arith, r .within .waveforms)) (omega (arith, r .rows, r .text .starts, r .text .fits, r .small)))
 
 put-section-requires-3 : tie.Need-put-section-requires-3
 put-section-requires-3 c κs =
     let a = c .before .before .before .before .before .before .before .before .before .args in
-    name-fits (now (a .src)) (now (a .notes)) (a .l) (a .t) (a .p) (c .before .before .before .before .before .before .before .before .before .pre)
+    (name-fits (now (a .src)) (now (a .notes)) (a .l) (a .t) (a .p) (c .before .before .before .before .before .before .before .before .before .pre), c .before .section-note3 .ensures .1)
 
 count-name-requires-3 : tie.Need-count-name-requires-3
 count-name-requires-3 c κs = c .before .before .before .before .before .before .before .before .before .before .before .before .pre .within
@@ -84,7 +87,7 @@ returns c =
     let s = now (a .src) in
     let p = a .p in
     let argument = c .before .before .before .before .before .before .before .before .before .argument-in in
-    (rw (c .before .before .before .before .before .before .enum-told .given .1) (told-section s (now (a .notes)) (a .l) (a .t) p (c .before .before .before .before .before .before .before .before .before .before .before .before .before .pre) OfComponent 0 (argument .result) (p .end) (a .t .counts .pins) 0 _ (c .before .before .before .before .before .section-note .ensures) refl refl (argument .ensures .text) (c .before .before .before .put-section .ensures) (c .count-name .ensures .0)), c .count-name .ensures .1)
+    (rw (c .before .before .before .before .before .before .enum-told .given .1) (told-section s (now (a .notes)) (a .l) (a .t) p (c .before .before .before .before .before .before .before .before .before .before .before .before .before .pre) OfComponent 0 (argument .result) (p .end) (a .t .counts .pins) 0 _ (c .before .before .before .before .before .section-note .ensures .0) (c .before .before .before .before .before .section-note .ensures .1) refl refl (argument .ensures .text) (c .before .before .before .put-section .ensures) (c .count-name .ensures .0)), c .count-name .ensures .1)
 
 same-length-2 : tie.Need-same-length-2
 same-length-2 c = search needs
@@ -97,7 +100,7 @@ returns-2 c =
     let p = a .p in
     let argument = c .before .before .before .before .before .before .before .before .before .argument-in in
     let w = c .before .before .before .before .before .before .before .before .first-in in
-    (rw (c .before .before .before .before .before .before .enum-told2 .given .1) (told-section s (now (a .notes)) (a .l) (a .t) p (c .before .before .before .before .before .before .before .before .before .before .before .before .before .pre) OfSelector 2 (w .result .start) (w .result .end) (a .t .counts .choices) 0 _ (c .before .before .before .before .before .section-note2 .ensures) refl refl (w .ensures .text ∙ ap (λ (v : List ℕ). word 0 (words v)) (argument .ensures .text)) (c .before .before .before .put-section2 .ensures) (c .count-name2 .ensures .0)), c .count-name2 .ensures .1)
+    (rw (c .before .before .before .before .before .before .enum-told2 .given .1) (told-section s (now (a .notes)) (a .l) (a .t) p (c .before .before .before .before .before .before .before .before .before .before .before .before .before .pre) OfSelector 2 (w .result .start) (w .result .end) (a .t .counts .choices) 0 _ (c .before .before .before .before .before .section-note2 .ensures .0) (c .before .before .before .before .before .section-note2 .ensures .1) refl refl (w .ensures .text ∙ ap (λ (v : List ℕ). word 0 (words v)) (argument .ensures .text)) (c .before .before .before .put-section2 .ensures) (c .count-name2 .ensures .0)), c .count-name2 .ensures .1)
 
 same-length-3 : tie.Need-same-length-3
 same-length-3 c = search needs
@@ -110,7 +113,7 @@ returns-3 c =
     let p = a .p in
     let argument = c .before .before .before .before .before .before .before .before .before .argument-in in
     let w = c .before .before .before .before .before .before .before .before .first-in in
-    (rw (c .before .before .before .before .before .before .enum-told3 .given .1) (told-section s (now (a .notes)) (a .l) (a .t) p (c .before .before .before .before .before .before .before .before .before .before .before .before .before .pre) OfModel 4 (w .result .start) (w .result .end) (a .t .counts .waveforms) (a .t .counts .rows) _ (c .before .before .before .before .before .section-note3 .ensures) refl refl (w .ensures .text ∙ ap (λ (v : List ℕ). word 0 (words v)) (argument .ensures .text)) (c .before .before .before .put-section3 .ensures) (c .count-name3 .ensures .0)), c .count-name3 .ensures .1)
+    (rw (c .before .before .before .before .before .before .enum-told3 .given .1) (told-section s (now (a .notes)) (a .l) (a .t) p (c .before .before .before .before .before .before .before .before .before .before .before .before .before .pre) OfModel 4 (w .result .start) (w .result .end) (a .t .counts .waveforms) (a .t .counts .rows) _ (c .before .before .before .before .before .section-note3 .ensures .0) (c .before .before .before .before .before .section-note3 .ensures .1) refl refl (w .ensures .text ∙ ap (λ (v : List ℕ). word 0 (words v)) (argument .ensures .text)) (c .before .before .before .put-section3 .ensures) (c .count-name3 .ensures .0)), c .count-name3 .ensures .1)
 
 pub note-section-spec : {M : Type 1} → statement M
 note-section-spec =

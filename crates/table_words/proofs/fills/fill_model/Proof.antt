@@ -50,7 +50,7 @@ fill-model-requires c κs =
     let w : waveformsBehind (c .before .before .before .before .before .before .name-word2 .result) (rest (now (a .src)) (c .before .before .before .before .section-noted .result)) ≡ waveformWordsAt (now (a .src)) (now (a .notes)) (a .i) =
     ap (λ (r : ℕ). waveformsBehind r (rest (now (a .src)) (c .before .before .before .before .section-noted .result))) (c .before .before .before .before .before .before .name-word2 .ensures) ∙ waveforms-noted (now (a .src)) (now (a .notes)) (a .i) (c .before .before .before .before .before .before .before .before .word-behind .result) (c .before .before .before .before .before .before .before .before .word-behind .ensures) h
     in
-    ((h .placed, omega (arith, c .before .before .before .before .before .before .name-word2 .ensures, c .before .before .before .before .before .before .before .before .before .shared-slice-known2 .given (wordsPerName * c .before .before .before .before .before .before .before .before .word-behind .result + 5))), (c .before .before .before .before .before .before .before .before .before .before .before .before .before .before .pre .0, (rw w (c .before .before .before .before .before .before .before .before .before .before .before .before .before .before .pre .1 .0), rw (rows-noted (now (a .src)) (now (a .notes)) (a .i) (c .before .before .before .before .before .before .before .before .word-behind .result) (c .before .before .before .before .before .before .before .before .word-behind .ensures) h) (c .before .before .before .before .before .before .before .before .before .before .before .before .before .before .pre .1 .1))))
+    ((h .placed, omega (arith, c .before .before .before .before .before .before .name-word2 .ensures, c .before .before .before .before .before .before .before .before .before .shared-slice-known2 .given (wordsPerName * c .before .before .before .before .before .before .before .before .word-behind .result + 4))), (c .before .before .before .before .before .before .before .before .before .before .before .before .before .before .pre .0, (rw w (c .before .before .before .before .before .before .before .before .before .before .before .before .before .before .pre .1 .0), rw (rows-noted (now (a .src)) (now (a .notes)) (a .i) (c .before .before .before .before .before .before .before .before .word-behind .result) (c .before .before .before .before .before .before .before .before .word-behind .ensures) h) (c .before .before .before .before .before .before .before .before .before .before .before .before .before .before .pre .1 .1))))
 
 same-length : tie.Need-same-length
 same-length c = search needs
