@@ -153,7 +153,7 @@ pub fn with_waveform(b: Body, count: usize) -> Body
     next
 }
 
-fn cells_of(argument: &[u8]) -> Triple
+pub fn cells_of(argument: &[u8]) -> Triple
     ensures { λ t. ⌜ t ≡ orElse noCells (threeCells (words (now (argument .entry)))) ⌝ }
 {
     line_cells::triple_is(line_cells::three_cells(argument, 0))
