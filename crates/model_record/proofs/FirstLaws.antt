@@ -1,12 +1,14 @@
 -- The first lines as a fold over the lines; a line without a place; and what a line's word says, by what the code answers.
-use Prim.Native.Nat.{ℕ}
+use Prim.Native.Nat.{ℕ, _≤_, _<_}
 use mathlib.Core.Path.{_≡_, refl, sym, ap, _∙_}
 use mathlib.Core.List.{List}
 use mathlib.Core.Bool.{Bool, true, false, cond}
 use lib.Dec.{eqb}
 use native.Mathlib.Omega.{arith}
+use borrow.Author.Tests.{eq-eqb, ne-eqb}
 use Rattle.laws.specs.Bytes.{isBlank}
 use Rattle.laws.specs.Lists.{eqs}
+use Rattle.laws.proofs.Tests.{cond-yes}
 use Rattle.laws.specs.Said.{Said, says, fault, faultIn, orElse, readOn}
 use Rattle.words.specs.Words.{words, grown, ontoWord}
 use Rattle.name_table.specs.Names.{placeFrom}
@@ -19,7 +21,9 @@ use Rattle.records.specs.declared.Triple.{Triple}
 use Rattle.records.specs.declared.Range.{Range}
 use Rattle.records.specs.declared.Split.{Split}
 use Rattle.lines_under.proofs.Folds.{Folds}
-use Rattle.model_record.specs.Firsts.{splitLine, groupAt, splitAt, firstLine, firstsOn}
+use Rattle.model_record.specs.Firsts.{linesOver, marksAt, compAt, splitLine, splitAt, levelsAt, firstLine, firstsOn}
+use Rattle.model_record.specs.declared.Marks.{Marks}
+use Rattle.model_record.specs.declared.Levels.{Levels}
 use Rattle.model_record.specs.declared.FirstLines.{FirstLines}
 
 pub first-fold : Folds firstsOn firstLine
@@ -31,17 +35,7 @@ first-fold = record { none = λ f. refl; more = λ f w ws. refl }
 abbrev pub present : Triple → Said Range
 present c = says (record { given = true; cells = c })
 
--- the cells of a group that was given before
-cells-said : (t : Bool) (b : Triple) (x : Said Triple) → cond t (orElse (record { given = true; cells = b }) (readOn x present)) (record { given = true; cells = b }) .cells ≡ cond t (orElse b x) b
-cells-said true b (says c) = refl
-cells-said true b (fault n) = refl
-cells-said false b x = refl
-
-pub group-cells : (place n : ℕ) (b : Triple) (w : List ℕ) → groupAt place n (record { given = true; cells = b }) w .cells ≡ cond (eqb n place) (orElse b (cellsLine w)) b
-unfolding groupLine
-group-cells place n b w = cells-said (eqb n place) b (cellsLine w)
-
-pub split-place : (s : Split) (w : List ℕ) (n : ℕ) → lineAt modelLines w ≡ At n → splitLine s w ≡ splitAt n s w
+split-place : (s : Split) (w : List ℕ) (n : ℕ) → lineAt modelLines w ≡ At n → splitLine s w ≡ splitAt n s w
 unfolding placeFrom words grown ontoWord isBlank eqs
 split-place s w n e =
     rw (
@@ -63,7 +57,7 @@ split-nothing s w e =
 
 -- ---- a line without a place
 
-pub first-nothing : (f : FirstLines) (w : List ℕ) → lineAt modelLines w ≡ Nothing → f ≡ firstLine f w
+first-nothing : (f : FirstLines) (w : List ℕ) → lineAt modelLines w ≡ Nothing → f ≡ firstLine f w
 unfolding placeFrom words grown ontoWord isBlank eqs
 first-nothing f w e =
     rw (
@@ -79,6 +73,82 @@ first-nothing f w e =
       takes-nothing "Rref" numberLine (f .rref) w modelLines 12 e refl,
       takes-nothing "Vref" numberLine (f .vref) w modelLines 13 e refl,
     )
+
+-- ---- a line at place n changes its own part
+
+module _ (m : Marks) (t : Triple) (s : Split) (l : Levels) (w : List ℕ) where
+  abbrev held : FirstLines
+  held = linesOver m t s l
+
+  pub line-nothing : lineAt modelLines w ≡ Nothing → held ≡ firstLine held w
+  line-nothing e = first-nothing held w e
+
+  module _ (n : ℕ) (e : lineAt modelLines w ≡ At n) where
+    by-place : firstLine held w ≡ linesOver (marksAt n m w) (compAt n t w) (splitAt n s w) (levelsAt n l w)
+    unfolding placeFrom words grown ontoWord isBlank eqs
+    by-place =
+        rw (
+          takes-place "Model_type" (wordLine modelTypes) (m .kind) w modelLines n 0 e refl,
+          takes-place "Polarity" (wordLine polarities) (m .polarity) w modelLines n 1 e refl,
+          takes-place "Enable" (wordLine enables) (m .enable) w modelLines n 2 e refl,
+          takes-place "C_comp" cellsLine t w modelLines n 3 e refl,
+          split-place s w n e,
+          takes-place "Vinl" numberLine (l .vinl) w modelLines n 8 e refl,
+          takes-place "Vinh" numberLine (l .vinh) w modelLines n 9 e refl,
+          takes-place "Vmeas" numberLine (l .vmeas) w modelLines n 10 e refl,
+          takes-place "Cref" numberLine (l .cref) w modelLines n 11 e refl,
+          takes-place "Rref" numberLine (l .rref) w modelLines n 12 e refl,
+          takes-place "Vref" numberLine (l .vref) w modelLines n 13 e refl,
+        )
+
+    -- none of the places from a up to b
+    abbrev Off : ℕ → ℕ → Type 0
+    Off a b = (k : ℕ) → a ≤ k → k < b → eqb n k ≡ false
+
+    below : (a b : ℕ) → n < a → Off a b
+    below a b h k p q = ne-eqb n k (λ i. omega (arith, i, p, h))
+
+    above : (a b : ℕ) → b ≤ n → Off a b
+    above a b h k p q = ne-eqb n k (λ i. omega (arith, i, q, h))
+
+    marks-off : Off 0 3 → marksAt n m w ≡ m
+    marks-off h = rw (h 0 (omega arith) (omega arith), h 1 (omega arith) (omega arith), h 2 (omega arith) (omega arith))
+
+    comp-off : Off 3 4 → compAt n t w ≡ t
+    comp-off h = rw (h 3 (omega arith) (omega arith))
+
+    comp-on : n ≡ 3 → compAt n t w ≡ orElse t (cellsLine w)
+    comp-on h = cond-yes (orElse t (cellsLine w)) t (eq-eqb n 3 h)
+
+    split-off : Off 4 8 → splitAt n s w ≡ s
+    split-off h = rw (h 4 (omega arith) (omega arith), h 5 (omega arith) (omega arith), h 6 (omega arith) (omega arith), h 7 (omega arith) (omega arith))
+
+    levels-off : Off 8 14 → levelsAt n l w ≡ l
+    levels-off h =
+        rw (
+          h 8 (omega arith) (omega arith),
+          h 9 (omega arith) (omega arith),
+          h 10 (omega arith) (omega arith),
+          h 11 (omega arith) (omega arith),
+          h 12 (omega arith) (omega arith),
+          h 13 (omega arith) (omega arith),
+        )
+
+    pub line-marks : n < 3 → {x : Marks} → x ≡ marksAt n m w → linesOver x t s l ≡ firstLine held w
+    line-marks h i =
+        sym (by-place ∙ (λ j. linesOver (sym i j) (comp-off (below 3 4 h) j) (split-off (below 4 8 (omega (arith, h))) j) (levels-off (below 8 14 (omega (arith, h))) j)))
+
+    pub line-comp : n ≡ 3 → {x : Triple} → x ≡ orElse t (cellsLine w) → linesOver m x s l ≡ firstLine held w
+    line-comp h i =
+        sym (by-place ∙ (λ j. linesOver (marks-off (above 0 3 (omega (arith, h))) j) ((comp-on h ∙ sym i) j) (split-off (below 4 8 (omega (arith, h))) j) (levels-off (below 8 14 (omega (arith, h))) j)))
+
+    pub line-split : 4 ≤ n → n < 8 → {x : Split} → x ≡ splitAt n s w → linesOver m t x l ≡ firstLine held w
+    line-split h g i =
+        sym (by-place ∙ (λ j. linesOver (marks-off (above 0 3 (omega (arith, h))) j) (comp-off (above 3 4 h) j) (sym i j) (levels-off (below 8 14 g) j)))
+
+    pub line-levels : 8 ≤ n → {x : Levels} → x ≡ levelsAt n l w → linesOver m t s x ≡ firstLine held w
+    line-levels h i =
+        sym (by-place ∙ (λ j. linesOver (marks-off (above 0 3 (omega (arith, h))) j) (comp-off (above 3 4 (omega (arith, h))) j) (split-off (above 4 8 h) j) (sym i j)))
 
 -- ---- of a word whose absence is a value of its own: told is its fault
 

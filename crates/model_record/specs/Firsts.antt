@@ -5,6 +5,7 @@ use mathlib.Core.List.{List}
 use mathlib.Core.Bool.{cond}
 use lib.Dec.{eqb}
 use Rattle.laws.specs.Said.{orElse}
+use Rattle.decimal.specs.declared.Cell.{Cell}
 use Rattle.decimal.specs.declared.Cell.the-variants.{Missing}
 use Rattle.cut_lines.specs.Cursors.{rest}
 use Rattle.cut_lines.specs.declared.Cursor.{Cursor}
@@ -18,26 +19,40 @@ use Rattle.records.specs.declared.Polarity.the-variants.{NoPolarity}
 use Rattle.records.specs.declared.Enable.the-variants.{NoEnable}
 use Rattle.records.specs.declared.Range.{Range}
 use Rattle.records.specs.declared.Split.{Split}
+use Rattle.records.specs.declared.Triple.{Triple}
 use Rattle.lines_under.specs.Under.{StopsAt}
+use Rattle.model_record.specs.declared.Marks.{Marks}
+use Rattle.model_record.specs.declared.Levels.{Levels}
 use Rattle.model_record.specs.declared.FirstLines.{FirstLines}
 use Rattle.model_record.specs.declared.FirstRead.{FirstRead}
 
--- before the first line
-abbrev pub bareLines : FirstLines
-bareLines =
+-- ---- in four parts
+
+abbrev pub linesOver : Marks → Triple → Split → Levels → FirstLines
+linesOver m comp split l =
     record {
-      kind = Terminator;
-      polarity = NoPolarity;
-      enable = NoEnable;
-      comp = noCells;
-      split = noSplit;
-      vinl = Missing;
-      vinh = Missing;
-      vmeas = Missing;
-      cref = Missing;
-      rref = Missing;
-      vref = Missing;
+      kind = m .kind;
+      polarity = m .polarity;
+      enable = m .enable;
+      comp = comp;
+      split = split;
+      vinl = l .vinl;
+      vinh = l .vinh;
+      vmeas = l .vmeas;
+      cref = l .cref;
+      rref = l .rref;
+      vref = l .vref;
     }
+
+-- before the first line
+abbrev pub bareMarks : Marks
+bareMarks = record { kind = Terminator; polarity = NoPolarity; enable = NoEnable }
+
+abbrev pub bareLevels : Levels
+bareLevels = record { vinl = Missing; vinh = Missing; vmeas = Missing; cref = Missing; rref = Missing; vref = Missing }
+
+abbrev pub bareLines : FirstLines
+bareLines = linesOver bareMarks noCells noSplit bareLevels
 
 -- what a line makes of the capacitance by structure
 abbrev pub splitLine : Split → List ℕ → Split
@@ -55,6 +70,31 @@ groupAt place n before w = cond (eqb n place) (orElse before (groupLine w)) befo
 
 abbrev pub splitAt : ℕ → Split → List ℕ → Split
 splitAt n s w = record { pullup = groupAt 4 n (s .pullup) w; pulldown = groupAt 5 n (s .pulldown) w; power = groupAt 6 n (s .power) w; ground = groupAt 7 n (s .ground) w }
+
+abbrev pub marksAt : ℕ → Marks → List ℕ → Marks
+marksAt n m w =
+    record {
+      kind = cond (eqb n 0) (orElse (m .kind) (wordLine modelTypes w)) (m .kind);
+      polarity = cond (eqb n 1) (orElse (m .polarity) (wordLine polarities w)) (m .polarity);
+      enable = cond (eqb n 2) (orElse (m .enable) (wordLine enables w)) (m .enable);
+    }
+
+abbrev pub compAt : ℕ → Triple → List ℕ → Triple
+compAt n before w = cond (eqb n 3) (orElse before (cellsLine w)) before
+
+abbrev pub levelAt : ℕ → ℕ → Cell → List ℕ → Cell
+levelAt place n before w = cond (eqb n place) (orElse before (numberLine w)) before
+
+abbrev pub levelsAt : ℕ → Levels → List ℕ → Levels
+levelsAt n l w =
+    record {
+      vinl = levelAt 8 n (l .vinl) w;
+      vinh = levelAt 9 n (l .vinh) w;
+      vmeas = levelAt 10 n (l .vmeas) w;
+      cref = levelAt 11 n (l .cref) w;
+      rref = levelAt 12 n (l .rref) w;
+      vref = levelAt 13 n (l .vref) w;
+    }
 
 -- what a line makes of them all, and what lines do
 abbrev pub firstLine : FirstLines → List ℕ → FirstLines

@@ -101,7 +101,7 @@ fn with_temperature(b: Body, cells: Triple) -> Body
 }
 
 // A current table of so many rows.
-pub fn with_current(b: Body, count: usize, table: CurrentTable) -> Body
+fn with_current(b: Body, count: usize, table: CurrentTable) -> Body
     requires { ⌜ b .row + count < 2 ^ 64 ⌝ }
     ensures { λ r. ⌜ r ≡ partOn b (Current table) noCells noRamp count ⌝ }
 {
@@ -141,7 +141,7 @@ fn with_ramp(b: Body, ramp: RampTable) -> Body
 }
 
 // A waveform of so many rows, whatever its edge.
-pub fn with_waveform(b: Body, count: usize) -> Body
+fn with_waveform(b: Body, count: usize) -> Body
     requires { ⌜ (b .row + count < 2 ^ 64) × (b .waveforms < 2 ^ 63) ⌝ }
     ensures { λ r. ⌜ r ≡ partOn b (Waveform Rising) noCells noRamp count ⌝ }
 {
@@ -153,7 +153,7 @@ pub fn with_waveform(b: Body, count: usize) -> Body
     next
 }
 
-fn cells_of(argument: &[u8]) -> Triple
+pub fn cells_of(argument: &[u8]) -> Triple
     ensures { λ t. ⌜ t ≡ orElse noCells (threeCells (words (now (argument .entry)))) ⌝ }
 {
     line_cells::triple_is(line_cells::three_cells(argument, 0))
@@ -201,7 +201,7 @@ fn take_part(b: Body, src: &[u8], c: Cursor, part: ModelPart, argument: &[u8]) -
 }
 
 // A keyword of another section changes nothing.
-pub fn take_key(b: Body, src: &[u8], c: Cursor, k: Keyword, argument: &[u8]) -> Taken
+fn take_key(b: Body, src: &[u8], c: Cursor, k: Keyword, argument: &[u8]) -> Taken
     requires { ⌜ Placed (now src) c × (b .row < 2 ^ 63 + c .at) × (b .waveforms < c .at) ⌝ }
     ensures { λ r. ⌜ KeyTaken (now (src .entry)) b k (now (argument .entry)) c r ⌝ }
 {

@@ -7,9 +7,11 @@ ghost use Rattle.cut_lines.specs.Cursors.{Placed};
 ghost use Rattle.line_rules.specs.Fields.{wordLine, cellsLine};
 ghost use Rattle.line_rules.specs.Tables.{polarities, enables};
 ghost use Rattle.rules.specs.Reading.{noSplit};
-ghost use Rattle.model_record.specs.Firsts.{bareLines, groupAt, splitAt, firstLine, defaulted, FirstReadIs};
+ghost use Rattle.model_record.specs.Firsts.{bareMarks, bareLevels, linesOver, marksAt, groupAt, splitAt, levelsAt, defaulted, FirstReadIs};
 use crate::FirstLines;
 use crate::FirstRead;
+use crate::Levels;
+use crate::Marks;
 use cut_lines::Cursor;
 use decimal::Cell;
 use line_rules::TripleRead;
@@ -68,15 +70,14 @@ fn group_after(place: usize, n: usize, w: &[u8], before: Range) -> Range
     }
 }
 
-fn comp_after(n: usize, w: &[u8], before: Triple) -> Triple
-    ensures { λ r. ⌜ r ≡ cond (eqb n 3) (orElse before (cellsLine (now (w .entry)))) before ⌝ }
+// C_comp after its line.
+fn comp_after(w: &[u8], before: Triple) -> Triple
+    ensures { λ r. ⌜ r ≡ orElse before (cellsLine (now (w .entry))) ⌝ }
 {
-    let known = Range {
-        given: true,
-        cells: before,
-    };
-    let after = group_after(3, n, w, known);
-    after.cells
+    match line_faults::cells_line(w) {
+        TripleRead::Cells(cells) => cells,
+        TripleRead::Flawed(_) => before,
+    }
 }
 
 fn split_after(n: usize, w: &[u8], before: Split) -> Split
@@ -90,7 +91,49 @@ fn split_after(n: usize, w: &[u8], before: Split) -> Split
     }
 }
 
-// ---- the lines
+fn marks_after(n: usize, w: &[u8], before: Marks) -> Marks
+    ensures { λ r. ⌜ r ≡ marksAt n before (now (w .entry)) ⌝ }
+{
+    let kind = before.kind;
+    let polarity = before.polarity;
+    let enable = before.enable;
+    Marks {
+        kind: type_after(n, w, kind),
+        polarity: polarity_after(n, w, polarity),
+        enable: enable_after(n, w, enable),
+    }
+}
+
+fn levels_after(n: usize, w: &[u8], before: Levels) -> Levels
+    ensures { λ r. ⌜ r ≡ levelsAt n before (now (w .entry)) ⌝ }
+{
+    let vinl = before.vinl;
+    let vinh = before.vinh;
+    let vmeas = before.vmeas;
+    let cref = before.cref;
+    let rref = before.rref;
+    let vref = before.vref;
+    Levels {
+        vinl: number_after(8, n, w, vinl),
+        vinh: number_after(9, n, w, vinh),
+        vmeas: number_after(10, n, w, vmeas),
+        cref: number_after(11, n, w, cref),
+        rref: number_after(12, n, w, rref),
+        vref: number_after(13, n, w, vref),
+    }
+}
+
+// ---- before the first line
+
+fn no_marks() -> Marks
+    ensures { λ r. ⌜ r ≡ bareMarks ⌝ }
+{
+    Marks {
+        kind: ModelType::Terminator,
+        polarity: Polarity::NoPolarity,
+        enable: Enable::NoEnable,
+    }
+}
 
 fn no_split() -> Split
     ensures { λ r. ⌜ r ≡ noSplit ⌝ }
@@ -107,15 +150,10 @@ fn no_split() -> Split
     }
 }
 
-fn bare_lines() -> FirstLines
-    ensures { λ r. ⌜ r ≡ bareLines ⌝ }
+fn no_levels() -> Levels
+    ensures { λ r. ⌜ r ≡ bareLevels ⌝ }
 {
-    FirstLines {
-        kind: ModelType::Terminator,
-        polarity: Polarity::NoPolarity,
-        enable: Enable::NoEnable,
-        comp: records::no_cells(),
-        split: no_split(),
+    Levels {
         vinl: Cell::Missing,
         vinh: Cell::Missing,
         vmeas: Cell::Missing,
@@ -125,56 +163,61 @@ fn bare_lines() -> FirstLines
     }
 }
 
-// A line goes to its place.
-fn with_first_line(f: FirstLines, w: &[u8]) -> FirstLines
-    ensures { λ r. ⌜ r ≡ firstLine f (now (w .entry)) ⌝ }
+// ---- the lines
+
+fn lines_over(m: Marks, comp: Triple, split: Split, l: Levels) -> FirstLines
+    ensures { λ r. ⌜ r ≡ linesOver m comp split l ⌝ }
 {
-    let found = named_lines::model_line(w);
-    let Found::At(n) = found else {
-        return f;
-    };
-    let kind = f.kind;
-    let polarity = f.polarity;
-    let enable = f.enable;
-    let comp = f.comp;
-    let split = f.split;
-    let vinl = f.vinl;
-    let vinh = f.vinh;
-    let vmeas = f.vmeas;
-    let cref = f.cref;
-    let rref = f.rref;
-    let vref = f.vref;
+    let kind = m.kind;
+    let polarity = m.polarity;
+    let enable = m.enable;
+    let vinl = l.vinl;
+    let vinh = l.vinh;
+    let vmeas = l.vmeas;
+    let cref = l.cref;
+    let rref = l.rref;
+    let vref = l.vref;
     FirstLines {
-        kind: type_after(n, w, kind),
-        polarity: polarity_after(n, w, polarity),
-        enable: enable_after(n, w, enable),
-        comp: comp_after(n, w, comp),
-        split: split_after(n, w, split),
-        vinl: number_after(8, n, w, vinl),
-        vinh: number_after(9, n, w, vinh),
-        vmeas: number_after(10, n, w, vmeas),
-        cref: number_after(11, n, w, cref),
-        rref: number_after(12, n, w, rref),
-        vref: number_after(13, n, w, vref),
+        kind: kind,
+        polarity: polarity,
+        enable: enable,
+        comp: comp,
+        split: split,
+        vinl: vinl,
+        vinh: vinh,
+        vmeas: vmeas,
+        cref: cref,
+        rref: rref,
+        vref: vref,
     }
 }
 
-// The first lines of the model behind whose keyword a cursor stands.
+// The first lines of the model behind whose keyword a cursor stands. They are held in four parts: a line is copied into its own only.
 pub fn first_lines(src: &[u8], c: Cursor) -> FirstRead
     requires { ⌜ Placed (now src) c ⌝ }
     ensures { λ r. ⌜ FirstReadIs (now (src .entry)) c r ⌝ }
 {
-    let mut f = bare_lines();
+    let mut marks = no_marks();
+    let mut comp = records::no_cells();
+    let mut split = no_split();
+    let mut levels = no_levels();
     let mut d = c;
     loop {
         match lines_under::next_line(src, d) {
             LineNext::Line { start, end, next } => {
                 d = next;
-                f = with_first_line(f, &src[start..end]);
+                if let Found::At(n) = named_lines::model_line(&src[start..end]) {
+                    match n {
+                        0 | 1 | 2 => marks = marks_after(n, &src[start..end], marks),
+                        3 => comp = comp_after(&src[start..end], comp),
+                        4 | 5 | 6 | 7 => split = split_after(n, &src[start..end], split),
+                        _ => levels = levels_after(n, &src[start..end], levels),
+                    }
+                }
             }
             LineNext::NoLine { next } => {
                 return FirstRead {
-                    lines: f,
+                    lines: lines_over(marks, comp, split, levels),
                     next: next,
                 };
             }

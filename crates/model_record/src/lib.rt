@@ -17,6 +17,23 @@ pub mod record; // record.rt: the whole record
 
 pub use record::model_of;
 
+// What the first lines say with a word,
+pub struct Marks {
+    pub kind: ModelType,
+    pub polarity: Polarity,
+    pub enable: Enable,
+}
+
+// and with a number.
+pub struct Levels {
+    pub vinl: Cell,
+    pub vinh: Cell,
+    pub vmeas: Cell,
+    pub cref: Cell,
+    pub rref: Cell,
+    pub vref: Cell,
+}
+
 // What the first lines say.
 pub struct FirstLines {
     pub kind: ModelType,

@@ -73,7 +73,7 @@ fn with_ramp_line(r: RampTable, w: &[u8]) -> RampTable
 }
 
 // The lines of the ramp behind whose keyword a cursor stands.
-pub(crate) fn ramp_lines(src: &[u8], c: Cursor) -> RampLinesRead
+pub fn ramp_lines(src: &[u8], c: Cursor) -> RampLinesRead
     requires { ⌜ Placed (now src) c ⌝ }
     ensures { λ r. ⌜ RampReadIs (now (src .entry)) c r ⌝ }
 {

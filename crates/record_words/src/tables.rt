@@ -93,7 +93,7 @@ fn range_words(r: Range) -> [u64; RANGE_WORDS]
     [flag_number(r.given), c[0], c[1], c[2]]
 }
 
-fn slope_words(t: RampTriple) -> [u64; SLOPE_WORDS]
+pub fn slope_words(t: RampTriple) -> [u64; SLOPE_WORDS]
     ensures { λ r. ⌜ r ≡ slopeWords t ⌝ }
 {
     let typ = t.typ;

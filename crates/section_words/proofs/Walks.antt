@@ -1,4 +1,4 @@
--- A model written keyword by keyword: the keywords so far made the body, and their words lie over the two tables as they were.
+-- A model written keyword by keyword: the keywords so far made a body, and their words lie over the two tables as they were.
 use Prim.Native.Nat.{ℕ, _+_, _-_, _^_, _≤_, _<_}
 use mathlib.Core.Path.{_≡_, refl, ap, subst}
 use mathlib.Core.List.{List, [], _++_}
@@ -9,6 +9,7 @@ use lib.ListN.{length}
 use borrow.Rule.Slice.PartMut.{putMid, midOf}
 use Rattle.laws.specs.Lists.{front, after, part}
 use Rattle.keywords.specs.declared.Keyword.{Keyword}
+use Rattle.cut_lines.specs.Texts.{Text}
 use Rattle.cut_lines.specs.Cursors.{rest, Placed}
 use Rattle.cut_lines.specs.declared.Cursor.{Cursor}
 use Rattle.rules.specs.Reading.{under, isWithin}
@@ -19,7 +20,7 @@ use Rattle.table_rows.specs.Rows.{Lies}
 use Rattle.table_rows.proofs.RowWalks.{lies-start, lies-length, lies-fit, lies-more}
 use Rattle.model_record.specs.Bodies.{bareBody, bodyStep, bodyOn, BodyFits}
 use Rattle.model_record.specs.declared.Body.{Body}
-use Rattle.section_words.specs.Models.{waveformUnder, rowsUnder, KeyFills, waveformsBehind, rowsBehind, BodyFills}
+use Rattle.section_words.specs.Models.{waveformUnder, rowsUnder, KeyFills, waveformsBehind, rowsBehind}
 use Rattle.section_words.specs.declared.KeyFilled.{KeyFilled}
 use Rattle.section_words.proofs.Fold.{Filling, fillOn, fillStep, fill-fold}
 
@@ -36,10 +37,8 @@ pub record Walks (s : List ℕ) (c d : Cursor) (row : ℕ) (b : Body) (waves₀ 
   pub waves-lie : Lies waves₀ waves n waved
   pub rows-lie : Lies store₀ store m rowed
 
-pub walks-start : (s : List ℕ) (c : Cursor) (row : ℕ) (b : Body) (waves store : List ℕ) → Placed s c → row < 2 ^ 63 → b ≡ bareBody row
-    → Walks s c c row b waves waves 0 store store 0
-walks-start s c row b waves store h l is =
-    rw is
+pub walks-start : (s : List ℕ) (c : Cursor) (row : ℕ) (waves store : List ℕ) → Placed s c → row < 2 ^ 63 → Walks s c c row (bareBody row) waves waves 0 store store 0
+walks-start s c row waves store h l =
     record {
       placed = h;
       fits = record { row = omega (arith, l); waveforms = omega arith };
@@ -92,27 +91,35 @@ module _ {s : List ℕ} {c d : Cursor} {row : ℕ} {b : Body} {waves₀ waves : 
     pub rows-fit : m + length rows ≤ length store
     rows-fit = lies-fit (p .rows-lie) g rows (rowsBehind (rest s o)) rows-all
 
-    pub walks-key : {mid mid' low low' : List ℕ} {r : KeyFilled} → KeyFills s b k (part a e s) o mid mid' low low' r
+    abbrev stepped : Body
+    stepped = bodyStep b k (part a e s) (under (rest s o))
+
+    pub walks-key : {model model' mid mid' low low' : List ℕ} {r : KeyFilled} → KeyFills s b k (part a e s) o model model' mid mid' low low' r
         → mid ≡ midOf n (length waves - n) waves → low ≡ midOf m (length store - m) store
-        → Walks s c (r .taken .next) row (r .taken .body) waves₀ (putMid n (length waves - n) waves mid') (n + r .used .waveforms) store₀ (putMid m (length store - m) store low') (m + r .used .rows)
-    walks-key {mid' = mid'} {low' = low'} {r = r} t i j =
+        → Walks s c (r .next) row stepped waves₀ (putMid n (length waves - n) waves mid') (n + r .used .waveforms) store₀ (putMid m (length store - m) store low') (m + r .used .rows)
+    walks-key {r = r} t i j =
         record {
           placed = t .taken .placed;
           fits = t .taken .fits;
           waved = p .waved ++ wave;
           rowed = p .rowed ++ rows;
-          follows = follows-jump fill-fold (follows-key fill-fold (p .follows) l q (ap (λ (x : Body). record { body = x; waves = p .waved ++ wave; rows = p .rowed ++ rows }) (t .taken .body))) (t .taken .keys);
+          follows = follows-jump fill-fold with-key (t .taken .keys);
           waves-lie = lies-put (p .waves-lie) h wave later waves-all i (t .waveform);
           rows-lie = lies-put (p .rows-lie) g rows (rowsBehind (rest s o)) rows-all j (t .rows);
         }
 
--- the end
+-- the end; ts are the texts behind the model's first lines
+pub record Whole (ts : List Text) (row : ℕ) (b : Body) (waves₀ waves : List ℕ) (n : ℕ) (store₀ store : List ℕ) (m : ℕ) : Type 0 where
+  pub body : b ≡ bodyOn (bareBody row) (front isWithin ts)
+  pub waveforms : Lies waves₀ waves n (waveformsBehind row ts)
+  pub rows : Lies store₀ store m (rowsBehind ts)
+
 module _ {s : List ℕ} {c d : Cursor} {row : ℕ} {b : Body} {waves₀ waves : List ℕ} {n : ℕ} {store₀ store : List ℕ} {m : ℕ}
     (p : Walks s c d row b waves₀ waves n store₀ store m) where
-  abbrev Whole : Type 0
-  Whole = BodyFills (rest s c) row waves₀ waves store₀ store (record { body = b; used = record { waveforms = n; rows = m } })
+  abbrev All : Type 0
+  All = Whole (rest s c) row b waves₀ waves n store₀ store m
 
-  whole : record { body = b; waves = p .waved; rows = p .rowed } ≡ fillOn (bare row) (front isWithin (rest s c)) → Whole
+  whole : record { body = b; waves = p .waved; rows = p .rowed } ≡ fillOn (bare row) (front isWithin (rest s c)) → All
   whole e =
       record {
         body = ap (λ (x : Filling). x .body) e;
@@ -120,10 +127,10 @@ module _ {s : List ℕ} {c d : Cursor} {row : ℕ} {b : Body} {waves₀ waves : 
         rows = subst (Lies store₀ store m) (ap (λ (x : Filling). x .rows) e) (p .rows-lie);
       }
 
-  pub walks-end : {k : Keyword} {a e : ℕ} {o : Cursor} → KeyIs s d k a e o → isEnd (some k) ≡ true → Whole
+  pub walks-end : {k : Keyword} {a e : ℕ} {o : Cursor} → KeyIs s d k a e o → isEnd (some k) ≡ true → All
   walks-end l q = whole (follows-end fill-fold (p .follows) l q)
 
-  pub walks-out : after isKeyless (rest s d) ≡ [] → Whole
+  pub walks-out : after isKeyless (rest s d) ≡ [] → All
   walks-out q = whole (follows-out fill-fold (p .follows) q)
 
 -- the lines before the first keyword say nothing

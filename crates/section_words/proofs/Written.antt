@@ -1,4 +1,4 @@
--- What stands under a keyword is written: nothing, a current table's rows, or a waveform's record and rows.
+-- A keyword is taken, and what stands under it is written: nothing, a current table's rows, or a waveform's record and rows.
 use Prim.Native.Nat.{ℕ, _+_, _/_, _^_, _≤_, _<_}
 use mathlib.Core.Path.{_≡_, refl, ap, _∙_}
 use mathlib.Core.List.{List, []}
@@ -6,82 +6,99 @@ use native.Mathlib.Omega.{arith}
 use lib.ListN.{length}
 use lib.Seq.{sets}
 use Rattle.laws.specs.Said.{orElse}
+use Rattle.laws.specs.Lists.{after}
 use Rattle.words.specs.Words.{words}
 use Rattle.keywords.specs.declared.CurrentTable.{CurrentTable}
 use Rattle.keywords.specs.declared.Keyword.{Keyword}
 use Rattle.keywords.specs.declared.Keyword.the-variants.{InModel}
 use Rattle.keywords.specs.declared.ModelPart.the-variants.{Current, Waveform}
-use Rattle.cut_lines.specs.Cursors.{rest}
+use Rattle.cut_lines.specs.Cursors.{rest, Placed}
 use Rattle.cut_lines.specs.declared.Cursor.{Cursor}
 use Rattle.line_rules.specs.Fields.{threeCells}
-use Rattle.rules.specs.Reading.{under, rampIn, noRamp, waveformIn}
+use Rattle.rules.specs.Reading.{under, rampIn, waveformIn}
 use Rattle.records.specs.Stored.{noCells, stored}
 use Rattle.records.specs.declared.Edge.{Edge}
-use Rattle.records.specs.declared.Edge.the-variants.{Rising}
+use Rattle.records.specs.declared.Triple.{Triple}
 use Rattle.record_words.specs.Records.{waveformWords, waveformSize}
+use Rattle.lines_under.specs.Under.{isKeyless, StopsAt}
 use Rattle.lines_under.proofs.Keyed.{keys-stop}
 use Rattle.table_rows.specs.Rows.{rowsAt, FillIs}
 use Rattle.table_rows.specs.Parts.{keyRows}
 use Rattle.table_rows.specs.declared.Filled.{Filled}
 use Rattle.table_rows.proofs.Stores.{stored-length}
 use Rattle.table_rows.proofs.RowWalks.{lies-start}
-use Rattle.model_record.specs.Bodies.{partOn, KeyTaken}
+use Rattle.model_record.specs.Bodies.{partOn, bodyStep, BodyFits}
 use Rattle.model_record.specs.declared.Body.{Body}
-use Rattle.model_record.specs.declared.Taken.{Taken}
-use Rattle.model_record.proofs.Takes.{taken, part-current, current-fits}
-use Rattle.section_words.specs.Models.{keyWaveform, waveformUnder, rowsUnder, KeyFills}
+use Rattle.model_record.proofs.Takes.{taken, current-fits}
+use Rattle.section_words.specs.Parts.{tableFrom}
+use Rattle.section_words.specs.Models.{keyWaveform, Turns, KeyFills}
 use Rattle.section_words.proofs.Laws.{sets-front}
+use Rattle.section_words.proofs.Turns.{spanned, current-turns, wave-turns}
 
--- nothing stands under keyword v
-pub none-filled : {s : List ℕ} {b : Body} {k : Keyword} {w : List ℕ} {c : Cursor} {r : Taken} (v : Keyword) (waves store : List ℕ) → k ≡ v
-    → keyWaveform v (b .row) (under (rest s c)) ≡ [] → keyRows v (under (rest s c)) ≡ [] → KeyTaken s b k w c r
-    → KeyFills s b k w c waves waves store store (record { taken = r; used = record { waveforms = 0; rows = 0 } })
-unfolding stored
-none-filled {s} {b} {k} {w} {c} v waves store q e z t =
-    let x : waveformUnder s c k (b .row) ≡ [] = ap (λ (j : Keyword). waveformUnder s c j (b .row)) q ∙ e in
-    let y : rowsUnder s c k ≡ [] = ap (rowsUnder s c) q ∙ ap stored z in
-    record { taken = t; waveform = rw x (lies-start waves); rows = rw y (lies-start store) }
+-- nothing stands under keyword k, and x is the record with what it says
+module _ (s : List ℕ) (b : Body) (w : List ℕ) (c : Cursor) (k : Keyword) (model waves store : List ℕ)
+    (none : keyWaveform k (b .row) (under (rest s c)) ≡ []) (empty : keyRows k (under (rest s c)) ≡ []) where
+  abbrev Filled-at : Cursor → List ℕ → Type 0
+  Filled-at n model' = KeyFills s b k w c model model' waves waves store store (record { next = n; used = record { waveforms = 0; rows = 0 } })
+
+  filled-at : (n : Cursor) (model' : List ℕ) → BodyFits (bodyStep b k w (under (rest s c))) n → after isKeyless (rest s c) ≡ after isKeyless (rest s n)
+      → Placed s n → c .at ≤ n .at → Turns model model' b (bodyStep b k w (under (rest s c))) → Filled-at n model'
+  unfolding stored
+  filled-at n model' fits keys placed rises t =
+      let y : stored (keyRows k (under (rest s c))) ≡ [] = ap stored empty in
+      record { taken = taken k _ n refl refl fits keys placed rises; turns = t; waveform = rw none (lies-start waves); rows = rw y (lies-start store) }
+
+  -- no line is read
+  pub none-filled : Placed s c → BodyFits (bodyStep b k w (under (rest s c))) c → (model' x : List ℕ) → model' ≡ x → Turns model x b (bodyStep b k w (under (rest s c)))
+      → Filled-at c model'
+  none-filled h fits model' x e t = filled-at c model' fits refl h (omega arith) (λ n start name f behind i. e ∙ t n start name f behind i)
+
+  -- the lines up to the next keyword are read
+  pub lines-filled : {n : Cursor} → StopsAt s c n → BodyFits (bodyStep b k w (under (rest s c))) n → (model' x : List ℕ) → model' ≡ x → Turns model x b (bodyStep b k w (under (rest s c)))
+      → Filled-at n model'
+  lines-filled {n} h fits model' x e t = filled-at n model' fits (keys-stop h) (h .placed) (h .rises) (λ m start name f behind i. e ∙ t m start name f behind i)
 
 module _ {s : List ℕ} {c : Cursor} {before behind : List ℕ} {r : Filled} (f : FillIs s c before behind r) where
   -- four words a row
   pub rows-are : r .words / 4 ≡ length (rowsAt s c)
   rows-are = omega (arith, f .words, stored-length (rowsAt s c))
 
-  module _ (b : Body) (h : b .row < 2 ^ 63 + c .at) (l : b .waveforms < c .at) (body : Body) where
+  module _ (b : Body) (h : b .row < 2 ^ 63 + c .at) (l : b .waveforms < c .at) (w : List ℕ) where
     behind-row : b .row + length (rowsAt s c) < 2 ^ 63 + r .next .at
     behind-row = omega (arith, h, f .bounded)
 
-    pub current-filled : (t : CurrentTable) → body ≡ partOn b (Current t) noCells noRamp (r .words / 4)
-        → (w waves : List ℕ)
-        → KeyFills s b (InModel (Current t)) w c waves waves before behind
-        (record { taken = record { body = body; next = r .next }; used = record { waveforms = 0; rows = r .words } })
-    current-filled t e w waves =
-        let cells = orElse noCells (threeCells (words w)) in
-        let ramp = rampIn w (under (rest s c)) in
+    abbrev cells : Triple
+    cells = orElse noCells (threeCells (words w))
+
+    abbrev ls : List (List ℕ)
+    ls = under (rest s c)
+
+    pub current-filled : (t : CurrentTable) (model model' waves : List ℕ) → model' ≡ spanned b cells w ls (r .words / 4) model model (tableFrom t) (b .row)
+        → KeyFills s b (InModel (Current t)) w c model model' waves waves before behind (record { next = r .next; used = record { waveforms = 0; rows = r .words } })
+    current-filled t model model' waves e =
         record {
           taken =
-              taken (InModel (Current t)) body (r .next) refl
-              (e ∙ part-current b cells ramp (r .words / 4) t ∙ ap (partOn b (Current t) cells ramp) rows-are)
-              (current-fits b cells ramp (length (rowsAt s c)) (r .next) behind-row (omega (arith, l, f .stops .rises)) t)
+              taken (InModel (Current t)) _ (r .next) refl refl
+              (current-fits b cells (rampIn w ls) (length (rowsAt s c)) (r .next) behind-row (omega (arith, l, f .stops .rises)) t)
               (keys-stop (f .stops)) (f .stops .placed) (f .stops .rises);
+          turns =
+              λ n start name g rest i.
+              e ∙ ap (λ (k : ℕ). spanned b cells w ls k model model (tableFrom t) (b .row)) rows-are ∙ current-turns b cells w ls (length (rowsAt s c)) model t n start name g rest i;
           waveform = lies-start waves;
           rows = record { used = f .words; store = f .rows };
         }
 
-    pub wave-filled : (e : Edge) → body ≡ partOn b (Waveform Rising) noCells noRamp (r .words / 4)
-        → (waves waves' new : List ℕ) → waveformSize ≤ length waves → waves' ≡ sets waves 0 new → new ≡ waveformWords (waveformIn (b .row) e (under (rest s c)))
-        → (w : List ℕ)
-        → KeyFills s b (InModel (Waveform e)) w c waves waves' before behind
-        (record { taken = record { body = body; next = r .next }; used = record { waveforms = waveformSize; rows = r .words } })
-    wave-filled e is waves waves' new room put i w =
-        let cells = orElse noCells (threeCells (words w)) in
-        let ramp = rampIn w (under (rest s c)) in
+    pub wave-filled : (e : Edge) (model waves waves' new : List ℕ) → waveformSize ≤ length waves → waves' ≡ sets waves 0 new
+        → new ≡ waveformWords (waveformIn (b .row) e ls)
+        → KeyFills s b (InModel (Waveform e)) w c model model waves waves' before behind
+        (record { next = r .next; used = record { waveforms = waveformSize; rows = r .words } })
+    wave-filled e model waves waves' new room put i =
         record {
           taken =
-              taken (InModel (Waveform e)) body (r .next) refl
-              (is ∙ ap (partOn b (Waveform e) cells ramp) rows-are)
+              taken (InModel (Waveform e)) _ (r .next) refl refl
               (record { row = behind-row; waveforms = omega (arith, l, f .stops .rises) })
               (keys-stop (f .stops)) (f .stops .placed) (f .stops .rises);
-          waveform = record { used = refl; store = put ∙ ap (sets waves 0) i ∙ sets-front waves (waveformWords (waveformIn (b .row) e (under (rest s c)))) room };
+          turns = wave-turns b cells w ls (length (rowsAt s c)) model e;
+          waveform = record { used = refl; store = put ∙ ap (sets waves 0) i ∙ sets-front waves (waveformWords (waveformIn (b .row) e ls)) room };
           rows = record { used = f .words; store = f .rows };
         }

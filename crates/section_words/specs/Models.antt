@@ -1,7 +1,7 @@
 -- A model as words, keyword by keyword, and what the functions that write them answer.
 use Prim.Native.Nat.{ℕ}
 use mathlib.Core.Path.{_≡_}
-use mathlib.Core.List.{List, [], flatMap}
+use mathlib.Core.List.{List, [], _++_, flatMap}
 use mathlib.Core.Option.{some}
 use lib.ListN.{length}
 use Rattle.laws.specs.Lists.{front}
@@ -16,13 +16,15 @@ use Rattle.rules.specs.Keys.{byKeyword}
 use Rattle.layout.specs.Laid.{rowsOf, tableAt, waveformsLaid}
 use Rattle.records.specs.Stored.{stored}
 use Rattle.records.specs.declared.Model.{Model}
-use Rattle.record_words.specs.Records.{waveformWords}
+use Rattle.records.specs.declared.Name.{Name}
+use Rattle.record_words.specs.Records.{modelWords, waveformWords}
 use Rattle.table_rows.specs.Rows.{Lies}
 use Rattle.table_rows.specs.Parts.{keyRows}
-use Rattle.model_record.specs.Bodies.{bareBody, bodyOn, KeyTaken}
+use Rattle.model_record.specs.Bodies.{bareBody, bodyStep, bodyOn, KeyTaken, modelOver}
 use Rattle.model_record.specs.declared.Body.{Body}
+use Rattle.model_record.specs.declared.FirstLines.{FirstLines}
 use Rattle.section_words.specs.declared.KeyFilled.{KeyFilled}
-use Rattle.section_words.specs.declared.BodyFilled.{BodyFilled}
+use Rattle.section_words.specs.declared.Used.{Used}
 
 -- ---- under a keyword; ls are the lines under it, and row is the place of the next row
 
@@ -43,9 +45,32 @@ waveformUnder s c k row = keyWaveform k row (under (rest s c))
 abbrev pub rowsUnder : List ℕ → Cursor → Keyword → List ℕ
 rowsUnder s c k = stored (keyRows k (under (rest s c)))
 
--- the keyword is taken, w being its argument, and what stands under it is written over the two tables
-pub record KeyFills (s : List ℕ) (b : Body) (k : Keyword) (w : List ℕ) (c : Cursor) (waves waves' store store' : List ℕ) (r : KeyFilled) : Type 0 where
-  pub taken : KeyTaken s b k w c (r .taken)
+-- ---- a model's record while its keywords are read: its waveforms are counted at the end
+
+abbrev pub uncounted : Body → Body
+uncounted b =
+    record {
+      voltage = b .voltage;
+      temperature = b .temperature;
+      pulldown = b .pulldown;
+      pullup = b .pullup;
+      ground = b .ground;
+      power = b .power;
+      ramp = b .ramp;
+      waveforms = 0;
+      row = 0;
+    }
+
+-- whatever its first lines say: where b stood in the record, b' stands
+abbrev pub Turns : List ℕ → List ℕ → Body → Body → Type 0
+Turns model model' b b' =
+    (n start : ℕ) (name : Name) (f : FirstLines) (behind : List ℕ) → model ≡ modelWords (modelOver n start name f (uncounted b)) ++ behind
+    → model' ≡ modelWords (modelOver n start name f (uncounted b')) ++ behind
+
+-- the keyword is taken, w being its argument, and what it says and what stands under it is written into the record and over the two tables
+pub record KeyFills (s : List ℕ) (b : Body) (k : Keyword) (w : List ℕ) (c : Cursor) (model model' waves waves' store store' : List ℕ) (r : KeyFilled) : Type 0 where
+  pub taken : KeyTaken s b k w c (record { body = bodyStep b k w (under (rest s c)); next = r .next })
+  pub turns : Turns model model' b (bodyStep b k w (under (rest s c)))
   pub waveform : Lies waves waves' (r .used .waveforms) (waveformUnder s c k (b .row))
   pub rows : Lies store store' (r .used .rows) (rowsUnder s c k)
 
@@ -61,7 +86,7 @@ abbrev pub modelBehind : ℕ → ℕ → ℕ → List ℕ → List Text → Mode
 modelBehind n row start name ts =
     modelIn n (tableAt (tablesIn (front isWithin ts)) row) (record { start = start; count = length (waveformsLaid (tablesIn (front isWithin ts)) row) }) name (front isWithin ts)
 
-pub record BodyFills (ts : List Text) (row : ℕ) (waves waves' store store' : List ℕ) (r : BodyFilled) : Type 0 where
-  pub body : r .body ≡ bodyOn (bareBody row) (front isWithin ts)
-  pub waveforms : Lies waves waves' (r .used .waveforms) (waveformsBehind row ts)
-  pub rows : Lies store store' (r .used .rows) (rowsBehind ts)
+pub record BodyFills (ts : List Text) (row : ℕ) (model model' waves waves' store store' : List ℕ) (r : Used) : Type 0 where
+  pub turns : Turns model model' (bareBody row) (bodyOn (bareBody row) (front isWithin ts))
+  pub waveforms : Lies waves waves' (r .waveforms) (waveformsBehind row ts)
+  pub rows : Lies store store' (r .rows) (rowsBehind ts)

@@ -1,8 +1,8 @@
 // A section of an accepted file as words: one pass over a model's lines writes its record, its waveforms' records and its rows.
-use model_record::Body;
-use model_record::Taken;
+use cut_lines::Cursor;
 
 pub mod puts; // puts.rt: words, and a model's record, at a place of a table
+pub mod parts; // parts.rt: what a keyword says of a model, written into its record
 pub mod keys; // keys.rt: what stands under one keyword of a model
 pub mod models; // models.rt: a whole model
 
@@ -15,14 +15,8 @@ pub struct Used {
     pub rows: usize,
 }
 
-// A keyword taken, and the words that stand under it.
+// The words that stand under a keyword, and where the next keyword line stands.
 pub struct KeyFilled {
-    pub taken: Taken,
-    pub used: Used,
-}
-
-// All keywords of a model, and the words that stand under them.
-pub struct BodyFilled {
-    pub body: Body,
+    pub next: Cursor,
     pub used: Used,
 }

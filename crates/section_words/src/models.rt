@@ -1,4 +1,4 @@
-// A whole model: its keywords one after another, each table's records and rows into the rest of its table; and its own record.
+// A whole model: its record as its first lines leave it; then its keywords one after another, each into that record and the rest of two tables.
 ghost use mathlib.Core.Path.{_≡_};
 ghost use Prim.Native.Nat.{_^_, _≤_, _<_};
 ghost use lib.ListN.{length};
@@ -6,44 +6,35 @@ ghost use Rattle.cut_lines.specs.Cursors.{rest, Placed};
 ghost use Rattle.records.specs.Stored.{over};
 ghost use Rattle.record_words.specs.Records.{modelWords, modelSize};
 ghost use Rattle.section_words.specs.Models.{modelBehind, waveformsBehind, rowsBehind, BodyFills};
-use crate::BodyFilled;
 use crate::Used;
 use crate::keys::fill_key;
 use crate::puts::put_model;
 use cut_lines::Cursor;
 use lines_under::KeyNext;
-use model_record::Body;
 use model_record::bodies::bare_body;
 use model_record::firsts::first_lines;
 use model_record::record::model_over;
+use record_words::MODEL_WORDS;
+use record_words::ROW_WORDS;
+use record_words::WAVEFORM_WORDS;
 
-fn filled_by(b: Body, waveforms: usize, rows: usize) -> BodyFilled
-    ensures { λ r. ⌜ r ≡ record { body = b; used = record { waveforms = waveforms; rows = rows } } ⌝ }
-{
-    BodyFilled {
-        body: b,
-        used: Used {
-            waveforms: waveforms,
-            rows: rows,
-        },
-    }
-}
-
-// What the keywords from a cursor on say, and what stands under them, up to the end of the section; row is the place of the first row.
+// What the keywords from a cursor on say, written into the model's record, and what stands under them, up to the end of the section;
+// row is the place of the first row.
 fn fill_body(
+    model: &mut [u64],
     waveforms: &mut [u64],
     rows: &mut [u64],
     src: &[u8],
     c: Cursor,
     row: usize,
-) -> BodyFilled
-    requires { ⌜ Placed (now src) c × (row < 2 ^ 63) ⌝ }
+) -> Used
+    requires { ⌜ Placed (now src) c × (row < 2 ^ 63) × (modelSize ≤ length (now model)) ⌝ }
     requires { ⌜ length (waveformsBehind row (rest (now src) c)) ≤ length (now waveforms) ⌝ }
     requires { ⌜ length (rowsBehind (rest (now src) c)) ≤ length (now rows) ⌝ }
-    ensures { λ r. ⌜ BodyFills (rest (now (src .entry)) c) row (now (waveforms .entry)) (now (waveforms .exit)) (now (rows .entry)) (now (rows .exit)) r ⌝ }
+    ensures { λ r. ⌜ BodyFills (rest (now (src .entry)) c) row (now (model .entry)) (now (model .exit)) (now (waveforms .entry)) (now (waveforms .exit)) (now (rows .entry)) (now (rows .exit)) r ⌝ }
 {
-    let mut b = bare_body(row);
     let mut d = c;
+    let mut place = row;
     let mut waves: usize = 0;
     let mut words: usize = 0;
     loop {
@@ -55,24 +46,31 @@ fn fill_body(
                 next,
             } => {
                 if lines_under::ends(keyword) {
-                    return filled_by(b, waves, words);
+                    return Used {
+                        waveforms: waves,
+                        rows: words,
+                    };
                 }
                 let filled = fill_key(
+                    model,
                     &mut waveforms[waves..],
                     &mut rows[words..],
                     src,
                     next,
-                    b,
+                    place,
                     keyword,
                     &src[start..end],
                 );
-                b = filled.taken.body;
-                d = filled.taken.next;
+                d = filled.next;
+                place += filled.used.rows / ROW_WORDS;
                 waves += filled.used.waveforms;
                 words += filled.used.rows;
             }
             KeyNext::NoKey => {
-                return filled_by(b, waves, words);
+                return Used {
+                    waveforms: waves,
+                    rows: words,
+                };
             }
         }
     }
@@ -103,8 +101,15 @@ pub fn fill_model(
     let first = first_lines(src, c);
     let lines = first.lines;
     let next = first.next;
-    let filled = fill_body(waveforms, rows, src, next, row);
-    let record = model_over(section, start, records::name_of(name), lines, filled.body);
-    put_model(model, 0, record);
-    filled.used
+    let bare = model_over(
+        section,
+        start,
+        records::name_of(name),
+        lines,
+        bare_body(row),
+    );
+    put_model(model, 0, bare);
+    let used = fill_body(model, waveforms, rows, src, next, row);
+    model[MODEL_WORDS - 1] = (used.waveforms / WAVEFORM_WORDS) as u64;
+    used
 }

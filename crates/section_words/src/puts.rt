@@ -17,9 +17,9 @@ use record_words::tables::model_tables;
 use records::Model;
 
 // Where a model's numbers and its ramp begin.
-const LEVELS_FROM: usize = MODEL_FIRST_WORDS + MODEL_SPLIT_WORDS;
+pub(crate) const LEVELS_FROM: usize = MODEL_FIRST_WORDS + MODEL_SPLIT_WORDS;
 
-const RAMP_FROM: usize = MODEL_LINES_WORDS + MODEL_TABLES_WORDS;
+pub(crate) const RAMP_FROM: usize = MODEL_LINES_WORDS + MODEL_TABLES_WORDS;
 
 pub fn put(out: &mut [u64], at: usize, words: &[u64])
     requires { ⌜ at + length (now words) ≤ length (now out) ⌝ }

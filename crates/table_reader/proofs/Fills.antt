@@ -1,9 +1,9 @@
 -- What the notes of a reading give: the words fit into the lent tables, and the fills leave what is promised. By whether the file is accepted.
-use Prim.Native.Nat.{ℕ, zero, suc, _*_, zero-le}
+use Prim.Native.Nat.{ℕ, zero, suc, zero-le}
 use mathlib.Core.Path.{_≡_, refl, sym, ap, _∙_, subst}
 use mathlib.Core.List.{List, [], _∷_, _++_, flatMap, append-nil}
 use native.Mathlib.Omega.{arith}
-use lib.ListN.{length, length-append}
+use lib.ListN.{length}
 use Rattle.rules.specs.Reading.{fileIn}
 use Rattle.records.specs.Stored.{stored, over}
 use Rattle.rules.specs.Whole.{Outcome, passed, refused, outcome, textsOf}
@@ -17,7 +17,8 @@ use Rattle.file_answer.specs.Answered.{answerFor, answerOf}
 use Rattle.file_answer.specs.Sorted.{upTo, Sorted, SortedFor, Outlines}
 use Rattle.records.specs.declared.Answer.{Answer}
 use Rattle.file_answer.proofs.Made.{file, fit, components-made, pins-made, selectors-made, choices-made, models-made, waveforms-by-models, rows-made, rows-fit}
-use Rattle.record_words.specs.Records.{componentWords, pinWords, selectorWords, choiceWords, modelWords, waveformWords, waveformSize}
+use Rattle.record_words.specs.Records.{componentWords, pinWords, selectorWords, choiceWords, modelWords, waveformWords}
+use Rattle.section_words.proofs.Counted.{waveforms-length}
 use Rattle.table_words.specs.Packed.{wordsTo, waveformWordsAt, WordTables, Room, filled}
 use Rattle.table_reader.specs.ReadInWords.{roomIn, ReadInWords}
 
@@ -46,13 +47,6 @@ waveforms-words s ns new n e =
     ap (flatMap waveformWords) e
     ∙ flat-flat waveformWords waveformsNoted (upTo (noteBy s ns OfModel) n)
     ∙ flat-upTo (λ a. flatMap waveformWords (waveformsNoted a)) (noteBy s ns OfModel) n
-
-waveforms-length : (l : List Waveform) → length (flatMap waveformWords l) ≡ waveformSize * length l
-unfolding flatMap
-waveforms-length [] = refl
-waveforms-length (w ∷ l) =
-    let e : length (flatMap waveformWords l) ≡ waveformSize * length l = waveforms-length l in
-    omega (arith, length-append (waveformWords w) (flatMap waveformWords l), e)
 
 -- ---- by the outcome
 

@@ -1,16 +1,36 @@
--- The cells of a group that was given before.
-use mathlib.Core.Path.{ap, _∙_}
+-- What the line says, or a fault.
+use borrow.Author.Needs.{needs}
+use mathlib.Core.Path.{sym, ap, _∙_}
 use denote.Ref.{now}
-use Rattle.records.specs.declared.Range.{Range}
-use Rattle.model_record.proofs.FirstLaws.{group-cells}
+use Rattle.laws.specs.Said.{orElse}
+use Rattle.line_rules.specs.Answers.{tripleSays}
+use Rattle.line_rules.proofs.Answers.{triple-said}
+use Rattle.line_rules.specs.Fields.{cellsLine}
 use Rattle.model_record.proofs.firsts.comp_after.Statement.{statement}
 use Rattle.model_record.proofs.firsts.comp_after.Tie as tie
+use Rattle.model_record.proofs.firsts.comp_after.Reads as reads
+use Rattle.model_record.proofs.firsts.comp_after.Lts as lts
+use Rattle.line_faults.proofs.cells_line.Reads as cells-line-reads
 
-group-after-requires : tie.Need-group-after-requires
-group-after-requires c κs = tt
+cells-line-requires : tie.Need-cells-line-requires
+cells-line-requires c κs = search needs
+
+enum-known-cells : tie.Need-enum-known-cells
+enum-known-cells c = search needs
+
+enum-told : tie.Need-enum-told
+enum-told c = search needs
 
 returns : tie.Need-returns
-returns c = ap (λ (r : Range). r .cells) (c .before .group-after .ensures) ∙ group-cells 3 (c .before .before .before .args .n) (c .before .before .before .args .before) (now (c .before .before .before .args .w))
+returns c =
+    let before = c .before .before .before .before .before .args .before in
+    ap (λ r. orElse before (tripleSays r)) (sym (c .before .cells .given .1)) ∙ ap (orElse before) (triple-said _ (cellsLine (now (c .before .before .before .before .before .args .w))) (c .before .before .before .cells-line .ensures))
+
+returns-2 : tie.Need-returns-2
+returns-2 c =
+    let before = c .before .before .before .before .args .before in
+    ap (λ r. orElse before (tripleSays r)) (sym (c .enum-told .given .1)) ∙ ap (orElse before) (triple-said _ (cellsLine (now (c .before .before .before .before .args .w))) (c .before .before .cells-line .ensures))
 
 pub comp-after-spec : {M : Type 1} → statement M
-comp-after-spec = tie.close (tie.spec group-after-requires returns)
+comp-after-spec =
+    tie.close (tie.spec cells-line-requires enum-known-cells enum-told returns returns-2)

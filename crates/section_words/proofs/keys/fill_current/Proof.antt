@@ -1,24 +1,57 @@
 -- As many rows are counted as are written, four words each: `current-filled`.
-use native.Mathlib.Omega.{arith}
 use borrow.Author.Needs.{needs}
-use Rattle.section_words.proofs.Written.{rows-are, current-filled}
+use Prim.Native.Nat.{ℕ, _/_}
+use mathlib.Core.Path.{sym, ap, _∙_}
+use mathlib.Core.List.{List, [], _∷_}
+use mathlib.Core.Bool.{cond}
+use lib.Dec.{eqb}
+use lib.ListN.{getD}
+use lib.Seq.{sets}
+use native.Mathlib.Omega.{arith}
+use denote.Ref.{now}
+use Rattle.section_words.specs.Parts.{tableFrom}
+use Rattle.section_words.proofs.Written.{current-filled}
 use Rattle.section_words.proofs.keys.fill_current.Statement.{statement}
 use Rattle.section_words.proofs.keys.fill_current.Tie as tie
+use Rattle.section_words.proofs.keys.fill_current.Reads as reads
+use Rattle.section_words.proofs.keys.fill_current.Lts as lts
+use Rattle.section_words.proofs.parts.fill_span.Reads as fill-span-reads
+use Rattle.section_words.proofs.parts.table_from.Reads as table-from-reads
+use Rattle.table_rows.proofs.fill_table.Reads as fill-table-reads
 
 fill-table-requires : tie.Need-fill-table-requires
-fill-table-requires c κs = (c .before .before .before .pre .0 .0, c .before .before .before .pre .1)
+fill-table-requires c κs = search needs
 
-with-current-requires : tie.Need-with-current-requires
-with-current-requires c κs =
-    let f = c .before .before .before .fill-table .ensures in
-    omega (arith, rows-are f, f .bounded, f .stops .placed .within, c .before .before .before .before .before .before .before .pre .0 .1, c .before .before .before .before .before .before .before .good)
+table-from-requires : tie.Need-table-from-requires
+table-from-requires c κs = search needs
+
+fill-span-requires : tie.Need-fill-span-requires
+fill-span-requires c κs = search needs
 
 same-length : tie.Need-same-length
 same-length c = search needs
 
+same-length-2 : tie.Need-same-length-2
+same-length-2 c = search needs
+
 returns : tie.Need-returns
-returns c = current-filled (c .before .before .before .before .fill-table .ensures) (c .before .before .before .before .before .before .before .before .args .b) (c .before .before .before .before .before .before .before .before .pre .0 .1) (c .before .before .before .before .before .before .before .before .pre .0 .2) (c .with-current .result) (c .before .before .before .before .before .before .before .before .args .table) (c .with-current .ensures)
+returns c =
+    λ b w waves i l.
+    let a = c .before .before .before .before .before .before .before .before .before .before .before .before .before .args in
+    let m = now (a .model) in
+    let k = c .before .before .before .before .before .before .before .before .fill-table .result .words / 4 in
+    current-filled (c .before .before .before .before .before .before .before .before .fill-table .ensures) b (omega (arith, i, c .before .before .before .before .before .before .before .before .before .before .before .before .before .pre .0 .1)) l w (a .table) m (c .before .before .fill-span .last .0) waves
+    (c .before .before .fill-span .ensures
+    ∙ ap (λ (n : ℕ). cond (eqb (getD m n 0) 0) (sets m n (1 ∷ a .row ∷ k ∷ [])) m) (c .before .before .before .table-from .ensures .0)
+    ∙ ap (λ (x : ℕ). cond (eqb (getD m (tableFrom (a .table)) 0) 0) (sets m (tableFrom (a .table)) (1 ∷ x ∷ k ∷ [])) m) (sym i))
 
 pub fill-current-spec : {M : Type 1} → statement M
 fill-current-spec =
-    tie.close (tie.spec fill-table-requires with-current-requires same-length returns)
+    tie.close
+    (tie.spec
+    fill-table-requires
+    table-from-requires
+    fill-span-requires
+    same-length
+    same-length-2
+    returns)

@@ -1,30 +1,32 @@
--- The record stands at the front of its table, and as many rows are counted as are written: `wave-filled`.
-use mathlib.Core.Path.{ap, _∙_}
-use lib.ListN.{length}
-use native.Mathlib.Omega.{arith}
+-- The record at the front of its table, and the rows: `wave-filled`.
 use borrow.Author.Needs.{needs}
+use Prim.Native.Nat.{ℕ}
+use mathlib.Core.Path.{sym, ap, _∙_}
+use native.Mathlib.Omega.{arith}
 use denote.Ref.{now}
+use Rattle.cut_lines.specs.Cursors.{rest}
+use Rattle.rules.specs.Reading.{under, waveformIn}
 use Rattle.record_words.specs.Records.{waveformWords}
-use Rattle.section_words.proofs.Written.{rows-are, wave-filled}
+use Rattle.section_words.proofs.Written.{wave-filled}
 use Rattle.section_words.proofs.keys.fill_wave.Statement.{statement}
 use Rattle.section_words.proofs.keys.fill_wave.Tie as tie
+use Rattle.section_words.proofs.keys.fill_wave.Reads as reads
+use Rattle.section_words.proofs.keys.fill_wave.Lts as lts
+use Rattle.record_words.proofs.tables.waveform_words.Reads as waveform-words-reads
+use Rattle.section_words.proofs.puts.put.Reads as put-reads
+use Rattle.table_rows.proofs.fill_waveform.Reads as fill-waveform-reads
 
 fill-waveform-requires : tie.Need-fill-waveform-requires
-fill-waveform-requires c κs = (c .before .before .before .before .pre .0 .0, c .before .before .before .before .pre .1 .1)
+fill-waveform-requires c κs = search needs
 
 waveform-words-requires : tie.Need-waveform-words-requires
-waveform-words-requires c κs = tt
+waveform-words-requires c κs = search needs
 
 slice-aggregate-put : tie.Need-slice-aggregate-put
 slice-aggregate-put c = search needs
 
 put-requires : tie.Need-put-requires
-put-requires c κs = omega (arith, ap length (c .before .before .waveform-words .ensures), c .before .before .before .before .before .before .before .before .before .before .pre .1 .0)
-
-with-waveform-requires : tie.Need-with-waveform-requires
-with-waveform-requires c κs =
-    let f = c .before .before .before .before .before .before .before .before .before .fill-waveform .ensures .1 in
-    (omega (arith, rows-are f, f .bounded, f .stops .placed .within, c .before .before .before .before .before .before .before .before .before .before .before .before .before .before .pre .0 .1, c .before .before .before .before .before .before .before .before .before .before .before .before .before .before .good), omega (arith, c .before .before .before .before .before .before .before .before .before .before .before .before .before .before .pre .0 .0 .within, c .before .before .before .before .before .before .before .before .before .before .before .before .before .before .pre .0 .2, c .before .before .before .before .before .before .before .before .before .before .before .before .before .before .good))
+put-requires c κs = search needs
 
 same-length : tie.Need-same-length
 same-length c = search needs
@@ -34,8 +36,10 @@ same-length-2 c = search needs
 
 returns : tie.Need-returns
 returns c =
-    wave-filled (c .before .before .before .before .before .before .before .before .before .before .fill-waveform .ensures .1) (c .before .before .before .before .before .before .before .before .before .before .before .before .before .before .before .args .b) (c .before .before .before .before .before .before .before .before .before .before .before .before .before .before .before .pre .0 .1) (c .before .before .before .before .before .before .before .before .before .before .before .before .before .before .before .pre .0 .2) (c .with-waveform .result) (c .before .before .before .before .before .before .before .before .before .before .before .before .before .before .before .args .edge) (c .with-waveform .ensures)
-    (now (c .before .before .before .before .before .before .before .before .before .before .before .before .before .before .before .args .waveforms)) (c .before .before .before .before .put .last .0) (c .before .before .before .before .before .before .before .waveform-words .result) (c .before .before .before .before .before .before .before .before .before .before .before .before .before .before .before .pre .1 .0) (c .before .before .before .before .put .ensures) (c .before .before .before .before .before .before .before .waveform-words .ensures ∙ ap waveformWords (c .before .before .before .before .before .before .before .before .before .before .fill-waveform .ensures .0))
+    λ b w model i l.
+    let a = c .before .before .before .before .before .before .before .before .before .before .before .before .before .before .args in
+    wave-filled (c .before .before .before .before .before .before .before .before .before .fill-waveform .ensures .1) b (omega (arith, i, c .before .before .before .before .before .before .before .before .before .before .before .before .before .before .pre .0 .1)) l w (a .edge) model (now (a .waveforms)) (c .before .before .before .put .last .0) (c .before .before .before .before .before .before .waveform-words .result) (c .before .before .before .before .before .before .before .before .before .before .before .before .before .before .pre .1 .0) (c .before .before .before .put .ensures)
+    (c .before .before .before .before .before .before .waveform-words .ensures ∙ ap waveformWords (c .before .before .before .before .before .before .before .before .before .fill-waveform .ensures .0) ∙ ap (λ (row : ℕ). waveformWords (waveformIn row (a .edge) (under (rest (now (a .src)) (a .c))))) (sym i))
 
 pub fill-wave-spec : {M : Type 1} → statement M
 fill-wave-spec =
@@ -45,7 +49,6 @@ fill-wave-spec =
     waveform-words-requires
     slice-aggregate-put
     put-requires
-    with-waveform-requires
     same-length
     same-length-2
     returns)

@@ -1,0 +1,50 @@
+-- The three cells behind a flag.
+use borrow.Author.Needs.{needs}
+use Rattle.section_words.proofs.parts.fill_temperature.Statement.{statement}
+use Rattle.section_words.proofs.parts.fill_temperature.Tie as tie
+use Rattle.section_words.proofs.parts.fill_temperature.Reads as reads
+use Rattle.section_words.proofs.parts.fill_temperature.Lts as lts
+use Rattle.model_record.proofs.bodies.cells_of.Reads as cells-of-reads
+use Rattle.record_words.proofs.tables.triple_words.Reads as triple-words-reads
+use Rattle.section_words.proofs.puts.put.Reads as put-reads
+
+cells-of-requires : tie.Need-cells-of-requires
+cells-of-requires c κs = search needs
+
+triple-words-requires : tie.Need-triple-words-requires
+triple-words-requires c κs = search needs
+
+array-read-t9 : tie.Need-array-read-t9
+array-read-t9 c = search needs
+
+array-read-t12 : tie.Need-array-read-t12
+array-read-t12 c = search needs
+
+array-read-t15 : tie.Need-array-read-t15
+array-read-t15 c = search needs
+
+slice-aggregate-put : tie.Need-slice-aggregate-put
+slice-aggregate-put c = search needs
+
+put-requires : tie.Need-put-requires
+put-requires c κs = search needs
+
+same-length : tie.Need-same-length
+same-length c = search needs
+
+returns : tie.Need-returns
+returns c = rw (c .before .before .put .ensures, c .before .before .before .before .before .triple-words .ensures, c .before .before .before .before .before .before .cells-of .ensures)
+
+pub fill-temperature-spec : {M : Type 1} → statement M
+fill-temperature-spec =
+    tie.close
+    (tie.spec
+    cells-of-requires
+    triple-words-requires
+    array-read-t9
+    array-read-t12
+    array-read-t15
+    slice-aggregate-put
+    put-requires
+    same-length
+    returns)
