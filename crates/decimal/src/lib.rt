@@ -5,7 +5,7 @@ ghost use Prim.Native.Nat.{_+_, _/_, _^_, _<_};
 ghost use lib.Dec.{ltb};
 ghost use Rattle.decimal.specs.Decimal.{numberOf, givenCell, cellOf, isMissing, lessThan, sizeOf, aboveZero, wordOf, ranged, offset};
 ghost use Rattle.decimal.specs.Parts.{cap, signBit, BegunRead};
-ghost use Rattle.decimal.specs.Answers.{numberRead, cellRead, numberWord, cellWord, faultAt, decimalIn, cellIn, Settles};
+ghost use Rattle.decimal.specs.Answers.{numberRead, cellRead, numberWord, cellWord, pastNumbers, faultAt, decimalIn, cellIn, Settles};
 ghost use Rattle.decimal.specs.declared.Cell.the-variants.{Number};
 
 mod word; // word.rt: the parts of a word
@@ -378,6 +378,13 @@ pub fn word_of(c: Cell) -> u64
         Cell::Number(d) => word_of_number(d),
         Cell::Missing => MISSING,
     }
+}
+
+// Does a word of the row store hold a number?
+pub fn holds_number(w: u64) -> bool
+    ensures { λ r. ⌜ r ≡ ltb w pastNumbers ⌝ }
+{
+    w < PAST_NUMBERS
 }
 
 // The number that a word of the row store holds.
