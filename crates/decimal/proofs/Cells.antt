@@ -18,7 +18,7 @@ use Rattle.decimal.specs.declared.Cell.{Cell}
 use Rattle.decimal.specs.declared.Cell.the-variants.{Number, Missing}
 use Rattle.decimal.specs.Decimal.{isMissing, wordOf, missingWord}
 use Rattle.decimal.specs.Parts.{signBit}
-use Rattle.decimal.specs.Answers.{cellIn}
+use Rattle.decimal.specs.Answers.{pastNumbers, decimalIn, cellIn}
 use Rattle.decimal.specs.Fine.{FineCell}
 use Rattle.laws.proofs.Bytes.{capital-yes, capital-only}
 
@@ -72,19 +72,30 @@ power-back n p b w h k e =
     let r : w / 2 % 256 ≡ (n * 256 + p) % 256 = ap (λ (x : ℕ). x % 256) q in
     r ∙ mul-add-mod-self-right n 256 p ∙ mod-eq-of-lt h
 
-pub kept-number : (d : Decimal) → d .digits < 10 ^ 15 → d .power < 256 → cellIn (wordOf (Number d)) ≡ Number d
-unfolding cellIn
-kept-number d h k =
-    let w = wordOf (Number d) in
-    let b = bit-le (d .negative) in
-    let m : d .digits % 10 ^ 15 ≡ d .digits = mod-eq-of-lt h in
-    let e : w ≡ d .digits * 512 + d .power * 2 + signBit (d .negative) = ap (λ (n : ℕ). n * 512 + d .power * 2 + signBit (d .negative)) m in
-    let n : w % 2 ≡ signBit (d .negative) = omega arith in
-    let g : w / 512 ≡ d .digits = omega arith in
-    cond-no Missing _ (ne-eqb w missingWord (λ z. omega arith))
-    ∙ ap (λ (x : Bool). Number (record { negative = x; digits = w / 512; power = w / 2 % 256 })) (ap (λ (x : ℕ). eqb x 1) n ∙ bit-back (d .negative))
-    ∙ ap (λ (x : ℕ). Number (record { negative = d .negative; digits = x; power = w / 2 % 256 })) g
-    ∙ ap (λ (x : ℕ). Number (record { negative = d .negative; digits = d .digits; power = x })) (power-back (d .digits) (d .power) (signBit (d .negative)) w k b e)
+abbrev decimalBy : Bool → ℕ → ℕ → Decimal
+decimalBy negative digits power = record { negative = negative; digits = digits; power = power }
+
+module _ (d : Decimal) (h : d .digits < 10 ^ 15) (k : d .power < 256) where
+  pub number-small : wordOf (Number d) < pastNumbers
+  number-small =
+      let m : d .digits % 10 ^ 15 ≡ d .digits = mod-eq-of-lt h in
+      omega (arith, bit-le (d .negative))
+
+  pub kept-decimal : decimalIn (wordOf (Number d)) ≡ d
+  kept-decimal =
+      let w = wordOf (Number d) in
+      let b = bit-le (d .negative) in
+      let m : d .digits % 10 ^ 15 ≡ d .digits = mod-eq-of-lt h in
+      let e : w ≡ d .digits * 512 + d .power * 2 + signBit (d .negative) = ap (λ (n : ℕ). n * 512 + d .power * 2 + signBit (d .negative)) m in
+      let n : w % 2 ≡ signBit (d .negative) = omega arith in
+      let g : w / 512 ≡ d .digits = omega arith in
+      ap (λ (x : Bool). decimalBy x (w / 512) (w / 2 % 256)) (ap (λ (x : ℕ). eqb x 1) n ∙ bit-back (d .negative))
+      ∙ ap (λ (x : ℕ). decimalBy (d .negative) x (w / 2 % 256)) g
+      ∙ ap (λ (x : ℕ). decimalBy (d .negative) (d .digits) x) (power-back (d .digits) (d .power) (signBit (d .negative)) w k b e)
+
+  pub kept-number : cellIn (wordOf (Number d)) ≡ Number d
+  unfolding cellIn
+  kept-number = cond-no Missing _ (ne-eqb (wordOf (Number d)) missingWord (λ z. omega (arith, number-small))) ∙ ap Number kept-decimal
 
 pub kept : (c : Cell) → FineCell c → cellIn (wordOf c) ≡ c
 unfolding cellIn

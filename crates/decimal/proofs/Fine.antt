@@ -28,7 +28,7 @@ ranged-fine minus n up down =
     cond-all FineNumber (eqb n 0) _ _
     (λ h. record { digits = omega arith; power = omega arith })
     (λ h. cond-all FineNumber (leb (10 ^ 15) n || ltb (up + 40) down || ltb (down + 24) up) (fault 12) _
-    (λ k. tt)
+    (λ k. (omega arith, omega arith))
     (λ k.
     let long = or-left (leb (10 ^ 15) n) (ltb (up + 40) down) (or-left _ (ltb (down + 24) up) k) in
     let high = ltb-false (down + 24) up (or-right (leb (10 ^ 15) n || ltb (up + 40) down) _ k) in
@@ -37,8 +37,8 @@ ranged-fine minus n up down =
 unsigned-fine : (minus : Bool) (s : List ℕ) → FineNumber (unsigned minus s)
 unfolding unsigned resultOf
 unsigned-fine minus s =
-    cond-all FineNumber (eqb (length (figures s)) 0) (fault 11) _ (λ h. tt)
-    (λ h. cond-all FineNumber (all isLetter (letters (afterFigures s))) _ (fault 11) (λ k. ranged-fine minus _ _ _) (λ k. tt))
+    cond-all FineNumber (eqb (length (figures s)) 0) (fault 11) _ (λ h. (omega arith, omega arith))
+    (λ h. cond-all FineNumber (all isLetter (letters (afterFigures s))) _ (fault 11) (λ k. ranged-fine minus _ _ _) (λ k. (omega arith, omega arith)))
 
 pub number-fine : (w : List ℕ) → FineNumber (numberOf w)
 unfolding numberOf
@@ -46,7 +46,7 @@ number-fine w = unsigned-fine (isMinus w) (afterSign w)
 
 given-fine : (r : Said Decimal) → FineNumber r → FineRead (readOn r (λ d. says (Number d)))
 given-fine (says d) h = h
-given-fine (fault n) h = tt
+given-fine (fault n) h = h
 
 pub cell-fine : (w : List ℕ) → FineRead (cellOf w)
 unfolding cellOf givenCell

@@ -8,4 +8,5 @@ pub mod Results
 pub mod Settled
 pub mod Order
 pub mod Cells
+pub mod Worded
 pub mod Answers

@@ -1,5 +1,5 @@
--- What every number that was read keeps: at most 15 digits, a power from −40 to 24, and no trailing zero.
-use Prim.Native.Nat.{_+_, _%_, _^_, _≤_, _<_}
+-- What every number that was read keeps: at most 15 digits, a power from −40 to 24, and no trailing zero; and a fault, that it is one and fits in a byte.
+use Prim.Native.Nat.{ℕ, _+_, _%_, _^_, _≤_, _<_}
 use mathlib.Core.Path.{_≡_}
 use mathlib.Core.Logic.{_⊎_}
 use mathlib.Core.Bool.{false}
@@ -14,9 +14,12 @@ pub record Fine (d : Decimal) : Type 0 where
   pub digits : d .digits < 10 ^ 15
   pub power : d .power ≤ offset + 24
 
+abbrev pub FineFault : ℕ → Type 0
+FineFault n = (0 < n) × (n < 256)
+
 abbrev pub FineNumber : Said Decimal → Type 0
 FineNumber (says d) = Fine d
-FineNumber (fault n) = Unit {0}
+FineNumber (fault n) = FineFault n
 
 abbrev pub FineCell : Cell → Type 0
 FineCell (Number d) = Fine d
@@ -24,7 +27,7 @@ FineCell Missing = Unit {0}
 
 abbrev pub FineRead : Said Cell → Type 0
 FineRead (says c) = FineCell c
-FineRead (fault n) = Unit {0}
+FineRead (fault n) = FineFault n
 
 -- "no trailing zero; zero is 0 and power 0"
 abbrev pub Reduced : Decimal → Type 0

@@ -5,7 +5,8 @@ ghost use Prim.Native.Nat.{_+_, _/_, _^_, _<_};
 ghost use lib.Dec.{ltb};
 ghost use Rattle.decimal.specs.Decimal.{numberOf, givenCell, cellOf, isMissing, lessThan, sizeOf, aboveZero, wordOf, ranged, offset};
 ghost use Rattle.decimal.specs.Parts.{cap, signBit, BegunRead};
-ghost use Rattle.decimal.specs.Answers.{numberRead, cellRead, cellIn, Settles};
+ghost use Rattle.decimal.specs.Answers.{numberRead, cellRead, numberWord, cellWord, pastNumbers, faultAt, decimalIn, cellIn, Settles};
+ghost use Rattle.decimal.specs.declared.Cell.the-variants.{Number};
 
 mod word; // word.rt: the parts of a word
 
@@ -21,9 +22,9 @@ use word::sign_at;
 
 // power has 40 added: 0 to 64 stand for -40 to 24.
 pub struct Decimal {
-    pub negative: bool,
     pub digits: u64,
     pub power: u8,
+    pub negative: bool,
 }
 
 // A cell of a table: a number, or missing (NA).
@@ -68,6 +69,11 @@ const SHORT: usize = 19;
 
 // The word of a missing cell.
 const MISSING: u64 = 18_446_744_073_709_551_615;
+
+// No number has a word from here on; the words of faults go down from FAULTS.
+const PAST_NUMBERS: u64 = 9_223_372_036_854_775_808;
+
+const FAULTS: u64 = MISSING - 1;
 
 // number with the power high less low, which has LOWEST added.
 fn fit(minus: bool, number: u64, high: u64, low: u64) -> NumberRead
@@ -176,12 +182,12 @@ fn with_exponent(w: &[u8], begun: Begun) -> NumberRead
 }
 
 // What any word says as a number, soonest for a short one that has letters alone behind its digits. Every word would pay for the slow ways
-// if their answers were handed on straight, or if with_exponent had one call alone, which the compiler would take in.
-pub fn number_of(w: &[u8]) -> NumberRead
+// if their answers were handed on straight, if w itself were handed on, or if with_exponent had one call alone, which the compiler would take in.
+fn number_read(w: &[u8]) -> NumberRead
     ensures { λ r. ⌜ r ≡ numberRead (numberOf (now (w .entry))) ⌝ }
 {
     if SHORT < w.len() {
-        let slow = any_number(w);
+        let slow = any_number(&w[0..]);
         return slow;
     }
     let sign = sign_at(w, 0);
@@ -195,7 +201,7 @@ pub fn number_of(w: &[u8]) -> NumberRead
             places: mantissa.places,
             at: at,
         };
-        let slow = with_exponent(w, none);
+        let slow = with_exponent(&w[0..], none);
         return slow;
     }
     if !letters_from(w, at) {
@@ -206,12 +212,46 @@ pub fn number_of(w: &[u8]) -> NumberRead
             places: mantissa.places,
             at: at,
         };
-        let slow = with_exponent(w, begun);
+        let slow = with_exponent(&w[0..], begun);
         return slow;
     }
     let up = scale_up(w, at) + LOWEST;
     let down = mantissa.places + scale_down(w, at);
     settle(sign.minus, mantissa.number, up, down)
+}
+
+// The same in one word, so that it passes in a register: the number's word of the row store, or the word of a fault, which no cell has.
+pub fn number_word(w: &[u8]) -> u64
+    ensures { λ r. ⌜ r ≡ numberWord (numberOf (now (w .entry))) ⌝ }
+{
+    match number_read(w) {
+        NumberRead::Value(d) => word_of_number(d),
+        NumberRead::Wrong(fault) => FAULTS - fault as u64,
+    }
+}
+
+// The fault that such a word tells; 0 of a cell's word.
+pub fn fault_at(w: u64) -> u64
+    ensures { λ r. ⌜ r ≡ faultAt w ⌝ }
+{
+    if w < PAST_NUMBERS {
+        return 0;
+    }
+    if w == MISSING {
+        return 0;
+    }
+    FAULTS - w
+}
+
+// What any word says as a number.
+pub fn number_of(w: &[u8]) -> NumberRead
+    ensures { λ r. ⌜ r ≡ numberRead (numberOf (now (w .entry))) ⌝ }
+{
+    let answer = number_word(w);
+    if answer < PAST_NUMBERS {
+        return NumberRead::Value(decimal_in(answer));
+    }
+    NumberRead::Wrong((FAULTS - answer) as u8)
 }
 
 // Is the word NA, in any letter case?
@@ -250,6 +290,16 @@ pub fn cell_of(w: &[u8]) -> CellRead
         return CellRead::Read(Cell::Missing);
     }
     given_cell(w)
+}
+
+// The same in one word, as number_word has it.
+pub fn cell_word(w: &[u8]) -> u64
+    ensures { λ r. ⌜ r ≡ cellWord (cellOf (now (w .entry))) ⌝ }
+{
+    if missing(w) {
+        return MISSING;
+    }
+    number_word(w)
 }
 
 // number without its last digits, as many as count says.
@@ -313,13 +363,38 @@ fn bit(b: bool) -> u64
     if b { 1 } else { 0 }
 }
 
-// A cell as one word of the row store: 50 bits of digits, eight of power and one of sign.
+// A number as one word of the row store: 50 bits of digits, eight of power and one of sign.
+fn word_of_number(d: Decimal) -> u64
+    ensures { λ r. ⌜ r ≡ wordOf (Number d) ⌝ }
+{
+    d.digits % LIMIT * 512 + d.power as u64 * 2 + bit(d.negative)
+}
+
+// A cell as one word of the row store.
 pub fn word_of(c: Cell) -> u64
     ensures { λ r. ⌜ r ≡ wordOf c ⌝ }
 {
     match c {
-        Cell::Number(d) => d.digits % LIMIT * 512 + d.power as u64 * 2 + bit(d.negative),
+        Cell::Number(d) => word_of_number(d),
         Cell::Missing => MISSING,
+    }
+}
+
+// Does a word of the row store hold a number?
+pub fn holds_number(w: u64) -> bool
+    ensures { λ r. ⌜ r ≡ ltb w pastNumbers ⌝ }
+{
+    w < PAST_NUMBERS
+}
+
+// The number that a word of the row store holds.
+pub fn decimal_in(w: u64) -> Decimal
+    ensures { λ r. ⌜ r ≡ decimalIn w ⌝ }
+{
+    Decimal {
+        digits: w / 512,
+        power: (w / 2 % 256) as u8,
+        negative: w % 2 == 1,
     }
 }
 
@@ -330,9 +405,5 @@ pub fn cell_in(w: u64) -> Cell
     if w == MISSING {
         return Cell::Missing;
     }
-    Cell::Number(Decimal {
-        negative: w % 2 == 1,
-        digits: w / 512,
-        power: (w / 2 % 256) as u8,
-    })
+    Cell::Number(decimal_in(w))
 }

@@ -17,11 +17,8 @@ use Rattle.laws.proofs.Fronts.{front-take, after-drop, among-found}
 use Rattle.decimal.specs.Decimal.{numberOf, cellOf}
 use Rattle.decimal.specs.Answers.{numberRead, cellRead, numberSays, cellSays}
 use Rattle.decimal.specs.declared.Cell.{Cell}
-use Rattle.decimal.specs.declared.Decimal.{Decimal}
 use Rattle.decimal.specs.declared.NumberRead.{NumberRead}
-use Rattle.decimal.specs.declared.NumberRead.the-variants.{Value, Wrong}
 use Rattle.decimal.specs.declared.CellRead.{CellRead}
-use Rattle.decimal.specs.declared.CellRead.the-variants.{Read, Bad}
 use Rattle.decimal.proofs.Answers.{number-said, cell-said}
 use Rattle.records.specs.Stored.{noCells}
 use Rattle.records.specs.declared.Triple.{Triple}
@@ -30,27 +27,22 @@ use Rattle.records.specs.declared.RampTriple.{RampTriple}
 use Rattle.words.specs.Words.{word, words}
 use Rattle.words.specs.declared.Word.{Word}
 use Rattle.words.proofs.Laws.{words-none, words-some}
-use Rattle.line_rules.specs.Fields.{exactly, typMinMax, cellsBy, rowOf, slopeOf, slopeFrom, slopeOrMissing, ratioOf, isUpward, upward, threeSlopes}
-use Rattle.line_rules.specs.Answers.{tripleRead, rowRead, slopeRead, rampRead, slopeSays}
+use Rattle.line_rules.specs.Fields.{exactly, typMinMax, cellsBy, slopeOf, slopeFrom, slopeOrMissing, ratioOf, isUpward, upward, threeSlopes}
+use Rattle.line_rules.specs.Answers.{tripleRead, slopeRead, rampRead, slopeSays}
 use Rattle.line_rules.specs.declared.TripleRead.{TripleRead}
 use Rattle.line_rules.specs.declared.TripleRead.the-variants.{Cells, Flawed}
-use Rattle.line_rules.specs.declared.RowRead.the-variants.{Amiss}
 use Rattle.line_rules.specs.declared.RampCellRead.{RampCellRead}
 use Rattle.line_rules.specs.declared.RampCellRead.the-variants.{Faulted}
 use Rattle.line_rules.specs.declared.RampRead.the-variants.{Slopes, Refused}
 use Rattle.line_rules.proofs.Answers.{slope-said}
 use Rattle.rules.specs.Component.{pinCells}
-use Rattle.line_cells.specs.Threes.{bytesOf, ThreeAre, rowBy}
+use Rattle.line_cells.specs.Threes.{bytesOf, ThreeAre}
 
 -- ---- words that are too few or too many
 
 pub cells-other : (typ : List ℕ → Said Cell) (ws : List (List ℕ)) → (length ws ≡ 3 → ⊥) → Flawed 10 ≡ tripleRead (cellsBy typ ws)
 unfolding cellsBy exactly
 cells-other typ ws h = ap tripleRead (sym (cond-no _ _ (ne-eqb (length ws) 3 h)))
-
-pub row-other : (ws : List (List ℕ)) → (length ws ≡ 4 → ⊥) → Amiss 10 ≡ rowRead (rowOf ws)
-unfolding rowOf exactly
-row-other ws h = ap rowRead (sym (cond-no _ _ (ne-eqb (length ws) 4 h)))
 
 pub slopes-other : (ws : List (List ℕ)) → (length ws ≡ 3 → ⊥) → Refused 10 ≡ rampRead (threeSlopes ws)
 unfolding threeSlopes exactly
@@ -100,34 +92,6 @@ module _ {s : List ℕ} {at : ℕ} {a b c : Word} (t : ThreeAre s at a b c) {p q
   three-slopes e f g =
       rw (slope-said p (slopeOf (bytesOf s a)) e, slope-said q (slopeOrMissing (bytesOf s b)) f, slope-said r (slopeOrMissing (bytesOf s c)) g)
       (ap rampRead (on-upward (slopeOf (bytesOf s a)) (slopeOrMissing (bytesOf s b)) (slopeOrMissing (bytesOf s c))) ∙ sym (ap (λ (ws : List (List ℕ)). rampRead (threeSlopes ws)) (t .are)))
-
--- what a word says as a cell, from what the code was answered
-pub said-bad : (b : List ℕ) {r : CellRead} {n : ℕ} → r ≡ cellRead (cellOf b) → r ≡ Bad n → cellOf b ≡ fault n
-said-bad b {r} e q = sym (cell-said r (cellOf b) e) ∙ ap cellSays q
-
-pub said-good : (b : List ℕ) {r : CellRead} {c : Cell} → r ≡ cellRead (cellOf b) → r ≡ Read c → cellOf b ≡ says c
-said-good b {r} e q = sym (cell-said r (cellOf b) e) ∙ ap cellSays q
-
--- four words: a number, and three cells
-row-by : (number : Decimal) (typ min max : Said Cell)
-    → rowBy number typ min max ≡ readOn (typMinMax kept typ min max) (λ cells. says (record { number = number; cells = cells }))
-row-by number (says a) (says b) (says c) = refl
-row-by number (says a) (says b) (fault n) = refl
-row-by number (says a) (fault n) max = refl
-row-by number (fault n) min max = refl
-
-module _ {ws : List (List ℕ)} {a b c d : List ℕ} (four : ws ≡ a ∷ b ∷ c ∷ d ∷ []) {r : NumberRead} (e : r ≡ numberRead (numberOf a)) where
-  pub row-bad : {n : ℕ} → r ≡ Wrong n → Amiss n ≡ rowRead (rowOf ws)
-  unfolding rowOf exactly word
-  row-bad {n} q =
-      let g : numberOf a ≡ fault n = sym (number-said r (numberOf a) e) ∙ ap numberSays q in
-      sym (ap (λ (vs : List (List ℕ)). rowRead (rowOf vs)) four ∙ rw g)
-
-  pub row-good : {number : Decimal} → r ≡ Value number → rowRead (rowBy number (cellOf b) (cellOf c) (cellOf d)) ≡ rowRead (rowOf ws)
-  unfolding rowOf cellsBy exactly word
-  row-good {number} q =
-      let g : numberOf a ≡ says number = sym (number-said r (numberOf a) e) ∙ ap numberSays q in
-      ap rowRead (row-by number (cellOf b) (cellOf c) (cellOf d)) ∙ sym (ap (λ (vs : List (List ℕ)). rowRead (rowOf vs)) four ∙ rw g)
 
 -- ---- a slope
 

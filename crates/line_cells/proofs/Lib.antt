@@ -1,4 +1,5 @@
--- The laws that the proofs cite; `Headings` is for the crates above too.
+-- The laws that the proofs cite; `Rows` and `Headings` are for the crates above too.
 
 pub mod Laws
+pub mod Rows
 pub mod Headings

@@ -1,3 +1,4 @@
 -- What the code's own types say.
 pub mod Threes
+pub mod Rows
 pub mod Headings

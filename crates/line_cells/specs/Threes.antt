@@ -1,14 +1,9 @@
--- What the code's places say of the words of a line: a word within it, and three words that are all; and a row by its cells.
+-- What the code's places say of the words of a line: a word within it, and three words that are all.
 use Prim.Native.Nat.{ℕ, _≤_}
 use mathlib.Core.Path.{_≡_}
 use mathlib.Core.List.{List, [], _∷_}
 use lib.ListN.{length, drop}
 use Rattle.laws.specs.Lists.{part}
-use Rattle.laws.specs.Said.{Said}
-use Rattle.decimal.specs.declared.Decimal.{Decimal}
-use Rattle.decimal.specs.declared.Cell.{Cell}
-use Rattle.records.specs.declared.Row.{Row}
-use Rattle.line_rules.specs.Fields.{typMinMax}
 use Rattle.words.specs.Words.{words}
 use Rattle.words.specs.declared.Word.{Word}
 use Rattle.line_cells.specs.declared.ThreeWords.{ThreeWords}
@@ -31,7 +26,3 @@ pub record ThreeAre (s : List ℕ) (at : ℕ) (a b c : Word) : Type 0 where
 abbrev pub ThreeFrom : List ℕ → ℕ → ThreeWords → Type 0
 ThreeFrom s at (Three a b c) = ThreeAre s at a b c
 ThreeFrom s at Other = length (words (drop at s)) ≡ 3 → ⊥
-
--- a row of this number and three cells
-abbrev pub rowBy : Decimal → Said Cell → Said Cell → Said Cell → Said Row
-rowBy number = typMinMax (λ a b c. record { number = number; cells = record { typ = a; min = b; max = c } })

@@ -7,26 +7,24 @@ ghost use mathlib.Core.Bool.{cond};
 ghost use lib.Dec.{eqb};
 ghost use Rattle.laws.specs.Said.{says, fault, faultIn, orElse, readOn};
 ghost use Rattle.decimal.specs.Decimal.{numberOf, givenCell, cellOf};
-ghost use Rattle.decimal.specs.Answers.{numberRead, cellRead, numberSays, cellSays};
+ghost use Rattle.decimal.specs.Answers.{cellRead, numberSays, cellSays, numberWord, cellWord};
 ghost use Rattle.decimal.specs.declared.Cell.the-variants.{Missing};
 ghost use Rattle.records.specs.Stored.{noCells};
 ghost use Rattle.words.specs.Words.{words};
 ghost use Rattle.line_rules.specs.Fields.{typMinMax, threeCells, cellsBy, rowOf, slopeOf, slopeOrMissing, ratioOf, isUpward, upward, threeSlopes, heading};
-ghost use Rattle.line_rules.specs.Answers.{tripleRead, rowRead, slopeRead, rampRead, tripleSays, slopeSays, rampSays};
+ghost use Rattle.line_rules.specs.Answers.{tripleRead, slopeRead, rampRead, tripleSays, slopeSays, rampSays};
 ghost use Rattle.rules.specs.Component.{pinCells};
 ghost use Rattle.line_cells.specs.Headings.{headingRead, restRead};
-ghost use Rattle.line_cells.specs.Threes.{bytesOf, Within, ThreeFrom, rowBy};
+ghost use Rattle.line_cells.specs.Threes.{bytesOf, Within, ThreeFrom};
+ghost use Rattle.line_cells.specs.Rows.{amissWords, wordsFrom, rowWorded};
 use decimal::Cell;
 use decimal::CellRead;
-use decimal::Decimal;
 use decimal::NumberRead;
 use line_rules::RampCellRead;
 use line_rules::RampRead;
-use line_rules::RowRead;
 use line_rules::TripleRead;
 use records::RampCell;
 use records::RampTriple;
-use records::Row;
 use records::Triple;
 use words::Word;
 
@@ -34,6 +32,15 @@ use words::Word;
 pub enum ThreeWords {
     Three { a: Word, b: Word, c: Word },
     Other,
+}
+
+// A row as the words of its cells, with fault 0; or its fault.
+pub struct RowWords {
+    pub number: u64,
+    pub typ: u64,
+    pub min: u64,
+    pub max: u64,
+    pub fault: u64,
 }
 
 // What stands behind [Pin]: the names of a short row, of a long one, or neither.
@@ -45,13 +52,22 @@ pub enum HeadingRead {
 
 // ---- a word of a line
 
-fn number_at(w: &[u8], r: Word) -> NumberRead
+fn number_word_at(w: &[u8], r: Word) -> u64
     requires { ⌜ Within (now w) r ⌝ }
-    ensures { λ n. ⌜ n ≡ numberRead (numberOf (bytesOf (now (w .entry)) r)) ⌝ }
+    ensures { λ n. ⌜ n ≡ numberWord (numberOf (bytesOf (now (w .entry)) r)) ⌝ }
 {
     let start = r.start;
     let end = r.end;
-    decimal::number_of(&w[start..end])
+    decimal::number_word(&w[start..end])
+}
+
+fn cell_word_at(w: &[u8], r: Word) -> u64
+    requires { ⌜ Within (now w) r ⌝ }
+    ensures { λ n. ⌜ n ≡ cellWord (cellOf (bytesOf (now (w .entry)) r)) ⌝ }
+{
+    let start = r.start;
+    let end = r.end;
+    decimal::cell_word(&w[start..end])
 }
 
 fn given_at(w: &[u8], r: Word) -> CellRead
@@ -165,63 +181,69 @@ pub fn pin_cells(w: &[u8], at: usize) -> TripleRead
     any_cells(w, at)
 }
 
-// A row whose other cells are read, with its last one. A row's cells are read one behind the other, each once those before it are good.
-fn row_max(w: &[u8], number: Decimal, typ: Cell, min: Cell, d: Word) -> RowRead
-    requires { ⌜ Within (now w) d ⌝ }
-    ensures { λ r. ⌜ r ≡ rowRead (rowBy number (says typ) (says min) (cellOf (bytesOf (now (w .entry)) d))) ⌝ }
+// No row, for a fault.
+pub fn amiss(fault: u64) -> RowWords
+    ensures { λ r. ⌜ r ≡ amissWords fault ⌝ }
 {
-    match cell_at(w, d) {
-        CellRead::Bad(fault) => RowRead::Amiss(fault),
-        CellRead::Read(max) => RowRead::Line(Row {
-            number: number,
-            cells: Triple {
-                typ: typ,
-                min: min,
-                max: max,
-            },
-        }),
+    RowWords {
+        number: 0,
+        typ: 0,
+        min: 0,
+        max: 0,
+        fault: fault,
     }
 }
 
-fn row_min(w: &[u8], number: Decimal, typ: Cell, c: Word, d: Word) -> RowRead
-    requires { ⌜ Within (now w) c × Within (now w) d ⌝ }
-    ensures { λ r. ⌜ r ≡ rowRead (rowBy number (says typ) (cellOf (bytesOf (now (w .entry)) c)) (cellOf (bytesOf (now (w .entry)) d))) ⌝ }
+// A row of four answers: the leftmost fault counts.
+fn row_from(number: u64, typ: u64, min: u64, max: u64) -> RowWords
+    ensures { λ r. ⌜ r ≡ wordsFrom number typ min max ⌝ }
 {
-    match cell_at(w, c) {
-        CellRead::Bad(fault) => RowRead::Amiss(fault),
-        CellRead::Read(min) => row_max(w, number, typ, min, d),
+    let first = decimal::fault_at(number);
+    if first != 0 {
+        return amiss(first);
     }
-}
-
-fn row_typ(w: &[u8], number: Decimal, b: Word, c: Word, d: Word) -> RowRead
-    requires { ⌜ Within (now w) b × Within (now w) c × Within (now w) d ⌝ }
-    ensures { λ r. ⌜ r ≡ rowRead (rowBy number (cellOf (bytesOf (now (w .entry)) b)) (cellOf (bytesOf (now (w .entry)) c)) (cellOf (bytesOf (now (w .entry)) d))) ⌝ }
-{
-    match cell_at(w, b) {
-        CellRead::Bad(fault) => RowRead::Amiss(fault),
-        CellRead::Read(typ) => row_min(w, number, typ, c, d),
+    let second = decimal::fault_at(typ);
+    if second != 0 {
+        return amiss(second);
+    }
+    let third = decimal::fault_at(min);
+    if third != 0 {
+        return amiss(third);
+    }
+    let fourth = decimal::fault_at(max);
+    if fourth != 0 {
+        return amiss(fourth);
+    }
+    RowWords {
+        number: number,
+        typ: typ,
+        min: min,
+        max: max,
+        fault: 0,
     }
 }
 
 // Four words and no more: a number and three cells.
-pub fn row_of(w: &[u8]) -> RowRead
-    ensures { λ r. ⌜ r ≡ rowRead (rowOf (words (now (w .entry)))) ⌝ }
+pub fn row_words(w: &[u8]) -> RowWords
+    ensures { λ r. ⌜ r ≡ rowWorded (rowOf (words (now (w .entry)))) ⌝ }
 {
     let a = words::word_at(w, 0);
     let b = words::word_at(w, a.end);
     let c = words::word_at(w, b.end);
     let d = words::word_at(w, c.end);
     if w.len() <= d.start {
-        return RowRead::Amiss(10);
+        return amiss(10);
     }
     let fifth = words::word_at(w, d.end);
     if fifth.start < w.len() {
-        return RowRead::Amiss(10);
+        return amiss(10);
     }
-    match number_at(w, a) {
-        NumberRead::Wrong(fault) => RowRead::Amiss(fault),
-        NumberRead::Value(number) => row_typ(w, number, b, c, d),
-    }
+    row_from(
+        number_word_at(w, a),
+        cell_word_at(w, b),
+        cell_word_at(w, c),
+        cell_word_at(w, d),
+    )
 }
 
 // ---- a ramp's slopes

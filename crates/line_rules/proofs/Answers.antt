@@ -2,22 +2,16 @@
 use mathlib.Core.Path.{_≡_, refl, ap, _∙_}
 use Rattle.laws.specs.Said.{Said, says, fault}
 use Rattle.records.specs.declared.Triple.{Triple}
-use Rattle.records.specs.declared.Row.{Row}
 use Rattle.records.specs.declared.RampCell.{RampCell}
 use Rattle.records.specs.declared.RampTriple.{RampTriple}
-use Rattle.line_rules.specs.Answers.{tripleRead, rowRead, slopeRead, rampRead, tripleSays, rowSays, slopeSays, rampSays}
+use Rattle.line_rules.specs.Answers.{tripleRead, slopeRead, rampRead, tripleSays, slopeSays, rampSays}
 use Rattle.line_rules.specs.declared.TripleRead.{TripleRead}
-use Rattle.line_rules.specs.declared.RowRead.{RowRead}
 use Rattle.line_rules.specs.declared.RampCellRead.{RampCellRead}
 use Rattle.line_rules.specs.declared.RampRead.{RampRead}
 
 triple-back : (x : Said Triple) → tripleSays (tripleRead x) ≡ x
 triple-back (says t) = refl
 triple-back (fault n) = refl
-
-row-back : (x : Said Row) → rowSays (rowRead x) ≡ x
-row-back (says r) = refl
-row-back (fault n) = refl
 
 slope-back : (x : Said RampCell) → slopeSays (slopeRead x) ≡ x
 slope-back (says c) = refl
@@ -29,9 +23,6 @@ ramp-back (fault n) = refl
 
 pub triple-said : (r : TripleRead) (x : Said Triple) → r ≡ tripleRead x → tripleSays r ≡ x
 triple-said r x e = ap tripleSays e ∙ triple-back x
-
-pub row-said : (r : RowRead) (x : Said Row) → r ≡ rowRead x → rowSays r ≡ x
-row-said r x e = ap rowSays e ∙ row-back x
 
 pub slope-said : (r : RampCellRead) (x : Said RampCell) → r ≡ slopeRead x → slopeSays r ≡ x
 slope-said r x e = ap slopeSays e ∙ slope-back x

@@ -2,13 +2,10 @@
 use Prim.Native.Nat.{ℕ}
 use Rattle.laws.specs.Said.{Said, says, fault}
 use Rattle.records.specs.declared.Triple.{Triple}
-use Rattle.records.specs.declared.Row.{Row}
 use Rattle.records.specs.declared.RampCell.{RampCell}
 use Rattle.records.specs.declared.RampTriple.{RampTriple}
 use Rattle.line_rules.specs.declared.TripleRead.{TripleRead}
 use Rattle.line_rules.specs.declared.TripleRead.the-variants.{Cells, Flawed}
-use Rattle.line_rules.specs.declared.RowRead.{RowRead}
-use Rattle.line_rules.specs.declared.RowRead.the-variants.{Line, Amiss}
 use Rattle.line_rules.specs.declared.RampCellRead.{RampCellRead}
 use Rattle.line_rules.specs.declared.RampCellRead.the-variants.{Slope, Faulted}
 use Rattle.line_rules.specs.declared.RampRead.{RampRead}
@@ -19,10 +16,6 @@ use Rattle.line_rules.specs.declared.RampRead.the-variants.{Slopes, Refu
 abbrev pub tripleRead : Said Triple → TripleRead
 tripleRead (says t) = Cells t
 tripleRead (fault n) = Flawed n
-
-abbrev pub rowRead : Said Row → RowRead
-rowRead (says r) = Line r
-rowRead (fault n) = Amiss n
 
 abbrev pub slopeRead : Said RampCell → RampCellRead
 slopeRead (says c) = Slope c
@@ -37,10 +30,6 @@ rampRead (fault n) = Refused n
 abbrev pub tripleSays : TripleRead → Said Triple
 tripleSays (Cells t) = says t
 tripleSays (Flawed n) = fault n
-
-abbrev pub rowSays : RowRead → Said Row
-rowSays (Line r) = says r
-rowSays (Amiss n) = fault n
 
 abbrev pub slopeSays : RampCellRead → Said RampCell
 slopeSays (Slope c) = says c

@@ -1,31 +1,41 @@
 -- Laws on a model's rows and tables, one for each branch; and on its lines and what was given, by their names.
 use Prim.Native.Nat.{ℕ, _+_, _≤_, _<_, min}
-use mathlib.Core.Path.{_≡_, refl, sym}
+use mathlib.Core.Path.{_≡_, refl, sym, ap, _∙_}
 use mathlib.Core.List.{List}
 use mathlib.Core.Bool.{Bool, true, false, cond, _&&_}
-use lib.Dec.{eqb, leb}
-use borrow.Author.Tests.{le-leb, lt-leb}
+use native.Mathlib.Omega.{arith}
+use lib.Dec.{eqb, leb, ltb}
+use borrow.Author.Tests.{lt-ltb, le-leb, lt-leb}
 use Rattle.laws.specs.Bytes.{isBlank}
 use Rattle.laws.specs.Lists.{eqs}
 use Rattle.laws.specs.Said.{Said, says, fault, orElse}
 use Rattle.laws.proofs.Tests.{by-test, cond-yes, cond-no, and-both, and-left, and-right}
+use Rattle.decimal.specs.Decimal.{wordOf}
+use Rattle.decimal.specs.Answers.{pastNumbers, decimalIn}
+use Rattle.decimal.specs.Fine.{FineCell}
 use Rattle.decimal.specs.declared.Decimal.{Decimal}
+use Rattle.decimal.specs.declared.Cell.{Cell}
+use Rattle.decimal.specs.declared.Cell.the-variants.{Number, Missing}
+use Rattle.decimal.proofs.Cells.{number-small, kept-decimal}
 use Rattle.words.specs.Words.{words, grown, ontoWord}
 use Rattle.name_table.specs.Names.{placeFrom}
 use Rattle.name_table.specs.declared.Found.the-variants.{At}
 use Rattle.records.specs.declared.Row.{Row}
-use Rattle.line_rules.specs.Fields.{lineAt, takes}
+use Rattle.line_rules.specs.Fields.{lineAt, takes, rowOf}
 use Rattle.line_rules.specs.Tables.{modelLines, rampLines, fixtures}
 use Rattle.line_rules.proofs.Places.{named-at}
+use Rattle.line_cells.specs.declared.RowWords.{RowWords}
+use Rattle.line_cells.proofs.Rows.{RowThere}
 use Rattle.given.specs.Given.{gave}
 use Rattle.given.specs.declared.Given.{Given}
 use Rattle.rules.specs.Going.{refuse}
-use Rattle.rules.specs.Model.{withRow, rises, rowLine, tableFault, modelDone}
+use Rattle.rules.specs.Model.{isNumber, withRow, rises, rowLine, tableFault, modelDone}
 use Rattle.rules.specs.declared.RowsSeen.{RowsSeen}
 use Rattle.rules.specs.declared.ModelList.{ModelList}
 use Rattle.rules.specs.declared.ModelState.{ModelState}
 use Rattle.model_steps.specs.Closes.{bothGiven, isWhole, isCrossed}
-use Rattle.model_steps.specs.Rows.{onRow, rowStep, rowWent}
+use Rattle.model_steps.specs.Rows.{risesOver, onRow, rowStep, rowWent}
+use Rattle.model_steps.specs.declared.RowStep.the-variants.{Next, NoRow}
 
 -- ---- the first lines: a line's place says whether it has a name
 
@@ -66,6 +76,34 @@ row-line on m r k (says l) = by-test (rises r (l .number)) (λ e. rw e) (λ e. r
 pub row-seen : (r : RowsSeen) (d : Decimal) (typ h : Bool) → h ≡ cond (eqb (r .count) 0) typ (r .head) → (n : ℕ) → n ≡ min (r .count + 1) 1001
     → _≡_ {A = RowsSeen} (record { count = n; last = d; head = h; tail = typ }) (withRow r d typ)
 row-seen r d typ h e n q = rw (e, q)
+
+-- a row by its words
+module _ {ws : List (List ℕ)} {x : RowWords} (t : RowThere ws x) where
+  number-back : decimalIn (x .number) ≡ t .row .number
+  number-back =
+      ap (λ (y : RowWords). decimalIn (y .number)) (t .words)
+      ∙ kept-decimal (t .row .number) (t .number .digits) (omega (arith, t .number .power))
+
+  typ-given : (c : Cell) → FineCell c → ltb (wordOf c) pastNumbers ≡ isNumber c
+  typ-given (Number d) f = lt-ltb (wordOf (Number d)) pastNumbers (number-small d (f .digits) (omega (arith, f .power)))
+  typ-given Missing f = refl
+
+  typ-back : ltb (x .typ) pastNumbers ≡ isNumber (t .row .cells .typ)
+  typ-back = ap (λ (y : RowWords). ltb (y .typ) pastNumbers) (t .words) ∙ typ-given (t .row .cells .typ) (t .typ)
+
+  module _ (r : RowsSeen) where
+    rises-back : rises r (t .row .number) ≡ risesOver (r .count) (r .last) (decimalIn (x .number))
+    unfolding rises
+    rises-back = ap (risesOver (r .count) (r .last)) (sym number-back)
+
+    pub row-refused : risesOver (r .count) (r .last) (decimalIn (x .number)) ≡ false → NoRow 13 ≡ rowStep r (rowOf ws)
+    unfolding onRow
+    row-refused h = sym (cond-no _ _ (rises-back ∙ h)) ∙ ap (rowStep r) (t .said)
+
+    pub row-taken : risesOver (r .count) (r .last) (decimalIn (x .number)) ≡ true
+        → Next (withRow r (decimalIn (x .number)) (ltb (x .typ) pastNumbers)) ≡ rowStep r (rowOf ws)
+    unfolding onRow
+    row-taken h = rw (number-back, typ-back) (sym (cond-yes _ _ (rises-back ∙ h)) ∙ ap (rowStep r) (t .said))
 
 -- ---- a whole table
 

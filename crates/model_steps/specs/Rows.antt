@@ -1,7 +1,10 @@
 -- A row's step apart from the list that it goes into, and the line's step by it.
 use Prim.Native.Nat.{ℕ}
-use mathlib.Core.Bool.{cond}
+use mathlib.Core.Bool.{Bool, true, cond}
+use lib.Dec.{eqb}
 use Rattle.laws.specs.Said.{Said, says, fault}
+use Rattle.decimal.specs.Decimal.{lessThan}
+use Rattle.decimal.specs.declared.Decimal.{Decimal}
 use Rattle.rules.specs.Going.{stop}
 use Rattle.rules.specs.Model.{isNumber, rises, withRow, withModelList}
 use Rattle.records.specs.declared.Row.{Row}
@@ -14,6 +17,10 @@ use Rattle.rules.specs.declared.Went.{Went}
 use Rattle.rules.specs.declared.Went.the-variants.{On}
 use Rattle.model_steps.specs.declared.RowStep.{RowStep}
 use Rattle.model_steps.specs.declared.RowStep.the-variants.{Next, NoRow}
+
+-- `rises`, of what it reads of the rows that were seen
+abbrev pub risesOver : ℕ → Decimal → Decimal → Bool
+risesOver count last d = cond (eqb count 0) true (lessThan last d)
 
 unfoldable pub onRow : RowsSeen → Row → RowStep
 onRow r l = cond (rises r (l .number)) (Next (withRow r (l .number) (isNumber (l .cells .typ)))) (NoRow 13)

@@ -1,15 +1,14 @@
 // The rows of a table: one more, and what is wrong with all of them.
 ghost use mathlib.Core.Path.{_≡_};
+ghost use mathlib.Core.Bool.{cond};
 ghost use Prim.Native.Nat.{_+_, min};
+ghost use lib.Dec.{eqb};
 ghost use Rattle.words.specs.Words.{words};
 ghost use Rattle.line_rules.specs.Fields.{rowOf};
-ghost use Rattle.rules.specs.Model.{isNumber, noRows, rises, withRow, tableFault};
-ghost use Rattle.model_steps.specs.Rows.{onRow, rowStep};
+ghost use Rattle.rules.specs.Model.{noRows, withRow, tableFault};
+ghost use Rattle.model_steps.specs.Rows.{risesOver, rowStep};
 use crate::RowStep;
-use decimal::Cell;
 use decimal::Decimal;
-use line_rules::RowRead;
-use records::Row;
 use rules::RowsSeen;
 
 pub(crate) fn no_rows() -> RowsSeen
@@ -27,30 +26,20 @@ pub(crate) fn no_rows() -> RowsSeen
     }
 }
 
-// The first column rises strictly.
-fn rising(r: RowsSeen, d: Decimal) -> bool
-    ensures { λ t. ⌜ t ≡ rises r d ⌝ }
+// The first column rises strictly: a number behind so many rows, the last of which has this one.
+pub fn rising(count: u64, last: Decimal, d: Decimal) -> bool
+    ensures { λ t. ⌜ t ≡ risesOver count last d ⌝ }
 {
-    if r.count == 0 {
+    if count == 0 {
         return true;
     }
-    let last = r.last;
     decimal::less(last, d)
-}
-
-fn is_number(c: Cell) -> bool
-    ensures { λ t. ⌜ t ≡ isNumber c ⌝ }
-{
-    match c {
-        Cell::Number(_) => true,
-        Cell::Missing => false,
-    }
 }
 
 // Rows are counted up to one more than any table may have.
 const COUNTED: u64 = 1001;
 
-fn one_more(count: u64) -> u64
+pub fn one_more(count: u64) -> u64
     ensures { λ n. ⌜ n ≡ min (count + 1) 1001 ⌝ }
 {
     if COUNTED <= count {
@@ -59,41 +48,41 @@ fn one_more(count: u64) -> u64
     count + 1
 }
 
+// The first row's typ, behind so many rows and one more.
+pub fn head_after(count: u64, head: bool, typ: bool) -> bool
+    ensures { λ t. ⌜ t ≡ cond (eqb count 0) typ head ⌝ }
+{
+    if count == 0 {
+        return typ;
+    }
+    head
+}
+
 fn with_row(r: RowsSeen, d: Decimal, typ: bool) -> RowsSeen
     ensures { λ s. ⌜ s ≡ withRow r d typ ⌝ }
 {
-    let mut head = r.head;
-    if r.count == 0 {
-        head = typ;
-    }
     RowsSeen {
         count: one_more(r.count),
         last: d,
-        head: head,
+        head: head_after(r.count, r.head, typ),
         tail: typ,
     }
-}
-
-fn on_row(r: RowsSeen, row: Row) -> RowStep
-    ensures { λ s. ⌜ s ≡ onRow r row ⌝ }
-{
-    let number = row.number;
-    if !rising(r, number) {
-        return RowStep::NoRow(13);
-    }
-    let cells = row.cells;
-    let typ = cells.typ;
-    RowStep::Next(with_row(r, number, is_number(typ)))
 }
 
 // A line of the table that is open.
 pub fn row_step(r: RowsSeen, w: &[u8]) -> RowStep
     ensures { λ s. ⌜ s ≡ rowStep r (rowOf (words (now (w .entry)))) ⌝ }
 {
-    match line_cells::row_of(w) {
-        RowRead::Line(row) => on_row(r, row),
-        RowRead::Amiss(fault) => RowStep::NoRow(fault),
+    let row = line_cells::row_words(w);
+    if row.fault != 0 {
+        return RowStep::NoRow(row.fault as u8);
     }
+    let number = decimal::decimal_in(row.number);
+    let last = r.last;
+    if !rising(r.count, last, number) {
+        return RowStep::NoRow(13);
+    }
+    RowStep::Next(with_row(r, number, decimal::holds_number(row.typ)))
 }
 
 // The fault of a whole table of at most so many rows, 0 for none.

@@ -7,24 +7,11 @@ use lib.ListN.{length, length-append}
 use Rattle.laws.specs.Said.{Said, says, fault}
 use Rattle.words.specs.Words.{words}
 use Rattle.line_rules.specs.Fields.{rowOf}
-use Rattle.line_rules.specs.Answers.{rowRead, rowSays}
-use Rattle.line_rules.specs.declared.RowRead.{RowRead}
-use Rattle.line_rules.specs.declared.RowRead.the-variants.{Line, Amiss}
-use Rattle.line_rules.proofs.Answers.{row-said}
 use Rattle.rules.specs.Reading.{ontoRows, rowsIn}
 use Rattle.records.specs.Stored.{rowWords, stored}
 use Rattle.records.specs.declared.Row.{Row}
 use Rattle.lines_under.proofs.Folds.{Folds, Small}
 use Rattle.table_rows.specs.Rows.{withSaidRow, counted}
-
--- ---- what the code answers of a line
-
-module _ {read : RowRead} (w : List ℕ) (i : read ≡ rowRead (rowOf (words w))) where
-  pub row-is : {row : Row} → read ≡ Line row → says row ≡ rowOf (words w)
-  row-is j = ap rowSays (sym j) ∙ row-said read (rowOf (words w)) i
-
-  pub no-row-is : {n : ℕ} → read ≡ Amiss n → fault n ≡ rowOf (words w)
-  no-row-is j = ap rowSays (sym j) ∙ row-said read (rowOf (words w)) i
 
 -- ---- a line more
 

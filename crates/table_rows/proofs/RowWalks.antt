@@ -8,20 +8,19 @@ use borrow.Rule.Slice.PartMut.{putMid, midOf}
 use Rattle.laws.specs.Lists.{part}
 use Rattle.cut_lines.specs.Cursors.{Placed}
 use Rattle.cut_lines.specs.declared.Cursor.{Cursor}
-use Rattle.records.specs.Stored.{rowWords, stored, over}
-use Rattle.records.specs.declared.Row.{Row}
+use Rattle.records.specs.Stored.{stored, over}
 use Rattle.words.specs.Words.{words}
 use Rattle.line_rules.specs.Fields.{rowOf}
-use Rattle.line_rules.specs.Answers.{rowRead}
-use Rattle.line_rules.specs.declared.RowRead.{RowRead}
-use Rattle.line_rules.specs.declared.RowRead.the-variants.{Line, Amiss}
+use Rattle.line_cells.specs.Rows.{rowWorded}
+use Rattle.line_cells.specs.declared.RowWords.{RowWords}
+use Rattle.line_cells.proofs.Rows.{row-there, row-amiss}
 use Rattle.lines_under.specs.Under.{LineNextIs}
 use Rattle.lines_under.specs.declared.LineNext.{LineNext}
 use Rattle.lines_under.specs.declared.LineNext.the-variants as next
 use Rattle.lines_under.proofs.Folds.{Gathers, gathers-start, gathers-line, gathers-end}
-use Rattle.table_rows.specs.Rows.{Lies, rowsAt, FillIs}
+use Rattle.table_rows.specs.Rows.{Lies, rowsAt, fourWords, FillIs}
 use Rattle.table_rows.proofs.Stores.{stored-length, over-none, over-length, over-rest}
-use Rattle.table_rows.proofs.RowLaws.{row-is, no-row-is, row-fold, worded, words-fold, words-small}
+use Rattle.table_rows.proofs.RowLaws.{row-fold, worded, words-fold, words-small}
 
 -- ---- words over the row store
 
@@ -61,21 +60,26 @@ module _ {s : List ℕ} {c d : Cursor} {before now : List ℕ} {used : ℕ} (p :
   pub fills-length : length (stored (rowsAt s c)) ≤ length before → length now ≡ length before
   fills-length h = lies-length (p .lies) h (stored (rowsAt s d)) (p .gathers .same)
 
-  module _ {r : LineNext} {a e : ℕ} {n : Cursor} (q : r ≡ next.Line a e n) (l : LineNextIs s d r) {read : RowRead} (i : read ≡ rowRead (rowOf (words (part a e s)))) where
-    module _ {row : Row} (j : read ≡ Line row) (h : length (stored (rowsAt s c)) ≤ length before) where
-      with-row : Gathers (row-fold words-fold) s c n [] (p .written ++ rowWords row)
-      with-row = gathers-line (p .gathers) q l (ap (worded (p .written)) (row-is (part a e s) i j))
+  module _ {r : LineNext} {a e : ℕ} {n : Cursor} (q : r ≡ next.Line a e n) (l : LineNextIs s d r) {x : RowWords} (i : x ≡ rowWorded (rowOf (words (part a e s)))) where
+    abbrev line : List (List ℕ)
+    line = words (part a e s)
+
+    module _ (j : x .fault ≡ 0) (h : length (stored (rowsAt s c)) ≤ length before) where
+      with-row : Gathers (row-fold words-fold) s c n [] (p .written ++ fourWords x)
+      with-row =
+          let t = row-there line i j in
+          gathers-line (p .gathers) q l (ap (λ (y : RowWords). p .written ++ fourWords y) (t .words) ∙ ap (worded (p .written)) (t .said))
 
       pub fills-fit : used + 4 ≤ length now
-      fills-fit = lies-fit (p .lies) h (rowWords row) (stored (rowsAt s n)) (with-row .same)
+      fills-fit = lies-fit (p .lies) h (fourWords x) (stored (rowsAt s n)) (with-row .same)
 
-      pub fills-row : Fills s c n before (putMid used (length now - used) now (over (midOf used (length now - used) now) (rowWords row))) (used + 4)
+      pub fills-row : Fills s c n before (putMid used (length now - used) now (over (midOf used (length now - used) now) (fourWords x))) (used + 4)
       fills-row =
-          record { written = p .written ++ rowWords row; gathers = with-row; lies = lies-more (p .lies) h (rowWords row) (stored (rowsAt s n)) (with-row .same) }
+          record { written = p .written ++ fourWords x; gathers = with-row; lies = lies-more (p .lies) h (fourWords x) (stored (rowsAt s n)) (with-row .same) }
 
-    pub fills-none : {k : ℕ} → read ≡ Amiss k → Fills s c n before now used
+    pub fills-none : (x .fault ≡ 0 → ⊥) → Fills s c n before now used
     fills-none j =
-        record { written = p .written; gathers = gathers-line (p .gathers) q l (ap (worded (p .written)) (no-row-is (part a e s) i j)); lies = p .lies }
+        record { written = p .written; gathers = gathers-line (p .gathers) q l (ap (worded (p .written)) (row-amiss line i j .0)); lies = p .lies }
 
   pub fills-end : {r : LineNext} {n : Cursor} → r ≡ next.NoLine n → LineNextIs s d r → FillIs s c before now (record { words = used; next = n })
   fills-end q l =

@@ -1,7 +1,7 @@
 -- The rows of a table, and what the functions that count and write them answer.
 use Prim.Native.Nat.{ℕ, _+_, _≤_}
 use mathlib.Core.Path.{_≡_}
-use mathlib.Core.List.{List}
+use mathlib.Core.List.{List, [], _∷_}
 use lib.ListN.{length}
 use Rattle.laws.specs.Said.{Said, says, fault}
 use Rattle.cut_lines.specs.Cursors.{rest}
@@ -9,6 +9,7 @@ use Rattle.cut_lines.specs.declared.Cursor.{Cursor}
 use Rattle.rules.specs.Reading.{under, rowsIn}
 use Rattle.records.specs.Stored.{stored, over}
 use Rattle.records.specs.declared.Row.{Row}
+use Rattle.line_cells.specs.declared.RowWords.{RowWords}
 use Rattle.lines_under.specs.Under.{StopsAt}
 use Rattle.table_rows.specs.declared.Counted.{Counted}
 use Rattle.table_rows.specs.declared.Filled.{Filled}
@@ -21,6 +22,10 @@ pub record Lies (before now : List ℕ) (n : ℕ) (written : List ℕ) : Type 0 
 -- the rows of the table whose lines begin at a cursor
 abbrev pub rowsAt : List ℕ → Cursor → List Row
 rowsAt s c = rowsIn (under (rest s c))
+
+-- the words of a row's cells, one behind the other
+abbrev pub fourWords : RowWords → List ℕ
+fourWords r = r .number ∷ r .typ ∷ r .min ∷ r .max ∷ []
 
 -- a line more: it has a row, or nothing
 abbrev pub withSaidRow : {X : Type 0} → (X → Row → X) → X → Said Row → X

@@ -3,15 +3,13 @@ ghost use mathlib.Core.Path.{_≡_};
 ghost use Prim.Native.Nat.{_≤_};
 ghost use lib.ListN.{length};
 ghost use Rattle.cut_lines.specs.Cursors.{Placed};
-ghost use Rattle.records.specs.Stored.{rowWords, stored, over};
-ghost use Rattle.table_rows.specs.Rows.{rowsAt, CountIs, FillIs};
+ghost use Rattle.records.specs.Stored.{stored, over};
+ghost use Rattle.table_rows.specs.Rows.{rowsAt, fourWords, CountIs, FillIs};
 use crate::Counted;
 use crate::Filled;
 use cut_lines::Cursor;
-use decimal::Cell;
-use line_rules::RowRead;
+use line_cells::RowWords;
 use lines_under::LineNext;
-use records::Row;
 
 // Counts the rows of the table whose lines begin at a cursor.
 pub fn count_rows(src: &[u8], c: Cursor) -> Counted
@@ -24,11 +22,9 @@ pub fn count_rows(src: &[u8], c: Cursor) -> Counted
         match lines_under::next_line(src, d) {
             LineNext::Line { start, end, next } => {
                 d = next;
-                match line_cells::row_of(&src[start..end]) {
-                    RowRead::Line(row) => {
-                        count += 1;
-                    }
-                    RowRead::Amiss(fault) => {}
+                let row = line_cells::row_words(&src[start..end]);
+                if row.fault == 0 {
+                    count += 1;
                 }
             }
             LineNext::NoLine { next } => {
@@ -42,19 +38,14 @@ pub fn count_rows(src: &[u8], c: Cursor) -> Counted
 }
 
 // Writes one row at the front of the row store.
-pub(crate) fn put_row(rows: &mut [u64], r: Row)
+pub(crate) fn put_row(rows: &mut [u64], r: RowWords)
     requires { ⌜ 4 ≤ length (now rows) ⌝ }
-    ensures { λ _. ⌜ now (rows .exit) ≡ over (now (rows .entry)) (rowWords r) ⌝ }
+    ensures { λ _. ⌜ now (rows .exit) ≡ over (now (rows .entry)) (fourWords r) ⌝ }
 {
-    let number = r.number;
-    let cells = r.cells;
-    let typ = cells.typ;
-    let min = cells.min;
-    let max = cells.max;
-    rows[0] = decimal::word_of(Cell::Number(number));
-    rows[1] = decimal::word_of(typ);
-    rows[2] = decimal::word_of(min);
-    rows[3] = decimal::word_of(max);
+    rows[0] = r.number;
+    rows[1] = r.typ;
+    rows[2] = r.min;
+    rows[3] = r.max;
 }
 
 // Writes the rows of the table whose lines begin at a cursor at the front of the row store.
@@ -69,12 +60,10 @@ pub fn fill_table(rows: &mut [u64], src: &[u8], c: Cursor) -> Filled
         match lines_under::next_line(src, d) {
             LineNext::Line { start, end, next } => {
                 d = next;
-                match line_cells::row_of(&src[start..end]) {
-                    RowRead::Line(row) => {
-                        put_row(&mut rows[used..], row);
-                        used += 4;
-                    }
-                    RowRead::Amiss(fault) => {}
+                let row = line_cells::row_words(&src[start..end]);
+                if row.fault == 0 {
+                    put_row(&mut rows[used..], row);
+                    used += 4;
                 }
             }
             LineNext::NoLine { next } => {

@@ -15,7 +15,6 @@ use crate::rows::put_row;
 use cut_lines::Cursor;
 use decimal::Cell;
 use decimal::CellRead;
-use line_rules::RowRead;
 use lines_under::LineNext;
 use name_table::Found;
 use records::Edge;
@@ -109,10 +108,11 @@ fn with_line(x: Waveform, w: &[u8]) -> Waveform
     requires { ⌜ x .rows .count < 2 ^ 63 ⌝ }
     ensures { λ r. ⌜ r ≡ withWaveformLine x (now (w .entry)) ⌝ }
 {
-    match line_cells::row_of(w) {
-        RowRead::Line(_) => with_rows(x, x.rows.count + 1),
-        RowRead::Amiss(_) => with_fixture(x, w),
+    let row = line_cells::row_words(w);
+    if row.fault == 0 {
+        return with_rows(x, x.rows.count + 1);
     }
+    with_fixture(x, w)
 }
 
 // The waveform whose lines begin at a cursor; its first row's place is row.
@@ -155,14 +155,12 @@ pub fn fill_waveform(
         match lines_under::next_line(src, d) {
             LineNext::Line { start, end, next } => {
                 d = next;
-                match line_cells::row_of(&src[start..end]) {
-                    RowRead::Line(row) => {
-                        put_row(&mut rows[used..], row);
-                        used += 4;
-                    }
-                    RowRead::Amiss(fault) => {
-                        x = with_fixture(x, &src[start..end]);
-                    }
+                let row = line_cells::row_words(&src[start..end]);
+                if row.fault == 0 {
+                    put_row(&mut rows[used..], row);
+                    used += 4;
+                } else {
+                    x = with_fixture(x, &src[start..end]);
                 }
             }
             LineNext::NoLine { next } => {

@@ -1,107 +1,39 @@
--- `decimal::number_of`: of a short word the laws of `numberOf` from what its parts say; else what `any_number` or `with_exponent` says.
-use mathlib.Core.Path.{sym, _∙_}
+-- `decimal::number_of`: the answer comes back from its word.
 use native.Mathlib.Omega.{arith}
-use borrow.Author.Needs.{needs}
-use borrow.Author.Tests.{not-false, le-ltb, lt-ltb}
-use Rattle.decimal.proofs.Results.{scale-up-small, scale-down-small}
-use Rattle.decimal.proofs.Settled.{number-plain}
+use denote.Ref.{now}
+use Rattle.decimal.specs.Decimal.{numberOf}
+use Rattle.decimal.proofs.Fine.{number-fine}
+use Rattle.decimal.proofs.Worded.{Tells, number-value, number-wrong}
 use Rattle.decimal.proofs.number_of.Statement.{statement}
 use Rattle.decimal.proofs.number_of.Tie as tie
 
-any-number-requires : tie.Need-any-number-requires
-any-number-requires c κs = tt
+number-word-requires : tie.Need-number-word-requires
+number-word-requires c κs = tt
+
+decimal-in-requires : tie.Need-decimal-in-requires
+decimal-in-requires c κs = tt
 
 returns : tie.Need-returns
-returns c = c .any-number .ensures
+returns c =
+    let w = now (c .before .before .before .before .args .w) in
+    rw (c .decimal-in .ensures) (number-value (numberOf w) (number-fine w) (c .before .before .number-word .ensures) (c .before .if1 .taken))
 
-sign-at-requires : tie.Need-sign-at-requires
-sign-at-requires c κs = search needs
+-- the word tells the fault
+told : (c : tie.Else1) → Tells (c .before .number-word .result) (numberOf (now (c .before .before .before .args .w)))
+told c =
+    let w = now (c .before .before .before .args .w) in
+    number-wrong (numberOf w) (number-fine w) (c .before .number-word .ensures) (c .if1 .left)
 
-short-mantissa-at-requires : tie.Need-short-mantissa-at-requires
-short-mantissa-at-requires c κs = (c .sign-at .ensures .within, c .before .if1 .left)
+sub-t5 : tie.Need-sub-t5
+sub-t5 c = told c .below
 
-with-exponent-requires : tie.Need-with-exponent-requires
-with-exponent-requires c κs =
-    let s = c .before .before .before .sign-at in
-    let m = c .before .before .short-mantissa-at in
-    record {
-      start = s .result .at;
-      zeros = m .result .zeros;
-      count = m .result .count;
-      few = c .before .before .before .before .if1 .left;
-      sign = s .ensures;
-      mantissa = m .ensures;
-      any = sym (le-ltb 0 (m .result .count) (omega (arith, c .if2 .taken)));
-    }
+cast-t6 : tie.Need-cast-t6
+cast-t6 c = omega (arith, told c .byte)
 
 returns-2 : tie.Need-returns-2
-returns-2 c = c .with-exponent .ensures
-
-letters-from-requires : tie.Need-letters-from-requires
-letters-from-requires c κs = c .before .before .short-mantissa-at .ensures .spans .within
-
-with-exponent-requires-2 : tie.Need-with-exponent-requires-2
-with-exponent-requires-2 c κs =
-    let s = c .before .before .before .before .before .sign-at in
-    let m = c .before .before .before .before .short-mantissa-at in
-    record {
-      start = s .result .at;
-      zeros = m .result .zeros;
-      count = m .result .count;
-      few = c .before .before .before .before .before .before .if1 .left;
-      sign = s .ensures;
-      mantissa = m .ensures;
-      any = sym (lt-ltb 0 (m .result .count) (omega (arith, c .before .before .if2 .left)));
-    }
-
-returns-3 : tie.Need-returns-3
-returns-3 c = c .with-exponent2 .ensures
-
-scale-up-requires : tie.Need-scale-up-requires
-scale-up-requires c κs = tt
-
-add-up : tie.Need-add-up
-add-up c = omega (arith, scale-up-small _ _ (c .scale-up .ensures))
-
-scale-down-requires : tie.Need-scale-down-requires
-scale-down-requires c κs = tt
-
-add-down : tie.Need-add-down
-add-down c = omega (arith, scale-down-small _ _ (c .before .scale-down .ensures), c .before .before .before .before .before .before .before .short-mantissa-at .ensures .spans .short, c .before .before .before .before .before .before .before .before .before .if1 .left)
-
-settle-requires : tie.Need-settle-requires
-settle-requires c κs =
-    let m = c .before .before .before .before .before .before .before .short-mantissa-at .ensures in
-    let few = c .before .before .before .before .before .before .before .before .before .if1 .left in
-    (m .small, omega (arith, scale-up-small _ _ (c .before .before .scale-up .ensures)), omega (arith, scale-down-small _ _ (c .before .scale-down .ensures), m .spans .short, few))
-
-returns-4 : tie.Need-returns-4
-returns-4 c =
-    let s = c .before .before .before .before .before .before .before .before .before .sign-at in
-    let m = c .before .before .before .before .before .before .before .before .short-mantissa-at in
-    let l = c .before .before .before .before .before .letters-from in
-    let u = c .before .before .before .scale-up in
-    let d = c .before .before .scale-down in
-    number-plain _ (c .before .before .before .before .before .before .before .before .before .before .if1 .left) (s .result) (s .ensures) (m .result) (m .ensures) (c .before .before .before .before .before .before .if2 .left)
-    (sym (l .ensures) ∙ not-false (l .result) (c .before .before .before .before .if3 .left))
-    (u .result) (d .result) (u .ensures) (d .ensures) _ (c .settle .ensures)
+returns-2 c = told c .same
 
 pub number-of-spec : {M : Type 1} → statement M
 number-of-spec =
     tie.close
-    (tie.spec
-    any-number-requires
-    returns
-    sign-at-requires
-    short-mantissa-at-requires
-    with-exponent-requires
-    returns-2
-    letters-from-requires
-    with-exponent-requires-2
-    returns-3
-    scale-up-requires
-    add-up
-    scale-down-requires
-    add-down
-    settle-requires
-    returns-4)
+    (tie.spec number-word-requires decimal-in-requires returns sub-t5 cast-t6 returns-2)

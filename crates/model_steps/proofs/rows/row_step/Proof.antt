@@ -1,38 +1,64 @@
--- By what the line says as a row.
+-- By what the line says as a row: `row-amiss`, else `row-refused` or `row-taken`.
 use mathlib.Core.Path.{sym, ap, _∙_}
+use native.Mathlib.Omega.{arith}
 use borrow.Author.Needs.{needs}
+use borrow.Author.Tests.{not-true, not-false}
 use denote.Ref.{now}
 use Rattle.words.specs.Words.{words}
-use Rattle.line_rules.specs.Fields.{rowOf}
-use Rattle.line_rules.specs.Answers.{rowSays}
-use Rattle.line_rules.proofs.Answers.{row-said}
+use Rattle.line_cells.proofs.Rows.{row-there, row-amiss}
 use Rattle.model_steps.specs.Rows.{rowStep}
+use Rattle.model_steps.proofs.Laws.{row-refused, row-taken}
 use Rattle.model_steps.proofs.rows.row_step.Statement.{statement}
 use Rattle.model_steps.proofs.rows.row_step.Tie as tie
 
-row-of-requires : tie.Need-row-of-requires
-row-of-requires c κs = tt
+row-words-requires : tie.Need-row-words-requires
+row-words-requires c κs = tt
 
-enum-known-row : tie.Need-enum-known-row
-enum-known-row c = search needs
-
-on-row-requires : tie.Need-on-row-requires
-on-row-requires c κs = tt
-
-enum-known-fault : tie.Need-enum-known-fault
-enum-known-fault c = search needs
+cast-t7 : tie.Need-cast-t7
+cast-t7 c = omega (arith, row-amiss (words (now (c .before .before .before .before .before .args .w))) (c .before .before .before .row-words .ensures) (c .before .if1 .taken) .1)
 
 returns : tie.Need-returns
 returns c =
-    let a = c .before .before .before .before .before .before .args in
-    c .on-row .ensures ∙ ap (rowStep (a .r)) (sym (ap rowSays (c .before .before .row .given .1)) ∙ row-said _ (rowOf (words (now (a .w)))) (c .before .before .before .before .row-of .ensures))
+    let a = c .before .before .before .before .before .args in
+    ap (rowStep (a .r)) (row-amiss (words (now (a .w))) (c .before .before .before .row-words .ensures) (c .before .if1 .taken) .0)
+
+decimal-in-requires : tie.Need-decimal-in-requires
+decimal-in-requires c κs = tt
+
+rising-requires : tie.Need-rising-requires
+rising-requires c κs = tt
 
 returns-2 : tie.Need-returns-2
 returns-2 c =
-    let a = c .before .before .before .before .before .args in
-    ap (rowStep (a .r)) (sym (ap rowSays (c .before .fault .given .1)) ∙ row-said _ (rowOf (words (now (a .w)))) (c .before .before .before .row-of .ensures))
+    let a = c .before .before .before .before .before .before .before .before .args in
+    let n = c .before .before .before .decimal-in .ensures in
+    let t = row-there (words (now (a .w))) (c .before .before .before .before .before .before .row-words .ensures) (c .before .before .before .before .if1 .left) in
+    row-refused t (a .r) (rw (sym n) (sym (c .before .rising .ensures) ∙ not-true (c .before .rising .result) (c .if2 .taken)))
+
+holds-number-requires : tie.Need-holds-number-requires
+holds-number-requires c κs = tt
+
+with-row-requires : tie.Need-with-row-requires
+with-row-requires c κs = tt
+
+returns-3 : tie.Need-returns-3
+returns-3 c =
+    let a = c .before .before .before .before .before .before .before .before .before .before .args in
+    let n = c .before .before .before .before .before .decimal-in .ensures in
+    let t = row-there (words (now (a .w))) (c .before .before .before .before .before .before .before .before .row-words .ensures) (c .before .before .before .before .before .before .if1 .left) in
+    rw (c .with-row .ensures, c .before .holds-number .ensures, n)
+    (row-taken t (a .r) (rw (sym n) (sym (c .before .before .before .rising .ensures) ∙ not-false (c .before .before .before .rising .result) (c .before .before .if2 .left))))
 
 pub row-step-spec : {M : Type 1} → statement M
 row-step-spec =
     tie.close
-    (tie.spec row-of-requires enum-known-row on-row-requires enum-known-fault returns returns-2)
+    (tie.spec
+    row-words-requires
+    cast-t7
+    returns
+    decimal-in-requires
+    rising-requires
+    returns-2
+    holds-number-requires
+    with-row-requires
+    returns-3)

@@ -4,9 +4,10 @@ use mathlib.Core.Path.{ap}
 use lib.ListN.{length}
 use native.Mathlib.Omega.{arith}
 use borrow.Author.Needs.{needs}
+use Rattle.line_cells.proofs.Rows.{row-there, row-amiss}
 use Rattle.lines_under.proofs.Folds.{Gathers, gathers-start, line-starts, line-fits, line-less, gathers-line, gathers-room, gathers-end, count-fold}
 use Rattle.table_rows.specs.Rows.{counted}
-use Rattle.table_rows.proofs.RowLaws.{row-is, no-row-is, row-fold, row-small}
+use Rattle.table_rows.proofs.RowLaws.{row-fold, row-small}
 use Rattle.table_rows.proofs.rows.count_rows.Statement.{statement}
 use Rattle.table_rows.proofs.rows.count_rows.Tie as tie
 
@@ -25,38 +26,32 @@ next-line-requires c κs = c .loop .inv .along .placed
 enum-known-start : tie.Need-enum-known-start Inv-loop μ-loop
 enum-known-start c = search needs
 
-sub-row-of : tie.Need-sub-row-of Inv-loop μ-loop
-sub-row-of c = line-starts (c .before .before .before .before .loop .inv) (c .before .start .given .1) (c .before .before .before .next-line .ensures)
+sub-row-words : tie.Need-sub-row-words Inv-loop μ-loop
+sub-row-words c = line-starts (c .before .before .before .before .loop .inv) (c .before .start .given .1) (c .before .before .before .next-line .ensures)
 
-part-row-of-start : tie.Need-part-row-of-start Inv-loop μ-loop
-part-row-of-start c = line-starts (c .before .before .before .before .loop .inv) (c .before .start .given .1) (c .before .before .before .next-line .ensures)
+part-row-words-start : tie.Need-part-row-words-start Inv-loop μ-loop
+part-row-words-start c = line-starts (c .before .before .before .before .loop .inv) (c .before .start .given .1) (c .before .before .before .next-line .ensures)
 
-part-row-of-end : tie.Need-part-row-of-end Inv-loop μ-loop
-part-row-of-end c = line-fits (c .before .before .before .before .loop .inv) (c .before .start .given .1) (c .before .before .before .next-line .ensures)
+part-row-words-end : tie.Need-part-row-words-end Inv-loop μ-loop
+part-row-words-end c = line-fits (c .before .before .before .before .loop .inv) (c .before .start .given .1) (c .before .before .before .next-line .ensures)
 
-row-of-requires : tie.Need-row-of-requires Inv-loop μ-loop
-row-of-requires c κs = tt
-
-enum-known-row : tie.Need-enum-known-row Inv-loop μ-loop
-enum-known-row c = search needs
+row-words-requires : tie.Need-row-words-requires Inv-loop μ-loop
+row-words-requires c κs = tt
 
 add-count : tie.Need-add-count Inv-loop μ-loop
-add-count c = omega (arith, gathers-room (c .before .before .before .before .before .before .before .before .before .loop .inv) (c .before .before .before .before .before .before .start .given .1) (c .before .before .before .before .before .before .before .before .next-line .ensures) _ row-small, c .before .before .before .before .before .before .before .before .before .before .before .good)
+add-count c = omega (arith, gathers-room (c .before .before .before .before .before .before .before .before .loop .inv) (c .before .before .before .before .before .start .given .1) (c .before .before .before .before .before .before .before .next-line .ensures) _ row-small, c .before .before .before .before .before .before .before .before .before .before .good)
 
 loop-less : tie.Need-loop-less Inv-loop μ-loop
-loop-less c = line-less (c .before .before .before .before .before .before .before .before .before .loop .inv) (c .before .before .before .before .before .before .start .given .1) (c .before .before .before .before .before .before .before .before .next-line .ensures)
+loop-less c = line-less (c .before .before .before .before .before .before .before .before .loop .inv) (c .before .before .before .before .before .start .given .1) (c .before .before .before .before .before .before .before .next-line .ensures)
 
 loop-again : tie.Need-loop-again Inv-loop μ-loop
-loop-again c = gathers-line (c .before .before .before .before .before .before .before .before .before .loop .inv) (c .before .before .before .before .before .before .start .given .1) (c .before .before .before .before .before .before .before .before .next-line .ensures) (ap (counted _) (row-is _ (c .before .before .before .row-of .ensures) (c .before .row .given .1)))
-
-enum-known-fault : tie.Need-enum-known-fault Inv-loop μ-loop
-enum-known-fault c = search needs
+loop-again c = gathers-line (c .before .before .before .before .before .before .before .before .loop .inv) (c .before .before .before .before .before .start .given .1) (c .before .before .before .before .before .before .before .next-line .ensures) (ap (counted _) (row-there _ (c .before .before .row-words .ensures) (c .if1 .taken) .said))
 
 loop-less-2 : tie.Need-loop-less-2 Inv-loop μ-loop
-loop-less-2 c = line-less (c .before .before .before .before .before .before .before .before .before .loop .inv) (c .before .before .before .before .before .before .start .given .1) (c .before .before .before .before .before .before .before .before .next-line .ensures)
+loop-less-2 c = line-less (c .before .before .before .before .before .before .before .before .loop .inv) (c .before .before .before .before .before .start .given .1) (c .before .before .before .before .before .before .before .next-line .ensures)
 
 loop-again-2 : tie.Need-loop-again-2 Inv-loop μ-loop
-loop-again-2 c = gathers-line (c .before .before .before .before .before .before .before .before .before .loop .inv) (c .before .before .before .before .before .before .start .given .1) (c .before .before .before .before .before .before .before .before .next-line .ensures) (ap (counted _) (no-row-is _ (c .before .before .before .row-of .ensures) (c .before .fault .given .1)))
+loop-again-2 c = gathers-line (c .before .before .before .before .before .before .before .before .loop .inv) (c .before .before .before .before .before .start .given .1) (c .before .before .before .before .before .before .before .next-line .ensures) (ap (counted _) (row-amiss _ (c .before .before .row-words .ensures) (c .if1 .left) .0))
 
 enum-known-next : tie.Need-enum-known-next Inv-loop μ-loop
 enum-known-next c = search needs
@@ -75,15 +70,13 @@ count-rows-spec =
     loop-holds
     next-line-requires
     enum-known-start
-    sub-row-of
-    part-row-of-start
-    part-row-of-end
-    row-of-requires
-    enum-known-row
+    sub-row-words
+    part-row-words-start
+    part-row-words-end
+    row-words-requires
     add-count
     loop-less
     loop-again
-    enum-known-fault
     loop-less-2
     loop-again-2
     enum-known-next

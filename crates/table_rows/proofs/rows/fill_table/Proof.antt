@@ -26,58 +26,52 @@ next-line-requires c κs = c .loop .inv .gathers .along .placed
 enum-known-start : tie.Need-enum-known-start Inv-loop μ-loop
 enum-known-start c = search needs
 
-sub-row-of : tie.Need-sub-row-of Inv-loop μ-loop
-sub-row-of c = line-starts (c .before .before .before .before .loop .inv .gathers) (c .before .start .given .1) (c .before .before .before .next-line .ensures)
+sub-row-words : tie.Need-sub-row-words Inv-loop μ-loop
+sub-row-words c = line-starts (c .before .before .before .before .loop .inv .gathers) (c .before .start .given .1) (c .before .before .before .next-line .ensures)
 
-part-row-of-start : tie.Need-part-row-of-start Inv-loop μ-loop
-part-row-of-start c = line-starts (c .before .before .before .before .loop .inv .gathers) (c .before .start .given .1) (c .before .before .before .next-line .ensures)
+part-row-words-start : tie.Need-part-row-words-start Inv-loop μ-loop
+part-row-words-start c = line-starts (c .before .before .before .before .loop .inv .gathers) (c .before .start .given .1) (c .before .before .before .next-line .ensures)
 
-part-row-of-end : tie.Need-part-row-of-end Inv-loop μ-loop
-part-row-of-end c = line-fits (c .before .before .before .before .loop .inv .gathers) (c .before .start .given .1) (c .before .before .before .next-line .ensures)
+part-row-words-end : tie.Need-part-row-words-end Inv-loop μ-loop
+part-row-words-end c = line-fits (c .before .before .before .before .loop .inv .gathers) (c .before .start .given .1) (c .before .before .before .next-line .ensures)
 
-row-of-requires : tie.Need-row-of-requires Inv-loop μ-loop
-row-of-requires c κs = tt
-
-enum-known-row : tie.Need-enum-known-row Inv-loop μ-loop
-enum-known-row c = search needs
+row-words-requires : tie.Need-row-words-requires Inv-loop μ-loop
+row-words-requires c κs = tt
 
 -- there is room for a row, and the store is as long as it was
-room : (c : tie.After-row Inv-loop μ-loop) → (c .before .before .before .before .before .before .before .before .loop .used + 4 ≤ length (c .before .before .before .before .before .before .before .before .loop .rows)) × (length (c .before .before .before .before .before .before .before .before .loop .rows) ≡ length (now (c .before .before .before .before .before .before .before .before .before .before .before .args .rows)))
+room : (c : tie.Then1 Inv-loop μ-loop) → (c .before .before .before .before .before .before .before .before .loop .used + 4 ≤ length (c .before .before .before .before .before .before .before .before .loop .rows)) × (length (c .before .before .before .before .before .before .before .before .loop .rows) ≡ length (now (c .before .before .before .before .before .before .before .before .before .before .before .args .rows)))
 room c =
-    (fills-fit (c .before .before .before .before .before .before .before .before .loop .inv) (c .before .before .before .before .before .start .given .1) (c .before .before .before .before .before .before .before .next-line .ensures) (c .before .before .row-of .ensures) (c .row .given .1) (c .before .before .before .before .before .before .before .before .before .before .before .pre .1), fills-length (c .before .before .before .before .before .before .before .before .loop .inv) (c .before .before .before .before .before .before .before .before .before .before .before .pre .1))
+    (fills-fit (c .before .before .before .before .before .before .before .before .loop .inv) (c .before .before .before .before .before .start .given .1) (c .before .before .before .before .before .before .before .next-line .ensures) (c .before .before .row-words .ensures) (c .if1 .taken) (c .before .before .before .before .before .before .before .before .before .before .before .pre .1), fills-length (c .before .before .before .before .before .before .before .before .loop .inv) (c .before .before .before .before .before .before .before .before .before .before .before .pre .1))
 
 mul-put-row : tie.Need-mul-put-row Inv-loop μ-loop
-mul-put-row c = omega (arith, room (c .before), c .before .before .before .before .before .before .before .before .before .before .before .before .good)
+mul-put-row c = omega (arith, room c, c .before .before .before .before .before .before .before .before .before .before .before .good)
 
 sub-put-row : tie.Need-sub-put-row Inv-loop μ-loop
-sub-put-row c = omega (arith, room (c .before))
+sub-put-row c = omega (arith, room c)
 
 part-put-row-start : tie.Need-part-put-row-start Inv-loop μ-loop
-part-put-row-start c = omega (arith, room (c .before))
+part-put-row-start c = omega (arith, room c)
 
 part-put-row-end : tie.Need-part-put-row-end Inv-loop μ-loop
 part-put-row-end c = search needs
 
 put-row-requires : tie.Need-put-row-requires Inv-loop μ-loop
-put-row-requires c κs = rest-room (c .before .before .before .before .before .before .before .before .before .before .loop .rows) (c .before .before .before .before .before .before .before .before .before .before .loop .used) 4 (room (c .before .before) .0)
+put-row-requires c κs = rest-room (c .before .before .before .before .before .before .before .before .before .loop .rows) (c .before .before .before .before .before .before .before .before .before .loop .used) 4 (room (c .before) .0)
 
 add-used : tie.Need-add-used Inv-loop μ-loop
-add-used c = omega (arith, room (c .before .before .before .before .before), c .before .before .before .before .before .before .before .before .before .before .before .before .before .before .before .before .good)
+add-used c = omega (arith, room (c .before .before .before .before), c .before .before .before .before .before .before .before .before .before .before .before .before .before .before .before .good)
 
 loop-less : tie.Need-loop-less Inv-loop μ-loop
-loop-less c = line-less (c .before .before .before .before .before .before .before .before .before .before .before .before .before .loop .inv .gathers) (c .before .before .before .before .before .before .before .before .before .before .start .given .1) (c .before .before .before .before .before .before .before .before .before .before .before .before .next-line .ensures)
+loop-less c = line-less (c .before .before .before .before .before .before .before .before .before .before .before .before .loop .inv .gathers) (c .before .before .before .before .before .before .before .before .before .start .given .1) (c .before .before .before .before .before .before .before .before .before .before .before .next-line .ensures)
 
 loop-again : tie.Need-loop-again Inv-loop μ-loop
-loop-again c = rw (c .before .before .put-row .ensures) (fills-row (c .before .before .before .before .before .before .before .before .before .before .before .before .before .loop .inv) (c .before .before .before .before .before .before .before .before .before .before .start .given .1) (c .before .before .before .before .before .before .before .before .before .before .before .before .next-line .ensures) (c .before .before .before .before .before .before .before .row-of .ensures) (c .before .before .before .before .before .row .given .1) (c .before .before .before .before .before .before .before .before .before .before .before .before .before .before .before .before .pre .1))
-
-enum-known-fault : tie.Need-enum-known-fault Inv-loop μ-loop
-enum-known-fault c = search needs
+loop-again c = rw (c .before .before .put-row .ensures) (fills-row (c .before .before .before .before .before .before .before .before .before .before .before .before .loop .inv) (c .before .before .before .before .before .before .before .before .before .start .given .1) (c .before .before .before .before .before .before .before .before .before .before .before .next-line .ensures) (c .before .before .before .before .before .before .row-words .ensures) (c .before .before .before .before .if1 .taken) (c .before .before .before .before .before .before .before .before .before .before .before .before .before .before .before .pre .1))
 
 loop-less-2 : tie.Need-loop-less-2 Inv-loop μ-loop
-loop-less-2 c = line-less (c .before .before .before .before .before .before .before .before .before .loop .inv .gathers) (c .before .before .before .before .before .before .start .given .1) (c .before .before .before .before .before .before .before .before .next-line .ensures)
+loop-less-2 c = line-less (c .before .before .before .before .before .before .before .before .loop .inv .gathers) (c .before .before .before .before .before .start .given .1) (c .before .before .before .before .before .before .before .next-line .ensures)
 
 loop-again-2 : tie.Need-loop-again-2 Inv-loop μ-loop
-loop-again-2 c = fills-none (c .before .before .before .before .before .before .before .before .before .loop .inv) (c .before .before .before .before .before .before .start .given .1) (c .before .before .before .before .before .before .before .before .next-line .ensures) (c .before .before .before .row-of .ensures) (c .before .fault .given .1)
+loop-again-2 c = fills-none (c .before .before .before .before .before .before .before .before .loop .inv) (c .before .before .before .before .before .start .given .1) (c .before .before .before .before .before .before .before .next-line .ensures) (c .before .before .row-words .ensures) (c .if1 .left)
 
 enum-known-next : tie.Need-enum-known-next Inv-loop μ-loop
 enum-known-next c = search needs
@@ -97,11 +91,10 @@ fill-table-spec =
     loop-holds
     next-line-requires
     enum-known-start
-    sub-row-of
-    part-row-of-start
-    part-row-of-end
-    row-of-requires
-    enum-known-row
+    sub-row-words
+    part-row-words-start
+    part-row-words-end
+    row-words-requires
     mul-put-row
     sub-put-row
     part-put-row-start
@@ -110,7 +103,6 @@ fill-table-spec =
     add-used
     loop-less
     loop-again
-    enum-known-fault
     loop-less-2
     loop-again-2
     enum-known-next

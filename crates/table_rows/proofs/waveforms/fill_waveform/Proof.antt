@@ -29,65 +29,59 @@ next-line-requires c κs = c .loop .inv .fills .gathers .along .placed
 enum-known-start : tie.Need-enum-known-start Inv-loop μ-loop
 enum-known-start c = search needs
 
-sub-row-of : tie.Need-sub-row-of Inv-loop μ-loop
-sub-row-of c = line-starts (c .before .before .before .before .loop .inv .fills .gathers) (c .before .start .given .1) (c .before .before .before .next-line .ensures)
+sub-row-words : tie.Need-sub-row-words Inv-loop μ-loop
+sub-row-words c = line-starts (c .before .before .before .before .loop .inv .fills .gathers) (c .before .start .given .1) (c .before .before .before .next-line .ensures)
 
-part-row-of-start : tie.Need-part-row-of-start Inv-loop μ-loop
-part-row-of-start c = line-starts (c .before .before .before .before .loop .inv .fills .gathers) (c .before .start .given .1) (c .before .before .before .next-line .ensures)
+part-row-words-start : tie.Need-part-row-words-start Inv-loop μ-loop
+part-row-words-start c = line-starts (c .before .before .before .before .loop .inv .fills .gathers) (c .before .start .given .1) (c .before .before .before .next-line .ensures)
 
-part-row-of-end : tie.Need-part-row-of-end Inv-loop μ-loop
-part-row-of-end c = line-fits (c .before .before .before .before .loop .inv .fills .gathers) (c .before .start .given .1) (c .before .before .before .next-line .ensures)
+part-row-words-end : tie.Need-part-row-words-end Inv-loop μ-loop
+part-row-words-end c = line-fits (c .before .before .before .before .loop .inv .fills .gathers) (c .before .start .given .1) (c .before .before .before .next-line .ensures)
 
-row-of-requires : tie.Need-row-of-requires Inv-loop μ-loop
-row-of-requires c κs = tt
-
-enum-known-row : tie.Need-enum-known-row Inv-loop μ-loop
-enum-known-row c = search needs
+row-words-requires : tie.Need-row-words-requires Inv-loop μ-loop
+row-words-requires c κs = tt
 
 mul-put-row : tie.Need-mul-put-row Inv-loop μ-loop
-mul-put-row c = omega (arith, fills-fit (c .before .before .before .before .before .before .before .before .before .loop .inv .fills) (c .before .before .before .before .before .before .start .given .1) (c .before .before .before .before .before .before .before .before .next-line .ensures) (c .before .before .before .row-of .ensures) (c .before .row .given .1) (c .before .before .before .before .before .before .before .before .before .before .before .before .before .pre .1), fills-length (c .before .before .before .before .before .before .before .before .before .loop .inv .fills) (c .before .before .before .before .before .before .before .before .before .before .before .before .before .pre .1), c .before .before .before .before .before .before .before .before .before .before .before .before .before .good)
+mul-put-row c = omega (arith, fills-fit (c .before .before .before .before .before .before .before .before .loop .inv .fills) (c .before .before .before .before .before .start .given .1) (c .before .before .before .before .before .before .before .next-line .ensures) (c .before .before .row-words .ensures) (c .if1 .taken) (c .before .before .before .before .before .before .before .before .before .before .before .before .pre .1), fills-length (c .before .before .before .before .before .before .before .before .loop .inv .fills) (c .before .before .before .before .before .before .before .before .before .before .before .before .pre .1), c .before .before .before .before .before .before .before .before .before .before .before .before .good)
 
 sub-put-row : tie.Need-sub-put-row Inv-loop μ-loop
-sub-put-row c = omega (arith, fills-fit (c .before .before .before .before .before .before .before .before .before .loop .inv .fills) (c .before .before .before .before .before .before .start .given .1) (c .before .before .before .before .before .before .before .before .next-line .ensures) (c .before .before .before .row-of .ensures) (c .before .row .given .1) (c .before .before .before .before .before .before .before .before .before .before .before .before .before .pre .1))
+sub-put-row c = omega (arith, fills-fit (c .before .before .before .before .before .before .before .before .loop .inv .fills) (c .before .before .before .before .before .start .given .1) (c .before .before .before .before .before .before .before .next-line .ensures) (c .before .before .row-words .ensures) (c .if1 .taken) (c .before .before .before .before .before .before .before .before .before .before .before .before .pre .1))
 
 part-put-row-start : tie.Need-part-put-row-start Inv-loop μ-loop
-part-put-row-start c = omega (arith, fills-fit (c .before .before .before .before .before .before .before .before .before .loop .inv .fills) (c .before .before .before .before .before .before .start .given .1) (c .before .before .before .before .before .before .before .before .next-line .ensures) (c .before .before .before .row-of .ensures) (c .before .row .given .1) (c .before .before .before .before .before .before .before .before .before .before .before .before .before .pre .1))
+part-put-row-start c = omega (arith, fills-fit (c .before .before .before .before .before .before .before .before .loop .inv .fills) (c .before .before .before .before .before .start .given .1) (c .before .before .before .before .before .before .before .next-line .ensures) (c .before .before .row-words .ensures) (c .if1 .taken) (c .before .before .before .before .before .before .before .before .before .before .before .before .pre .1))
 
 part-put-row-end : tie.Need-part-put-row-end Inv-loop μ-loop
 part-put-row-end c = search needs
 
 put-row-requires : tie.Need-put-row-requires Inv-loop μ-loop
-put-row-requires c κs = rest-room (c .before .before .before .before .before .before .before .before .before .before .loop .rows) (c .before .before .before .before .before .before .before .before .before .before .loop .used) 4 (fills-fit (c .before .before .before .before .before .before .before .before .before .before .loop .inv .fills) (c .before .before .before .before .before .before .before .start .given .1) (c .before .before .before .before .before .before .before .before .before .next-line .ensures) (c .before .before .before .before .row-of .ensures) (c .before .before .row .given .1) (c .before .before .before .before .before .before .before .before .before .before .before .before .before .before .pre .1))
+put-row-requires c κs = rest-room (c .before .before .before .before .before .before .before .before .before .loop .rows) (c .before .before .before .before .before .before .before .before .before .loop .used) 4 (fills-fit (c .before .before .before .before .before .before .before .before .before .loop .inv .fills) (c .before .before .before .before .before .before .start .given .1) (c .before .before .before .before .before .before .before .before .next-line .ensures) (c .before .before .before .row-words .ensures) (c .before .if1 .taken) (c .before .before .before .before .before .before .before .before .before .before .before .before .before .pre .1))
 
 add-used : tie.Need-add-used Inv-loop μ-loop
-add-used c = omega (arith, fills-fit (c .before .before .before .before .before .before .before .before .before .before .before .before .before .loop .inv .fills) (c .before .before .before .before .before .before .before .before .before .before .start .given .1) (c .before .before .before .before .before .before .before .before .before .before .before .before .next-line .ensures) (c .before .before .before .before .before .before .before .row-of .ensures) (c .before .before .before .before .before .row .given .1) (c .before .before .before .before .before .before .before .before .before .before .before .before .before .before .before .before .before .pre .1), fills-length (c .before .before .before .before .before .before .before .before .before .before .before .before .before .loop .inv .fills) (c .before .before .before .before .before .before .before .before .before .before .before .before .before .before .before .before .before .pre .1), c .before .before .before .before .before .before .before .before .before .before .before .before .before .before .before .before .before .good)
+add-used c = omega (arith, fills-fit (c .before .before .before .before .before .before .before .before .before .before .before .before .loop .inv .fills) (c .before .before .before .before .before .before .before .before .before .start .given .1) (c .before .before .before .before .before .before .before .before .before .before .before .next-line .ensures) (c .before .before .before .before .before .before .row-words .ensures) (c .before .before .before .before .if1 .taken) (c .before .before .before .before .before .before .before .before .before .before .before .before .before .before .before .before .pre .1), fills-length (c .before .before .before .before .before .before .before .before .before .before .before .before .loop .inv .fills) (c .before .before .before .before .before .before .before .before .before .before .before .before .before .before .before .before .pre .1), c .before .before .before .before .before .before .before .before .before .before .before .before .before .before .before .before .good)
 
 loop-less : tie.Need-loop-less Inv-loop μ-loop
-loop-less c = line-less (c .before .before .before .before .before .before .before .before .before .before .before .before .before .loop .inv .fills .gathers) (c .before .before .before .before .before .before .before .before .before .before .start .given .1) (c .before .before .before .before .before .before .before .before .before .before .before .before .next-line .ensures)
+loop-less c = line-less (c .before .before .before .before .before .before .before .before .before .before .before .before .loop .inv .fills .gathers) (c .before .before .before .before .before .before .before .before .before .start .given .1) (c .before .before .before .before .before .before .before .before .before .before .before .next-line .ensures)
 
 loop-again : tie.Need-loop-again Inv-loop μ-loop
-loop-again c = rw (c .before .before .put-row .ensures) (reads-row (c .before .before .before .before .before .before .before .before .before .before .before .before .before .loop .inv) (c .before .before .before .before .before .before .before .before .before .before .start .given .1) (c .before .before .before .before .before .before .before .before .before .before .before .before .next-line .ensures) (c .before .before .before .before .before .before .before .row-of .ensures) (c .before .before .before .before .before .row .given .1) (c .before .before .before .before .before .before .before .before .before .before .before .before .before .before .before .before .before .pre .1))
-
-enum-known-fault : tie.Need-enum-known-fault Inv-loop μ-loop
-enum-known-fault c = search needs
+loop-again c = rw (c .before .before .put-row .ensures) (reads-row (c .before .before .before .before .before .before .before .before .before .before .before .before .loop .inv) (c .before .before .before .before .before .before .before .before .before .start .given .1) (c .before .before .before .before .before .before .before .before .before .before .before .next-line .ensures) (c .before .before .before .before .before .before .row-words .ensures) (c .before .before .before .before .if1 .taken) (c .before .before .before .before .before .before .before .before .before .before .before .before .before .before .before .before .pre .1))
 
 sub-with-fixture : tie.Need-sub-with-fixture Inv-loop μ-loop
-sub-with-fixture c = line-starts (c .before .before .before .before .before .before .before .before .before .loop .inv .fills .gathers) (c .before .before .before .before .before .before .start .given .1) (c .before .before .before .before .before .before .before .before .next-line .ensures)
+sub-with-fixture c = line-starts (c .before .before .before .before .before .before .before .before .loop .inv .fills .gathers) (c .before .before .before .before .before .start .given .1) (c .before .before .before .before .before .before .before .next-line .ensures)
 
 part-with-fixture-start : tie.Need-part-with-fixture-start Inv-loop μ-loop
-part-with-fixture-start c = line-starts (c .before .before .before .before .before .before .before .before .before .loop .inv .fills .gathers) (c .before .before .before .before .before .before .start .given .1) (c .before .before .before .before .before .before .before .before .next-line .ensures)
+part-with-fixture-start c = line-starts (c .before .before .before .before .before .before .before .before .loop .inv .fills .gathers) (c .before .before .before .before .before .start .given .1) (c .before .before .before .before .before .before .before .next-line .ensures)
 
 part-with-fixture-end : tie.Need-part-with-fixture-end Inv-loop μ-loop
-part-with-fixture-end c = line-fits (c .before .before .before .before .before .before .before .before .before .loop .inv .fills .gathers) (c .before .before .before .before .before .before .start .given .1) (c .before .before .before .before .before .before .before .before .next-line .ensures)
+part-with-fixture-end c = line-fits (c .before .before .before .before .before .before .before .before .loop .inv .fills .gathers) (c .before .before .before .before .before .start .given .1) (c .before .before .before .before .before .before .before .next-line .ensures)
 
 with-fixture-requires : tie.Need-with-fixture-requires Inv-loop μ-loop
 with-fixture-requires c κs = tt
 
 loop-less-2 : tie.Need-loop-less-2 Inv-loop μ-loop
-loop-less-2 c = line-less (c .before .before .before .before .before .before .before .before .before .before .before .loop .inv .fills .gathers) (c .before .before .before .before .before .before .before .before .start .given .1) (c .before .before .before .before .before .before .before .before .before .before .next-line .ensures)
+loop-less-2 c = line-less (c .before .before .before .before .before .before .before .before .before .before .loop .inv .fills .gathers) (c .before .before .before .before .before .before .before .start .given .1) (c .before .before .before .before .before .before .before .before .before .next-line .ensures)
 
 loop-again-2 : tie.Need-loop-again-2 Inv-loop μ-loop
-loop-again-2 c = reads-fixture (c .before .before .before .before .before .before .before .before .before .before .before .loop .inv) (c .before .before .before .before .before .before .before .before .start .given .1) (c .before .before .before .before .before .before .before .before .before .before .next-line .ensures) (c .before .before .before .before .before .row-of .ensures) (c .before .before .before .fault .given .1) (c .with-fixture .ensures)
+loop-again-2 c = reads-fixture (c .before .before .before .before .before .before .before .before .before .before .loop .inv) (c .before .before .before .before .before .before .before .start .given .1) (c .before .before .before .before .before .before .before .before .before .next-line .ensures) (c .before .before .before .before .row-words .ensures) (c .before .before .if1 .left) (c .with-fixture .ensures)
 
 enum-known-next : tie.Need-enum-known-next Inv-loop μ-loop
 enum-known-next c = search needs
@@ -111,11 +105,10 @@ fill-waveform-spec =
     loop-holds
     next-line-requires
     enum-known-start
-    sub-row-of
-    part-row-of-start
-    part-row-of-end
-    row-of-requires
-    enum-known-row
+    sub-row-words
+    part-row-words-start
+    part-row-words-end
+    row-words-requires
     mul-put-row
     sub-put-row
     part-put-row-start
@@ -124,7 +117,6 @@ fill-waveform-spec =
     add-used
     loop-less
     loop-again
-    enum-known-fault
     sub-with-fixture
     part-with-fixture-start
     part-with-fixture-end
