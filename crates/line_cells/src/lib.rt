@@ -98,7 +98,7 @@ fn named(w: &[u8], r: Word, name: &[u8]) -> bool
 }
 
 // The words from a place on, if there are just three.
-pub fn three_words(w: &[u8], at: usize) -> ThreeWords
+fn three_in(w: &[u8], at: usize) -> ThreeWords
     requires { ⌜ at ≤ length (now w) ⌝ }
     ensures { λ r. ⌜ ThreeFrom (now (w .entry)) at r ⌝ }
 {
@@ -113,6 +113,14 @@ pub fn three_words(w: &[u8], at: usize) -> ThreeWords
         return ThreeWords::Other;
     }
     ThreeWords::Three { a: a, b: b, c: c }
+}
+
+// The same, of a part that is the whole line: who asks keeps the line itself in registers.
+pub fn three_words(w: &[u8], at: usize) -> ThreeWords
+    requires { ⌜ at ≤ length (now w) ⌝ }
+    ensures { λ r. ⌜ ThreeFrom (now (w .entry)) at r ⌝ }
+{
+    three_in(&w[0..], at)
 }
 
 // ---- three cells and a table's row: the leftmost fault counts

@@ -82,13 +82,20 @@ pub fn name_of(w: &[u8]) -> Word
 }
 
 // Is the first word the name alone, with no `=` in it?
-pub fn name_alone(w: &[u8]) -> bool
+fn is_alone(w: &[u8]) -> bool
     ensures { λ r. ⌜ r ≡ isNameAlone (now (w .entry)) ⌝ }
 {
     let first = first_word(w);
     let start = first.start;
     let end = first.end;
     words::find(&w[start..end], 0, b'=') == end - start
+}
+
+// The same, of a part that is the whole line: who asks keeps the line itself in registers.
+pub fn name_alone(w: &[u8]) -> bool
+    ensures { λ r. ⌜ r ≡ isNameAlone (now (w .entry)) ⌝ }
+{
+    is_alone(&w[0..])
 }
 
 // The place of a line's name in a list.

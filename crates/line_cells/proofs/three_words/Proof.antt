@@ -1,52 +1,31 @@
--- Too few words by `words-under`, too many by `words-past`, else just three by `words-just`.
-use native.Mathlib.Omega.{arith}
+-- The part is the whole line.
+use Prim.Native.Nat.{ℕ}
+use mathlib.Core.Path.{subst}
+use mathlib.Core.List.{List}
 use borrow.Author.Needs.{needs}
-use Rattle.words.proofs.Chains.{link, done, words-under, words-past, words-just}
+use denote.Ref.{now}
+use Rattle.laws.proofs.Lists.{part-rest}
+use Rattle.line_cells.specs.Threes.{ThreeFrom}
 use Rattle.line_cells.proofs.three_words.Statement.{statement}
 use Rattle.line_cells.proofs.three_words.Tie as tie
 
-word-at-requires : tie.Need-word-at-requires
-word-at-requires c κs = search needs
+sub-three-in : tie.Need-sub-three-in
+sub-three-in c = search needs
 
-word-at-requires-2 : tie.Need-word-at-requires-2
-word-at-requires-2 c κs = search needs
+part-three-in-start : tie.Need-part-three-in-start
+part-three-in-start c = search needs
 
-word-at-requires-3 : tie.Need-word-at-requires-3
-word-at-requires-3 c κs = search needs
+part-three-in-end : tie.Need-part-three-in-end
+part-three-in-end c = search needs
+
+three-in-requires : tie.Need-three-in-requires
+three-in-requires c κs = rw (part-rest (now (c .before .before .args .w)) 0) (c .before .before .pre)
 
 returns : tie.Need-returns
 returns c =
-    let k = link (c .before .before .before .before .word-at .ensures) (link (c .before .before .before .word-at2 .ensures) done) in
-    λ e. omega (arith, words-under k (c .before .before .word-at3 .ensures) (c .if1 .taken))
-
-word-at-requires-4 : tie.Need-word-at-requires-4
-word-at-requires-4 c κs = search needs
-
-returns-2 : tie.Need-returns-2
-returns-2 c =
-    let k = link (c .before .before .before .before .before .before .before .word-at .ensures) (link (c .before .before .before .before .before .before .word-at2 .ensures) (link (c .before .before .before .before .before .word-at3 .ensures) done)) in
-    λ e. omega (arith, words-past k (c .before .before .word-at4 .ensures) (c .if2 .taken))
-
-returns-3 : tie.Need-returns-3
-returns-3 c =
-    let a = c .before .before .before .before .before .before .before .word-at .ensures in
-    let b = c .before .before .before .before .before .before .word-at2 .ensures in
-    let d = c .before .before .before .before .before .word-at3 .ensures in
-    record {
-      are = words-just (link a (link b done)) d (c .before .before .before .if1 .left) (c .before .before .word-at4 .ensures) (c .if2 .left);
-      first = record { starts = a .starts; ends = a .ends };
-      second = record { starts = b .starts; ends = b .ends };
-      third = record { starts = d .starts; ends = d .ends };
-    }
+    let a = c .before .before .before .args in
+    subst (λ (l : List ℕ). ThreeFrom l (a .at) (c .three-in .result)) (part-rest (now (a .w)) 0) (c .three-in .ensures)
 
 pub three-words-spec : {M : Type 1} → statement M
 three-words-spec =
-    tie.close
-    (tie.spec
-    word-at-requires
-    word-at-requires-2
-    word-at-requires-3
-    returns
-    word-at-requires-4
-    returns-2
-    returns-3)
+    tie.close (tie.spec sub-three-in part-three-in-start part-three-in-end three-in-requires returns)

@@ -1,41 +1,27 @@
--- The search for `=` in the first word goes to its end exactly if the name is the whole word, by `alone-find`.
+-- The part is the whole line.
+use mathlib.Core.Path.{ap, _∙_}
 use borrow.Author.Needs.{needs}
 use denote.Ref.{now}
-use Rattle.named_lines.proofs.LineLaws.{alone-find}
+use Rattle.laws.proofs.Lists.{part-rest}
+use Rattle.named_lines.specs.Places.{isNameAlone}
 use Rattle.named_lines.proofs.lines.name_alone.Statement.{statement}
 use Rattle.named_lines.proofs.lines.name_alone.Tie as tie
 
-first-word-requires : tie.Need-first-word-requires
-first-word-requires c κs = tt
+sub-is-alone : tie.Need-sub-is-alone
+sub-is-alone c = search needs
 
-sub-find : tie.Need-sub-find
-sub-find c = search needs
+part-is-alone-start : tie.Need-part-is-alone-start
+part-is-alone-start c = search needs
 
-part-find-start : tie.Need-part-find-start
-part-find-start c = c .first-word .ensures .starts
+part-is-alone-end : tie.Need-part-is-alone-end
+part-is-alone-end c = search needs
 
-part-find-end : tie.Need-part-find-end
-part-find-end c = c .first-word .ensures .ends
-
-find-requires : tie.Need-find-requires
-find-requires c κs = search needs
-
-sub-result : tie.Need-sub-result
-sub-result c = search needs
+is-alone-requires : tie.Need-is-alone-requires
+is-alone-requires c κs = tt
 
 returns : tie.Need-returns
-returns c =
-    let f = c .before .before .first-word in
-    alone-find (now (c .before .before .before .before .args .w)) (f .result .start) (f .result .end) (c .find .result) (f .ensures .text) (f .ensures .ends) (c .find .ensures .0)
+returns c = c .is-alone .ensures ∙ ap isNameAlone (part-rest (now (c .before .before .before .args .w)) 0)
 
 pub name-alone-spec : {M : Type 1} → statement M
 name-alone-spec =
-    tie.close
-    (tie.spec
-    first-word-requires
-    sub-find
-    part-find-start
-    part-find-end
-    find-requires
-    sub-result
-    returns)
+    tie.close (tie.spec sub-is-alone part-is-alone-start part-is-alone-end is-alone-requires returns)
