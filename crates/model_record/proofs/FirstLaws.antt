@@ -1,4 +1,4 @@
--- The first lines as a fold over the lines; a line without a place; and what a line's word says, by what the code answers.
+-- The first lines as a fold over the lines; a line without a place, and one at a place, which changes its own part; and what a line's word says, by what the code answers.
 use Prim.Native.Nat.{ℕ, _≤_, _<_}
 use mathlib.Core.Path.{_≡_, refl, sym, ap, _∙_}
 use mathlib.Core.List.{List}

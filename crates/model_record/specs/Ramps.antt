@@ -3,6 +3,7 @@ use Prim.Native.Nat.{ℕ}
 use mathlib.Core.Path.{_≡_}
 use mathlib.Core.List.{List, []}
 use mathlib.Core.Bool.{true}
+use Rattle.decimal.specs.declared.Cell.{Cell}
 use Rattle.decimal.specs.declared.Cell.the-variants.{Missing}
 use Rattle.cut_lines.specs.Cursors.{rest}
 use Rattle.cut_lines.specs.declared.Cursor.{Cursor}
@@ -10,12 +11,16 @@ use Rattle.line_rules.specs.Fields.{slopesLine, numberLine, takes, lineSays}
 use Rattle.rules.specs.Reading.{under, rampIn}
 use Rattle.records.specs.Stored.{noSlopes}
 use Rattle.records.specs.declared.RampTable.{RampTable}
+use Rattle.records.specs.declared.RampTriple.{RampTriple}
 use Rattle.lines_under.specs.Under.{StopsAt}
 use Rattle.model_record.specs.declared.RampLinesRead.{RampLinesRead}
 
--- under its keyword, before the first line
+-- a ramp in its three parts; and before the first line under its keyword
+abbrev pub rampOver : RampTriple → RampTriple → Cell → RampTable
+rampOver rise fall load = record { given = true; rise = rise; fall = fall; load = load }
+
 abbrev pub bareRamp : RampTable
-bareRamp = record { given = true; rise = noSlopes; fall = noSlopes; load = Missing }
+bareRamp = rampOver noSlopes noSlopes Missing
 
 -- what a line makes of it, and what lines do
 abbrev pub rampLine : RampTable → List ℕ → RampTable

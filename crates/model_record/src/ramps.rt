@@ -1,12 +1,10 @@
 // The lines of [Ramp]: dV/dt_r, dV/dt_f and R_load.
-ghost use mathlib.Core.Bool.{cond};
 ghost use mathlib.Core.Path.{_≡_};
-ghost use lib.Dec.{eqb};
 ghost use Rattle.laws.specs.Said.{orElse};
 ghost use Rattle.cut_lines.specs.Cursors.{Placed};
 ghost use Rattle.line_rules.specs.Fields.{slopesLine};
 ghost use Rattle.records.specs.Stored.{noSlopes};
-ghost use Rattle.model_record.specs.Ramps.{bareRamp, rampLine, RampReadIs};
+ghost use Rattle.model_record.specs.Ramps.{RampReadIs};
 use crate::RampLinesRead;
 use cut_lines::Cursor;
 use decimal::Cell;
@@ -28,66 +26,45 @@ pub(crate) fn no_slopes() -> RampTriple
     }
 }
 
-// Slopes whose own line stands at `place`, after the line at place n.
-fn slopes_after(place: usize, n: usize, w: &[u8], before: RampTriple) -> RampTriple
-    ensures { λ r. ⌜ r ≡ cond (eqb n place) (orElse before (slopesLine (now (w .entry)))) before ⌝ }
+// Slopes after their line.
+fn slopes_after(w: &[u8], before: RampTriple) -> RampTriple
+    ensures { λ r. ⌜ r ≡ orElse before (slopesLine (now (w .entry))) ⌝ }
 {
-    if n != place {
-        return before;
-    }
     match line_faults::slopes_line(w) {
         RampRead::Slopes(slopes) => slopes,
         RampRead::Refused(_) => before,
     }
 }
 
-// Before the first line.
-fn bare_ramp() -> RampTable
-    ensures { λ r. ⌜ r ≡ bareRamp ⌝ }
-{
-    RampTable {
-        given: true,
-        rise: no_slopes(),
-        fall: no_slopes(),
-        load: Cell::Missing,
-    }
-}
-
-// A line goes to its place.
-fn with_ramp_line(r: RampTable, w: &[u8]) -> RampTable
-    ensures { λ t. ⌜ t ≡ rampLine r (now (w .entry)) ⌝ }
-{
-    let found = named_lines::ramp_line(w);
-    let Found::At(n) = found else {
-        return r;
-    };
-    let rise = r.rise;
-    let fall = r.fall;
-    let load = r.load;
-    RampTable {
-        given: r.given,
-        rise: slopes_after(0, n, w, rise),
-        fall: slopes_after(1, n, w, fall),
-        load: number_after(2, n, w, load),
-    }
-}
-
-// The lines of the ramp behind whose keyword a cursor stands.
+// The lines of the ramp behind whose keyword a cursor stands. A line is copied into its own part only.
 pub fn ramp_lines(src: &[u8], c: Cursor) -> RampLinesRead
     requires { ⌜ Placed (now src) c ⌝ }
     ensures { λ r. ⌜ RampReadIs (now (src .entry)) c r ⌝ }
 {
-    let mut ramp = bare_ramp();
+    let mut rise = no_slopes();
+    let mut fall = no_slopes();
+    let mut load = Cell::Missing;
     let mut d = c;
     loop {
         match lines_under::next_line(src, d) {
             LineNext::Line { start, end, next } => {
                 d = next;
-                ramp = with_ramp_line(ramp, &src[start..end]);
+                if let Found::At(n) = named_lines::ramp_line(&src[start..end]) {
+                    match n {
+                        0 => rise = slopes_after(&src[start..end], rise),
+                        1 => fall = slopes_after(&src[start..end], fall),
+                        _ => load = number_after(2, n, &src[start..end], load),
+                    }
+                }
             }
             LineNext::NoLine { next } => {
                 return RampLinesRead {
-                    ramp: ramp,
+                    ramp: RampTable {
+                        given: true,
+                        rise: rise,
+                        fall: fall,
+                        load: load,
+                    },
                     next: next,
                 };
             }
