@@ -1,21 +1,25 @@
 -- A row's line in an open table changes the rows that were seen and the file's count of rows, and nothing else of where the reading stands.
-use Prim.Native.Nat.{ℕ, _+_, _≤_, _<_}
-use mathlib.Core.Path.{_≡_, refl, sym, ap, _∙_, subst}
+use Prim.Native.Nat.{ℕ, _+_, _≤_, _<_, min}
+use mathlib.Core.Path.{_≡_, refl, sym, ap, ap₂, _∙_, subst}
 use mathlib.Core.List.{List, _∷_}
 use mathlib.Core.Bool.{Bool, true, false, cond}
 use native.Mathlib.Omega.{arith}
-use lib.Dec.{leb}
+use lib.Dec.{leb, ltb, eqb}
 use borrow.Author.Tests.{lt-leb}
 use Rattle.laws.specs.Said.{Said, says, fault}
+use Rattle.laws.specs.Lists.{part}
 use Rattle.laws.proofs.Tests.{by-test, cond-yes, cond-no, impossible}
+use Rattle.decimal.specs.Answers.{pastNumbers, decimalIn}
+use Rattle.decimal.specs.declared.Decimal.{Decimal}
 use Rattle.words.specs.Words.{word, words}
 use Rattle.line_rules.specs.Fields.{isBracketed, rowOf}
 use Rattle.cut_lines.specs.Texts.{Text, plain}
-use Rattle.cut_lines.specs.Cursors.{rest, past, Placed, Goes, TextIs}
+use Rattle.line_cells.specs.declared.RowWords.{RowWords}
+use Rattle.cut_lines.specs.Cursors.{rest, past, Placed, TextIs}
 use Rattle.cut_lines.specs.declared.Cursor.{Cursor}
 use Rattle.records.specs.declared.Lengths.{Lengths}
 use Rattle.records.specs.declared.Row as line
-use Rattle.rules.specs.Model.{withModelList, rowLine, beginsLetter, waveformLine, modelLine}
+use Rattle.rules.specs.Model.{withRow, withModelList, rowLine, beginsLetter, waveformLine, modelLine}
 use Rattle.rules.specs.Steps.{onPlain}
 use Rattle.rules.proofs.Lettered.{letter-no-row}
 use Rattle.given.specs.declared.Given.{Given}
@@ -28,15 +32,13 @@ use Rattle.rules.specs.declared.Event.the-variants.{TableRow}
 use Rattle.rules.specs.declared.Went.the-variants.{On}
 use Rattle.model_steps.specs.Rows.{rowStep, rowWent}
 use Rattle.model_steps.specs.declared.RowStep.the-variants as step
-use Rattle.model_steps.proofs.Laws.{row-line}
+use Rattle.model_steps.proofs.Laws.{row-line, row-seen}
 use Rattle.notes.specs.Noted.{runLog}
 use Rattle.note_words.specs.Store.{logIn}
 use Rattle.noted_events.specs.Events.{logOf, Within}
 use Rattle.noted_events.specs.declared.Tally.{Tally}
 use Rattle.file_answer.specs.Scans.{runFrom}
-use Rattle.file_answer.specs.Rows.{RowIs, RowIn, BeginsWith, NextRowIs, HoldsRows, withRows, standingAt, inTable, PassedIs, Steady, PassesOn}
-use Rattle.file_answer.specs.declared.NextRow.{NextRow}
-use Rattle.file_answer.specs.declared.NextRow.the-variants.{Row, NoRow}
+use Rattle.file_answer.specs.Rows.{seenRows, RowIs, RowIn, HoldsRows, withRows, standingAt, inTable, PassedIs, Steady, PassesOn}
 use Rattle.file_answer.specs.declared.Passed.{Passed}
 use Rattle.file_answer.specs.declared.Standing.{Standing}
 use Rattle.file_answer.proofs.ScanLaws.{reached-on}
@@ -59,7 +61,7 @@ row-said : (r more : RowsSeen) (x : Said line.Row) → rowStep r x ≡ step.Next
 row-said r more (says y) h = (y, refl)
 row-said r more (fault n) h = impossible (cc)
 
-module _ (m : ModelState) (table : RowsSeen → ModelList) (holds : HoldsRows table) (w : List ℕ) (r more : RowsSeen) (n next : Cursor) (row : RowIs w r n more next) where
+module _ (m : ModelState) (table : RowsSeen → ModelList) (holds : HoldsRows table) (w : List ℕ) (r more : RowsSeen) (row : RowIs w r more) where
   row-on : (k : ℕ) → onPlain (InModel (withModelList m (table r))) k w ≡ On (InModel (withModelList m (table more))) TableRow
   unfolding onPlain
   row-on k =
@@ -80,33 +82,29 @@ module _ (l : Lengths) (s : List ℕ) (c : Cursor) (r : RowsSeen) (n : ℕ) wher
   pub passed-none : Placed s c → PassedIs l s c r n (record { cursor = c; rows = r; count = n })
   passed-none h = record { says = λ xs m table t holds. refl; placed = h; reached = λ k. k; from = omega arith; counted = omega arith }
 
-  pub passed-more : (d : Cursor) (rows : RowsSeen) (count : ℕ) (more : RowsSeen) (next : Cursor) → count < l .rows → BeginsWith s d rows more next
+  pub passed-more : (d : Cursor) (rows more : RowsSeen) (count k a e : ℕ) (next : Cursor) → count < l .rows → TextIs s d k a e next → RowIs (part a e s) rows more
       → PassedIs l s c r n (record { cursor = d; rows = rows; count = count }) → PassedIs l s c r n (record { cursor = next; rows = more; count = count + 1 })
-  passed-more d rows count more next h b p =
+  passed-more d rows more count k a e next h b row p =
       record {
         says = λ xs m table t holds.
             p .says xs m table t holds
-            ∙ (rw (b .texts) (row-runs m table holds (b .text) rows more next next (b .is) l s xs t (past s d) (b .line) count (rest s next) h))
-            ∙ ap (λ (e : ℕ). runLog l e (InModel (withModelList m (table more))) (logOf s xs (withRows t (count + 1))) (rest s next)) (b .goes .ends);
+            ∙ (rw (b .more) (row-runs m table holds (part a e s) rows more row l s xs t (past s d) k count (rest s next) h))
+            ∙ ap (λ (f : ℕ). runLog l f (InModel (withModelList m (table more))) (logOf s xs (withRows t (count + 1))) (rest s next)) (b .goes .ends);
         placed = b .goes .placed;
         reached = λ k. reached-on s d next (b .goes) (p .reached k);
         from = omega (arith, p .from, b .goes .rises);
         counted = omega (arith, p .counted, b .goes .rises);
       }
 
--- ---- the next text, if it is a row
-
-pub begins : (s : List ℕ) (c : Cursor) (k a e : ℕ) (n : Cursor) (w : List ℕ) (r : RowsSeen) (x : NextRow) → TextIs s c k a e n → rest s c ≡ plain k w ∷ rest s n → RowIn w r n x → NextRowIs s c r x
-begins s c k a e n w r (Row more next) h texts row =
-    let b : n ≡ next = sym (row .behind) in
-    record {
-      line = k;
-      text = w;
-      texts = subst (λ (x : Cursor). rest s c ≡ plain k w ∷ rest s x) b texts;
-      goes = subst (Goes s c) b (h .goes);
-      is = record { unbracketed = row .unbracketed; row = row .row; behind = refl };
-    }
-begins s c k a e n w r NoRow h texts row = tt
+-- what is seen behind a row, from its words
+pub row-goes : (w : List ℕ) (count : ℕ) (last : Decimal) (x : RowWords) → RowIn w count last x → x .fault ≡ 0 → (head tail : Bool) (number : Decimal) (typ first : Bool) (more : ℕ)
+    → number ≡ decimalIn (x .number) → typ ≡ ltb (x .typ) pastNumbers → first ≡ cond (eqb count 0) typ head → more ≡ min (count + 1) 1001
+    → RowIs w (seenRows count last head tail) (seenRows more number first typ)
+row-goes w count last x row z head tail number typ first more d e f g =
+    let r = seenRows count last head tail in
+    subst (RowIs w r)
+    (sym (row-seen r number typ first f more g ∙ ap₂ (withRow r) d e))
+    (row z head tail)
 
 -- ---- where the reading stands
 

@@ -1,17 +1,20 @@
 -- The rows of an open table, passed one after another, as the code answers it.
 use Prim.Native.Nat.{ℕ, _+_, _≤_}
 use mathlib.Core.Path.{_≡_}
-use mathlib.Core.List.{List, _∷_}
-use mathlib.Core.Bool.{false}
+use mathlib.Core.List.{List}
+use mathlib.Core.Bool.{Bool, false}
+use lib.Dec.{ltb}
 use Rattle.laws.specs.Said.{says}
+use Rattle.decimal.specs.Answers.{pastNumbers, decimalIn}
+use Rattle.decimal.specs.declared.Decimal.{Decimal}
 use Rattle.words.specs.Words.{words}
 use Rattle.line_rules.specs.Fields.{isBracketed, rowOf}
-use Rattle.cut_lines.specs.Texts.{plain}
-use Rattle.cut_lines.specs.Cursors.{rest, Placed, Goes}
+use Rattle.line_cells.specs.declared.RowWords.{RowWords}
+use Rattle.cut_lines.specs.Cursors.{Placed}
 use Rattle.cut_lines.specs.declared.Cursor.{Cursor}
 use Rattle.records.specs.declared.Lengths.{Lengths}
 use Rattle.records.specs.declared.Row as line
-use Rattle.rules.specs.Model.{withModelList, rowLine, modelLine}
+use Rattle.rules.specs.Model.{withRow, withModelList, rowLine, modelLine}
 use Rattle.rules.specs.declared.RowsSeen.{RowsSeen}
 use Rattle.rules.specs.declared.ModelList.{ModelList}
 use Rattle.rules.specs.declared.ModelState.{ModelState}
@@ -21,34 +24,24 @@ use Rattle.model_steps.specs.declared.RowStep.the-variants as step
 use Rattle.noted_events.specs.Events.{Within}
 use Rattle.noted_events.specs.declared.Tally.{Tally}
 use Rattle.file_answer.specs.Scans.{runFrom, Reached}
-use Rattle.file_answer.specs.declared.NextRow.{NextRow}
-use Rattle.file_answer.specs.declared.NextRow.the-variants.{Row, NoRow}
 use Rattle.file_answer.specs.declared.Passed.{Passed}
 use Rattle.file_answer.specs.declared.Standing.{Standing}
 
 -- ---- one row
 
--- w is a row after r; n stands behind it
-pub record RowIs (w : List ℕ) (r : RowsSeen) (n : Cursor) (more : RowsSeen) (next : Cursor) : Type 0 where
+abbrev pub seenRows : ℕ → Decimal → Bool → Bool → RowsSeen
+seenRows count last head tail = record { count = count; last = last; head = head; tail = tail }
+
+-- w is a row after r
+pub record RowIs (w : List ℕ) (r more : RowsSeen) : Type 0 where
   pub unbracketed : isBracketed w ≡ false
   pub row : rowStep r (rowOf (words w)) ≡ step.Next more
-  pub behind : next ≡ n
 
-abbrev pub RowIn : List ℕ → RowsSeen → Cursor → NextRow → Type 0
-RowIn w r n (Row more next) = RowIs w r n more next
-RowIn w r n NoRow = Unit {0}
-
--- the texts from c on begin with a row
-pub record BeginsWith (s : List ℕ) (c : Cursor) (r more : RowsSeen) (next : Cursor) : Type 0 where
-  pub line : ℕ
-  pub text : List ℕ
-  pub texts : rest s c ≡ plain line text ∷ rest s next
-  pub goes : Goes s c next
-  pub is : RowIs text r next more next
-
-abbrev pub NextRowIs : List ℕ → Cursor → RowsSeen → NextRow → Type 0
-NextRowIs s c r (Row more next) = BeginsWith s c r more next
-NextRowIs s c r NoRow = Unit {0}
+-- x is amiss, or w as a row after so many, the last of which has this number
+abbrev pub RowIn : List ℕ → ℕ → Decimal → RowWords → Type 0
+RowIn w count last x =
+    x .fault ≡ 0 → (head tail : Bool)
+    → RowIs w (seenRows count last head tail) (withRow (seenRows count last head tail) (decimalIn (x .number)) (ltb (x .typ) pastNumbers))
 
 -- ---- rows of a table
 

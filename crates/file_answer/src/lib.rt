@@ -13,12 +13,6 @@ pub mod settling; // settling.rt: bytes, lines, names, last checks, one after th
 pub use settling::check;
 pub use settling::outlined;
 
-// A row of the open table, and the cursor behind it.
-pub enum NextRow {
-    Row { rows: RowsSeen, next: Cursor },
-    NoRow,
-}
-
 // Behind rows of the open table: where the reading stands, and how many rows the file has up to there.
 pub struct Passed {
     pub cursor: Cursor,

@@ -2,13 +2,13 @@
 // else of where the reading stands. What is no row, or has no room, is left to the line's own step.
 ghost use mathlib.Core.Path.{_≡_};
 ghost use Rattle.cut_lines.specs.Cursors.{Placed};
-ghost use Rattle.file_answer.specs.Rows.{RowIn, NextRowIs, PassedIs, standingAt, Steady, PassesOn};
-use crate::NextRow;
+ghost use Rattle.file_answer.specs.Rows.{seenRows, RowIn, PassedIs, standingAt, Steady, PassesOn};
 use crate::Passed;
 use crate::Standing;
 use cut_lines::Cursor;
 use cut_lines::Next;
-use model_steps::RowStep;
+use decimal::Decimal;
+use line_cells::RowWords;
 use noted_events::Tally;
 use records::Lengths;
 use rules::ModelList;
@@ -16,68 +16,75 @@ use rules::ModelState;
 use rules::RowsSeen;
 use rules::Stage;
 
-// A line that may be a row; next stands behind it.
-fn row_in(w: &[u8], r: RowsSeen, next: Cursor) -> NextRow
-    ensures { λ x. ⌜ RowIn (now (w .entry)) r next x ⌝ }
+// The row of a line that goes on the table of so many rows, the last of which has this number; else amiss.
+fn row_in(w: &[u8], seen: u64, last: Decimal) -> RowWords
+    ensures { λ x. ⌜ RowIn (now (w .entry)) seen last x ⌝ }
 {
     if named_lines::bracketed(w) {
-        return NextRow::NoRow;
+        return line_cells::amiss(10);
     }
-    match model_steps::row_step(r, w) {
-        RowStep::Next(rows) => NextRow::Row {
-            rows: rows,
-            next: next,
-        },
-        RowStep::NoRow(_) => NextRow::NoRow,
+    let row = line_cells::row_words(w);
+    if row.fault != 0 {
+        return row;
     }
+    if !model_steps::rising(seen, last, decimal::decimal_in(row.number)) {
+        return line_cells::amiss(13);
+    }
+    row
 }
 
-// The next text, if it is a row.
-fn next_row(src: &[u8], c: Cursor, r: RowsSeen) -> NextRow
-    requires { ⌜ Placed (now src) c ⌝ }
-    ensures { λ x. ⌜ NextRowIs (now (src .entry)) c r x ⌝ }
+// Behind rows, with what was seen of them.
+fn passed(cursor: Cursor, seen: u64, last: Decimal, head: bool, tail: bool, count: usize) -> Passed
+    ensures { λ p. ⌜ p ≡ record { cursor = cursor; rows = seenRows seen last head tail; count = count } ⌝ }
 {
-    match cut_lines::next_text(src, c) {
-        Next::Text {
-            line,
-            start,
-            end,
-            next,
-        } => row_in(&src[start..end], r, next),
-        Next::Change { line, fault, next } => NextRow::NoRow,
-        Next::Out { line } => NextRow::NoRow,
+    Passed {
+        cursor: cursor,
+        rows: RowsSeen {
+            count: seen,
+            last: last,
+            head: head,
+            tail: tail,
+        },
+        count: count,
     }
 }
 
-// Passes the rows from a cursor on, as long as there is room; the file has n rows before it.
+// Passes the rows from a cursor on, as long as there is room; the file has n rows before it. What is seen of them stands in variables of its own:
+// one record of it all would be copied at every row.
 fn pass_rows(src: &[u8], l: Lengths, c: Cursor, r: RowsSeen, n: usize) -> Passed
     requires { ⌜ Placed (now src) c ⌝ }
     ensures { λ p. ⌜ PassedIs l (now (src .entry)) c r n p ⌝ }
 {
     let mut d = c;
-    let mut rows = r;
+    let mut seen = r.count;
+    let mut last = r.last;
+    let mut head = r.head;
+    let mut tail = r.tail;
     let mut count = n;
     while count < l.rows {
-        match next_row(src, d, rows) {
-            NextRow::Row { rows: more, next } => {
+        match cut_lines::next_text(src, d) {
+            Next::Text {
+                line,
+                start,
+                end,
+                next,
+            } => {
+                let row = row_in(&src[start..end], seen, last);
+                if row.fault != 0 {
+                    return passed(d, seen, last, head, tail, count);
+                }
                 d = next;
-                rows = more;
+                last = decimal::decimal_in(row.number);
+                tail = decimal::holds_number(row.typ);
+                head = model_steps::head_after(seen, head, tail);
+                seen = model_steps::one_more(seen);
                 count += 1;
             }
-            NextRow::NoRow => {
-                return Passed {
-                    cursor: d,
-                    rows: rows,
-                    count: count,
-                };
-            }
+            Next::Change { line, fault, next } => return passed(d, seen, last, head, tail, count),
+            Next::Out { line } => return passed(d, seen, last, head, tail, count),
         }
     }
-    Passed {
-        cursor: d,
-        rows: rows,
-        count: count,
-    }
+    passed(d, seen, last, head, tail, count)
 }
 
 // The model's list is another, and rows of it are passed.
