@@ -4,7 +4,7 @@
  *
  * Every function is proved to do what is said here, for any bytes and tables of any length. The archive is for x86-64
  * Linux; `rt staticlib olhovest` writes it to target/staticlib/libolhovest.a. It calls nothing but memcpy and memset,
- * allocates nothing, keeps nothing between calls, and needs less than 64 KiB of stack.
+ * allocates nothing, keeps nothing between calls, and needs at most 32 KiB of stack.
  */
 #ifndef OLHOVEST_H
 #define OLHOVEST_H
