@@ -3,19 +3,15 @@ use Prim.Native.Nat.{ℕ, _+_, _≤_, _<_}
 use Prim.Native.Char.{code}
 use mathlib.Core.Path.{_≡_}
 use mathlib.Core.List.{List, [], _∷_}
-use mathlib.Core.Bool.{true, false}
 use lib.ListN.{length, drop}
 use Rattle.laws.specs.Lists.{part}
-use Rattle.laws.specs.Said.{Said, says, fault, faultIn, orElse}
-use Rattle.lines.specs.Lines.{Physical, linesOf, faultFrom, cut}
+use Rattle.laws.specs.Said.{Said, says, fault}
+use Rattle.lines.specs.Lines.{linesOf, faultFrom}
 use Rattle.lines.specs.declared.Bytes.the-variants.{Clean}
-use Rattle.cut_lines.specs.Change.{isChange, changeOf}
 use Rattle.cut_lines.specs.Texts.{Text, plain, change, textsFrom}
 use Rattle.cut_lines.specs.declared.ChangeRead.{ChangeRead}
 use Rattle.cut_lines.specs.declared.ChangeRead.the-variants.{To, Wrong}
 use Rattle.cut_lines.specs.declared.Cursor.{Cursor}
-use Rattle.cut_lines.specs.declared.OneLine.{OneLine}
-use Rattle.cut_lines.specs.declared.OneLine.the-variants.{Cut, Changed}
 use Rattle.cut_lines.specs.declared.Next.{Next}
 use Rattle.cut_lines.specs.declared.Next.the-variants as next
 
@@ -48,33 +44,6 @@ changeSays (Wrong n) = fault n
 pub record Placed (s : List ℕ) (c : Cursor) : Type 0 where
   pub within : c .at ≤ length s
   pub lines : c .line ≤ c .at + 1
-
--- the line at a cursor is l, and n stands behind it
-pub record Steps (s : List ℕ) (c : Cursor) (l : Physical) (n : Cursor) : Type 0 where
-  pub more : linesOf (drop (c .at) s) ≡ l ∷ linesOf (drop (n .at) s)
-  pub line : n .line ≡ c .line + 1
-  pub rises : c .at < n .at
-  pub within : n .at ≤ length s
-
-pub record CutIs (s : List ℕ) (c : Cursor) (e : ℕ) (n : Cursor) : Type 0 where
-  pub physical : Physical
-  pub steps : Steps s c physical n
-  pub kind : isChange (physical .bytes) ≡ false
-  pub text : part (c .at) e s ≡ cut (c .comment) (physical .bytes)
-  pub char : n .comment ≡ c .comment
-  pub starts : c .at ≤ e
-  pub ends : e ≤ length s
-
-pub record ChangedIs (s : List ℕ) (c : Cursor) (f : ℕ) (n : Cursor) : Type 0 where
-  pub physical : Physical
-  pub steps : Steps s c physical n
-  pub kind : isChange (physical .bytes) ≡ true
-  pub fault : f ≡ faultIn (changeOf (physical .bytes))
-  pub char : n .comment ≡ orElse (c .comment) (changeOf (physical .bytes))
-
-abbrev pub OneIs : List ℕ → Cursor → OneLine → Type 0
-OneIs s c (Cut e n) = CutIs s c e n
-OneIs s c (Changed f n) = ChangedIs s c f n
 
 -- a text's cursor: the next one stands behind it, and the file ends at the same line
 pub record Goes (s : List ℕ) (c n : Cursor) : Type 0 where

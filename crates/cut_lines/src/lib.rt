@@ -1,12 +1,12 @@
 // The texts of a file, one after another: the lines left after cutting, and the [Comment Char] lines.
 ghost use mathlib.Core.Path.{_≡_};
 ghost use Prim.Native.Nat.{_+_, _^_, _<_};
-ghost use lib.ListN.{length, drop};
+ghost use lib.ListN.{drop};
 ghost use Rattle.laws.specs.Lists.{among};
 ghost use Rattle.laws.specs.Said.{faultIn, orElse};
 ghost use Rattle.cut_lines.specs.Change.{isChange, changeOf, changeTo, marks, isRemark};
-ghost use Rattle.cut_lines.specs.Cursors.{firstCursor, changeRead, changeSays, Placed, OneIs, NextIs};
-ghost use Rattle.cut_lines.specs.declared.OneLine.the-variants.{Changed};
+ghost use Rattle.cut_lines.specs.Cursors.{firstCursor, changeRead, changeSays, Placed, NextIs};
+ghost use Rattle.cut_lines.specs.declared.Next.the-variants.{Change};
 
 // Where a reading stands: the next line's place and number, and the comment character in force there.
 pub struct Cursor {
@@ -19,12 +19,6 @@ pub struct Cursor {
 pub enum ChangeRead {
     To(u8),
     Wrong(u8),
-}
-
-// The line at a cursor: cut, from the cursor's place up to end; or a [Comment Char] line with its fault, 0 for none.
-enum OneLine {
-    Cut { end: usize, next: Cursor },
-    Changed { fault: u8, next: Cursor },
 }
 
 // The next text: what is left of a line; a [Comment Char] line with its fault, 0 for none; or the line after the last.
@@ -134,52 +128,63 @@ fn change_of(w: &[u8]) -> ChangeRead
     change_to(&w[at..])
 }
 
-// The cursor behind a [Comment Char] line: a good one's character holds from there on.
-fn changed(c: Cursor, at: usize, said: ChangeRead) -> OneLine
-    requires { ⌜ c .line < 2 ^ 63 ⌝ }
-    ensures { λ r. ⌜ r ≡ Changed (faultIn (changeSays said)) (record { at = at; line = c .line + 1; comment = orElse (c .comment) (changeSays said) }) ⌝ }
+// A [Comment Char] line and the cursor behind it: a good one's character holds from there on.
+fn changed(line: u64, behind: usize, comment: u8, said: ChangeRead) -> Next
+    requires { ⌜ line < 2 ^ 63 ⌝ }
+    ensures { λ r. ⌜ r ≡ Change line (faultIn (changeSays said)) (record { at = behind; line = line + 1; comment = orElse comment (changeSays said) }) ⌝ }
 {
     match said {
-        ChangeRead::To(x) => OneLine::Changed {
+        ChangeRead::To(x) => Next::Change {
+            line: line,
             fault: 0,
             next: Cursor {
-                at: at,
-                line: c.line + 1,
+                at: behind,
+                line: line + 1,
                 comment: x,
             },
         },
-        ChangeRead::Wrong(n) => OneLine::Changed {
+        ChangeRead::Wrong(n) => Next::Change {
+            line: line,
             fault: n,
             next: Cursor {
-                at: at,
-                line: c.line + 1,
-                comment: c.comment,
+                at: behind,
+                line: line + 1,
+                comment: comment,
             },
         },
     }
 }
 
-// The line at a cursor, and the cursor behind it.
-fn one_line(s: &[u8], c: Cursor) -> OneLine
-    requires { ⌜ Placed (now s) c × (c .at < length (now s)) ⌝ }
-    ensures { λ r. ⌜ OneIs (now (s .entry)) c r ⌝ }
+// The next text from a line's place and number on. They are numbers by themselves, so that they stay in registers.
+fn text_from(s: &[u8], from: usize, number: u64, comment: u8) -> Next
+    requires { ⌜ Placed (now s) (record { at = from; line = number; comment = comment }) ⌝ }
+    ensures { λ r. ⌜ NextIs (now (s .entry)) (record { at = from; line = number; comment = comment }) r ⌝ }
 {
-    let at = c.at;
-    let raw = lines::line_at(s, at);
-    let end = raw.end;
-    let line = &s[at..end];
-    if changes(line) {
-        return changed(c, raw.next, change_of(line));
+    let mut at = from;
+    let mut line = number;
+    while at < s.len() {
+        let l = lines::cut_line(s, at, comment);
+        let end = l.whole.end;
+        let w = &s[at..end];
+        if changes(w) {
+            return changed(line, l.whole.next, comment, change_of(w));
+        }
+        if at < l.cut {
+            return Next::Text {
+                line: line,
+                start: at,
+                end: l.cut,
+                next: Cursor {
+                    at: l.whole.next,
+                    line: line + 1,
+                    comment: comment,
+                },
+            };
+        }
+        at = l.whole.next;
+        line += 1;
     }
-    let kept = lines::cut_length(line, c.comment);
-    OneLine::Cut {
-        end: at + kept,
-        next: Cursor {
-            at: raw.next,
-            line: c.line + 1,
-            comment: c.comment,
-        },
-    }
+    Next::Out { line: line }
 }
 
 // The next text.
@@ -187,29 +192,5 @@ pub fn next_text(s: &[u8], c: Cursor) -> Next
     requires { ⌜ Placed (now s) c ⌝ }
     ensures { λ r. ⌜ NextIs (now (s .entry)) c r ⌝ }
 {
-    let mut d = c;
-    while d.at < s.len() {
-        let at = d.at;
-        match one_line(s, d) {
-            OneLine::Cut { end, next } => {
-                if at < end {
-                    return Next::Text {
-                        line: d.line,
-                        start: at,
-                        end: end,
-                        next: next,
-                    };
-                }
-                d = next;
-            }
-            OneLine::Changed { fault, next } => {
-                return Next::Change {
-                    line: d.line,
-                    fault: fault,
-                    next: next,
-                };
-            }
-        }
-    }
-    Next::Out { line: d.line }
+    text_from(s, c.at, c.line, c.comment)
 }

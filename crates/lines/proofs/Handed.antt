@@ -2,7 +2,7 @@
 use Prim.Native.Nat.{ℕ, _+_, _-_, _≤_, _<_}
 use Prim.Native.Char.{code}
 use mathlib.Core.Path.{_≡_, refl, sym, ap, _∙_, subst}
-use mathlib.Core.List.{List, [], _∷_}
+use mathlib.Core.List.{List, _∷_}
 use mathlib.Core.Bool.{Bool, true, false}
 use native.Mathlib.Omega.{arith}
 use lib.ListN.{length, drop, getD, length-drop, drop-of-length-le}
@@ -12,9 +12,10 @@ use Rattle.laws.specs.Lists.{front, other, part}
 use Rattle.laws.proofs.Tests.{by-test, by-order}
 use Rattle.laws.proofs.Lists.{part-length}
 use Rattle.laws.proofs.Fronts.{front-le}
-use Rattle.lines.specs.Lines.{Physical, linesOf}
-use Rattle.lines.specs.Places.{firstBytes, extent, lineFrom, RawAt}
+use Rattle.lines.specs.Lines.{Physical, linesOf, cut}
+use Rattle.lines.specs.Places.{firstBytes, extent, lineFrom, cutFrom, RawAt}
 use Rattle.lines.specs.declared.Line.{Line}
+use Rattle.lines.specs.declared.CutLine.{CutLine}
 use Rattle.lines.proofs.Places.{raw-last, raw-empty, raw-return, raw-other}
 
 -- the line at a place is l, and so it is handed out
@@ -80,3 +81,19 @@ module _ (s : List ℕ) (at : ℕ) where
   -- so is a line that was handed out
   pub raw-handed : (l : Line) → at < length s → l ≡ lineFrom s at → RawAt s at l
   raw-handed l k e = subst (RawAt s at) (sym e) (raw-at k)
+
+  -- a line that was handed out, and what cutting leaves of it
+  pub cut-read : (c : ℕ) (l : Line) (n : ℕ) → l ≡ lineFrom s at → n ≡ length (cut c (part at (l .end) s)) → record { whole = l; cut = at + n } ≡ cutFrom s at c
+  unfolding cutFrom
+  cut-read c l n e k =
+      ap (λ (m : ℕ). record { whole = l; cut = at + m }) k
+      ∙ ap (λ (x : Line). record { whole = x; cut = at + length (cut c (part at (x .end) s)) }) e
+
+  -- and back
+  pub cut-whole : (c : ℕ) (l : CutLine) → l ≡ cutFrom s at c → l .whole ≡ lineFrom s at
+  unfolding cutFrom
+  cut-whole c l e = ap (λ (x : CutLine). x .whole) e
+
+  pub cut-end : (c : ℕ) (l : CutLine) → l ≡ cutFrom s at c → l .cut ≡ at + length (cut c (part at (l .whole .end) s))
+  unfolding cutFrom
+  cut-end c l e = ap (λ (x : CutLine). x .cut) e ∙ ap (λ (x : Line). at + length (cut c (part at (x .end) s))) (sym (cut-whole c l e))

@@ -1,17 +1,17 @@
 -- What the places of a scan say of the lines: the first line ends where the scan stopped, and the others follow.
-use Prim.Native.Nat.{ℕ, _+_, _-_, _≤_, _<_}
+use Prim.Native.Nat.{ℕ, zero, suc, _+_, _-_, _≤_, _<_, min}
 use Prim.Native.Char.{code}
 use mathlib.Core.Path.{_≡_, refl, sym, ap, _∙_}
 use mathlib.Core.List.{List, [], _∷_, _++_, append-assoc, append-nil}
 use mathlib.Core.Bool.{Bool, true, false, _&&_}
 use native.Mathlib.Omega.{arith}
 use lib.ListN.{length, take, drop, getD, drop-of-length-le, length-drop}
-use lib.Seq.{drop-drop, getD-drop}
+use lib.Seq.{drop-drop, getD-drop, take-all}
 use lib.Dec.{eqb}
 use borrow.Author.Tests.{eq-eqb, ne-eqb, le-leb, lt-leb}
-use Rattle.laws.specs.Lists.{front, after, all, other, part, trim}
+use Rattle.laws.specs.Lists.{front, all, other, part, trim}
 use Rattle.laws.specs.Bytes.{isBlank}
-use Rattle.laws.proofs.Tests.{by-test, cond-yes, cond-no, and-first, and-second}
+use Rattle.laws.proofs.Tests.{by-test, by-order, cond-yes, cond-no, and-first, and-second}
 use Rattle.laws.proofs.Lists.{from-cons, take-down, none-of}
 use Rattle.laws.proofs.Fronts.{front-all, all-fails, all-first, all-second, split-at, other-is, front-at, after-at, after-stops, front-le, front-take, take-front}
 use Rattle.laws.proofs.Trims.{trim-take, trim-le}
@@ -243,11 +243,27 @@ module _ (s : List ℕ) (at stop : ℕ) (found : stop ≡ at + length (front (ot
 
 -- ---- the line cut at its comment
 
-pub cut-length : (c : ℕ) (l : List ℕ) (n : ℕ) → n ≡ 0 + length (front (other c) l) → length (trim isBlank (take n l)) ≡ length (cut c l)
+front-taken : (p : ℕ → Bool) (n : ℕ) (l : List ℕ) → front p (take n l) ≡ take n (front p l)
+unfolding front
+front-taken p zero l = refl
+front-taken p (suc n) [] = refl
+front-taken p (suc n) (b ∷ l) = by-test (p b) (λ e. rw e (ap (λ (k : List ℕ). b ∷ k) (front-taken p n l))) (λ e. rw e refl)
+
+-- what stands before the comment in the first n bytes
+before-comment : (c : ℕ) (l : List ℕ) (n m : ℕ) → m ≡ min n (length (front (other c) l)) → take m l ≡ front (other c) (take n l)
+before-comment c l n m e =
+    let f : List ℕ = front (other c) l in
+    by-order n (length f)
+    (λ h.
+    let k : m ≡ n = omega arith in
+    ap (λ (x : ℕ). take x l) k ∙ take-front (other c) l n h ∙ sym (front-taken (other c) n l))
+    (λ h.
+    let k : m ≡ length f = omega arith in
+    ap (λ (x : ℕ). take x l) k ∙ front-take (other c) l ∙ sym (take-all n f (omega arith)) ∙ sym (front-taken (other c) n l))
+
+pub cut-length : (c : ℕ) (l : List ℕ) (n m : ℕ) → m ≡ min n (length (front (other c) l)) → length (trim isBlank (take m l)) ≡ length (cut c (take n l))
 unfolding cut
-cut-length c l n e =
-    let k : n ≡ length (front (other c) l) = omega arith in
-    ap (λ (x : List ℕ). length (trim isBlank x)) (ap (λ (m : ℕ). take m l) k ∙ front-take (other c) l)
+cut-length c l n m e = ap (λ (x : List ℕ). length (trim isBlank x)) (before-comment c l n m e)
 
 -- what is left is a part
 pub cut-take : (c : ℕ) (l : List ℕ) → take (length (cut c l)) l ≡ cut c l

@@ -3,16 +3,21 @@ use Prim.Native.Nat.{ℕ, _+_, _-_, _≤_, _<_, min}
 use Prim.Native.Char.{code}
 use mathlib.Core.Path.{_≡_}
 use mathlib.Core.List.{List, [], _∷_}
-use mathlib.Core.Bool.{Bool, cond, _&&_}
+use mathlib.Core.Bool.{Bool}
 use lib.ListN.{length, drop}
 use Rattle.laws.specs.Lists.{front, other, part}
-use Rattle.lines.specs.Lines.{Physical, linesOf, faultFrom}
+use Rattle.lines.specs.Lines.{Physical, linesOf, faultFrom, cut}
 use Rattle.lines.specs.declared.Bytes.{Bytes}
-use Rattle.lines.specs.declared.Bytes.the-variants.{Clean, Faulty}
+use Rattle.lines.specs.declared.Bytes.the-variants.{Faulty}
 use Rattle.lines.specs.declared.Line.{Line}
+use Rattle.lines.specs.declared.CutLine.{CutLine}
 use Rattle.lines.specs.declared.LineReader.{LineReader}
 use Rattle.lines.specs.declared.LineCheck.{LineCheck}
 use Rattle.lines.specs.declared.LineCheck.the-variants.{Next, Wrong}
+
+-- the front from i on ends where the front from `at` on does
+abbrev pub GoesOn : (ℕ → Bool) → List ℕ → ℕ → ℕ → Type 0
+GoesOn p s at i = i + length (front p (drop i s)) ≡ at + length (front p (drop at s))
 
 -- what the faults from here on are, once the line here is looked at
 abbrev pub checked : List ℕ → ℕ → LineCheck → Bytes
@@ -35,6 +40,18 @@ extent s = min (length (front (other (code "\n")) s) + 1) (length s)
 -- where the line at a place ends, and where the next begins; past the last line both are the place
 unfoldable pub lineFrom : List ℕ → ℕ → Line
 lineFrom s at = record { end = at + length (firstBytes (linesOf (drop at s))); next = at + extent (drop at s) }
+
+-- the line at a place, whole, and where it ends once it is cut at the comment character c
+unfoldable pub cutFrom : List ℕ → ℕ → ℕ → CutLine
+cutFrom s at c = record { whole = lineFrom s at; cut = at + length (cut c (part at (lineFrom s at .end) s)) }
+
+-- the first LF from a place on, or the end
+abbrev pub lineStop : List ℕ → ℕ → ℕ
+lineStop s at = at + length (front (other (code "\n")) (drop at s))
+
+-- the first LF or comment character c from a place on, or the end
+abbrev pub textStop : List ℕ → ℕ → ℕ → ℕ
+textStop s at c = at + min (length (front (other (code "\n")) (drop at s))) (length (front (other c) (drop at s)))
 
 -- the number of the line that begins at a place: the number past the last line, less the lines that are left
 unfoldable pub lineAt : List ℕ → ℕ → ℕ

@@ -1,10 +1,11 @@
 // Lines of a file: the faults of their bytes, in one pass; the reader that hands out one line at a time; and what cutting leaves.
 ghost use mathlib.Core.Path.{_≡_};
-ghost use Prim.Native.Nat.{ℕ, _+_, _≤_, _<_};
+ghost use mathlib.Core.Bool.{true};
+ghost use Prim.Native.Nat.{ℕ, _+_, _≤_, _<_, min};
 ghost use lib.ListN.{length, drop};
-ghost use Rattle.laws.specs.Lists.{front};
-ghost use Rattle.lines.specs.Lines.{isAllowed, linesOf, faultFrom, bytesFault, cut};
-ghost use Rattle.lines.specs.Places.{checked, Goes, lineFrom, lineAt, readerBehind};
+ghost use Rattle.laws.specs.Lists.{front, other};
+ghost use Rattle.lines.specs.Lines.{isAllowed, linesOf, faultFrom, bytesFault};
+ghost use Rattle.lines.specs.Places.{GoesOn, checked, Goes, lineFrom, cutFrom, lineStop, textStop, lineAt, readerBehind};
 ghost use Rattle.lines.specs.Breaks.{breakOf, isPrinted};
 use records::Fault;
 
@@ -23,6 +24,12 @@ pub enum Bytes {
 pub struct Line {
     pub end: usize,
     pub next: usize,
+}
+
+// A line, whole, and where it ends once it is cut.
+pub struct CutLine {
+    pub whole: Line,
+    pub cut: usize,
 }
 
 // A reader that is lent the file and remembers its place.
@@ -56,26 +63,46 @@ fn allowed(b: u8) -> bool
     b == b'\t'
 }
 
-// Past allowed bytes from at on: four a turn, up to one that is not printed or to where fewer than four are left.
+// Whether the eight bytes from at on are printed. None of them ends the loop, so that a machine may look at all eight at once.
+fn eight_printed(s: &[u8], at: usize) -> bool
+    requires { ⌜ at + 8 ≤ length (now s) ⌝ }
+    ensures { λ r. ⌜ (r ≡ true → GoesOn isAllowed (now (s .entry)) at (at + 8)) ⌝ }
+{
+    let mut all = true;
+    let mut k = 0;
+    while k < 8 {
+        if !printed(s[at + k]) {
+            all = false;
+        }
+        k += 1;
+    }
+    all
+}
+
+// Past allowed bytes from at on: eight a turn, up to eight that are not all printed or to where fewer are left.
+fn skip_eights(s: &[u8], at: usize) -> usize
+    requires { ⌜ at ≤ length (now s) ⌝ }
+    ensures { λ r. ⌜ (at ≤ r) × (r ≤ length (now (s .entry))) ⌝ }
+    ensures { λ r. ⌜ GoesOn isAllowed (now (s .entry)) at r ⌝ }
+{
+    let mut i = at;
+    while 8 <= s.len() - i {
+        if !eight_printed(s, i) {
+            return i;
+        }
+        i += 8;
+    }
+    i
+}
+
+// Past allowed bytes from at on, up to one that is not printed.
 fn skip_printed(s: &[u8], at: usize) -> usize
     requires { ⌜ at ≤ length (now s) ⌝ }
     ensures { λ r. ⌜ (at ≤ r) × (r ≤ length (now (s .entry))) ⌝ }
-    ensures { λ r. ⌜ r + length (front isAllowed (drop r (now (s .entry)))) ≡ at + length (front isAllowed (drop at (now (s .entry)))) ⌝ }
+    ensures { λ r. ⌜ GoesOn isAllowed (now (s .entry)) at r ⌝ }
 {
-    let mut i = at;
-    while 4 <= s.len() - i {
-        if !printed(s[i]) {
-            return i;
-        }
-        i += 1;
-        if !printed(s[i]) {
-            return i;
-        }
-        i += 1;
-        if !printed(s[i]) {
-            return i;
-        }
-        i += 1;
+    let mut i = skip_eights(s, at);
+    while i < s.len() {
         if !printed(s[i]) {
             return i;
         }
@@ -169,14 +196,13 @@ pub fn check_bytes(s: &[u8]) -> Bytes
     Bytes::Clean
 }
 
-// The line at a place, whole.
-fn whole_line(s: &[u8], at: usize) -> Line
+// The line at a place, whole. It stops at an LF or at the end of s.
+fn line_to(s: &[u8], at: usize, stop: usize) -> Line
+    requires { ⌜ at < length (now s) ⌝ }
+    requires { ⌜ stop ≡ lineStop (now s) at ⌝ }
     ensures { λ r. ⌜ r ≡ lineFrom (now (s .entry)) at ⌝ }
+    ensures { λ r. ⌜ r .end ≤ stop ⌝ }
 {
-    if s.len() <= at {
-        return Line { end: at, next: at };
-    }
-    let stop = words::find(s, at, b'\n');
     if s.len() <= stop {
         return Line {
             end: stop,
@@ -196,6 +222,16 @@ fn whole_line(s: &[u8], at: usize) -> Line
         end: stop,
         next: stop + 1,
     }
+}
+
+// The line at a place, whole.
+fn whole_line(s: &[u8], at: usize) -> Line
+    ensures { λ r. ⌜ r ≡ lineFrom (now (s .entry)) at ⌝ }
+{
+    if s.len() <= at {
+        return Line { end: at, next: at };
+    }
+    line_to(s, at, words::find(s, at, b'\n'))
 }
 
 impl<'a> LineReader<'a> {
@@ -250,11 +286,79 @@ pub fn line_number(src: &[u8], at: usize) -> u64
     past - count_lines(&src[at..])
 }
 
-// How much of a line is left once it is cut at its comment, without trailing blanks.
-pub fn cut_length(line: &[u8], comment: u8) -> usize
-    ensures { λ r. ⌜ r ≡ length (cut comment (now (line .entry))) ⌝ }
-    ensures { λ r. ⌜ r ≤ length (now (line .entry)) ⌝ }
+// Whether b is none of the eight bytes from at on. None of them ends the loop, so that a machine may look at all eight at once.
+fn eight_without(s: &[u8], at: usize, b: u8) -> bool
+    requires { ⌜ at + 8 ≤ length (now s) ⌝ }
+    ensures { λ r. ⌜ (r ≡ true → GoesOn (other b) (now (s .entry)) at (at + 8)) ⌝ }
 {
-    let left = words::find(line, 0, comment);
-    words::trimmed(&line[..left])
+    let mut without = true;
+    let mut k = 0;
+    while k < 8 {
+        if s[at + k] == b {
+            without = false;
+        }
+        k += 1;
+    }
+    without
+}
+
+// Where the text of a line stops, at the first LF or comment character from at on, or at the end of s: byte by byte.
+fn text_stop_slowly(s: &[u8], at: usize, comment: u8) -> usize
+    requires { ⌜ at ≤ length (now s) ⌝ }
+    ensures { λ r. ⌜ r ≡ textStop (now (s .entry)) at comment ⌝ }
+    ensures { λ r. ⌜ (at ≤ r) × (r ≤ length (now (s .entry))) ⌝ }
+    ensures { λ r. ⌜ lineStop (now (s .entry)) r ≡ lineStop (now (s .entry)) at ⌝ }
+{
+    let mut i = at;
+    while i < s.len() {
+        if s[i] == b'\n' {
+            return i;
+        }
+        if s[i] == comment {
+            return i;
+        }
+        i += 1;
+    }
+    i
+}
+
+// The same, eight bytes a turn as long as eight are left without either.
+fn text_stop(s: &[u8], at: usize, comment: u8) -> usize
+    requires { ⌜ at ≤ length (now s) ⌝ }
+    ensures { λ r. ⌜ r ≡ textStop (now (s .entry)) at comment ⌝ }
+    ensures { λ r. ⌜ (at ≤ r) × (r ≤ length (now (s .entry))) ⌝ }
+    ensures { λ r. ⌜ lineStop (now (s .entry)) r ≡ lineStop (now (s .entry)) at ⌝ }
+{
+    let mut i = at;
+    while 8 <= s.len() - i {
+        if !eight_without(s, i, b'\n') {
+            return text_stop_slowly(s, i, comment);
+        }
+        if !eight_without(s, i, comment) {
+            return text_stop_slowly(s, i, comment);
+        }
+        i += 8;
+    }
+    text_stop_slowly(s, i, comment)
+}
+
+fn least(a: usize, b: usize) -> usize
+    ensures { λ r. ⌜ r ≡ min a b ⌝ }
+{
+    if a < b { a } else { b }
+}
+
+// The line at a place, whole, and where it ends once it is cut at its comment, without trailing blanks: its bytes are looked at once.
+pub fn cut_line(s: &[u8], at: usize, comment: u8) -> CutLine
+    requires { ⌜ at < length (now s) ⌝ }
+    ensures { λ r. ⌜ r ≡ cutFrom (now (s .entry)) at comment ⌝ }
+{
+    let stop = text_stop(s, at, comment);
+    let whole = line_to(s, at, words::find(s, stop, b'\n'));
+    let end = least(stop, whole.end);
+    let left = words::trimmed(&s[at..end]);
+    CutLine {
+        whole: whole,
+        cut: at + left,
+    }
 }
