@@ -15,10 +15,10 @@ use Rattle.records.specs.declared.Table.{Table}
 use Rattle.records.specs.declared.Triple.{Triple}
 use Rattle.rules.specs.Reading.{rampIn}
 use Rattle.record_words.specs.Values.{flagNumber}
-use Rattle.record_words.specs.Records.{tripleWords, rangeWords, tableWords, modelWords}
+use Rattle.record_words.specs.Records.{tripleWords, rangeWords, rampWords, tableWords, modelWords}
 use Rattle.model_record.specs.Bodies.{withTable, partOn, modelOver}
 use Rattle.model_record.specs.declared.Body.{Body}
-use Rattle.section_words.specs.Parts.{tableFrom, rampWords}
+use Rattle.section_words.specs.Parts.{tableFrom}
 use Rattle.section_words.specs.Models.{uncounted, Turns}
 
 -- a table is written unless it was given; X is the record with its three words
