@@ -1,5 +1,5 @@
 -- What a keyword says of a model, as words of its record.
-use Prim.Native.Nat.{ℕ}
+use Prim.Native.Nat.{ℕ, _+_}
 use mathlib.Core.List.{List}
 use mathlib.Core.Bool.{true}
 use Rattle.laws.specs.Said.{orElse}
@@ -17,9 +17,24 @@ voltageSaid w = tripleWords (orElse noCells (threeCells (words w)))
 abbrev pub temperatureSaid : List ℕ → List ℕ
 temperatureSaid w = rangeWords (record { given = true; cells = orElse noCells (threeCells (words w)) })
 
--- where a table's three words begin
+-- ---- where each begins in the record
+
+-- behind what the first lines say
+abbrev pub voltageFrom : ℕ
+voltageFrom = 35
+
+abbrev pub temperatureFrom : ℕ
+temperatureFrom = voltageFrom + 3
+
+-- a range has four words, a table three
 abbrev pub tableFrom : CurrentTable → ℕ
-tableFrom Pulldown = 42
-tableFrom Pullup = 45
-tableFrom GndClamp = 48
-tableFrom PowerClamp = 51
+tableFrom Pulldown = temperatureFrom + 4
+tableFrom Pullup = temperatureFrom + 7
+tableFrom GndClamp = temperatureFrom + 10
+tableFrom PowerClamp = temperatureFrom + 13
+
+abbrev pub rampFrom : ℕ
+rampFrom = tableFrom PowerClamp + 3
+
+abbrev pub waveformsFrom : ℕ
+waveformsFrom = rampFrom + 14

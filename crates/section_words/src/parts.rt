@@ -10,7 +10,7 @@ ghost use Rattle.cut_lines.specs.Cursors.{rest, Placed};
 ghost use Rattle.lines_under.specs.Under.{StopsAt};
 ghost use Rattle.rules.specs.Reading.{under, rampIn};
 ghost use Rattle.record_words.specs.Records.{rampWords, modelSize};
-ghost use Rattle.section_words.specs.Parts.{voltageSaid, temperatureSaid, tableFrom};
+ghost use Rattle.section_words.specs.Parts.{voltageSaid, temperatureSaid, voltageFrom, temperatureFrom, tableFrom, rampFrom};
 use crate::puts::LEVELS_FROM;
 use crate::puts::RAMP_FROM;
 use crate::puts::put;
@@ -31,7 +31,7 @@ const TEMPERATURE_FROM: usize = MODEL_LINES_WORDS - RANGE_WORDS;
 
 pub(crate) fn fill_voltage(model: &mut [u64], argument: &[u8])
     requires { ⌜ modelSize ≤ length (now model) ⌝ }
-    ensures { λ _. ⌜ now (model .exit) ≡ sets (now (model .entry)) 35 (voltageSaid (now (argument .entry))) ⌝ }
+    ensures { λ _. ⌜ now (model .exit) ≡ sets (now (model .entry)) voltageFrom (voltageSaid (now (argument .entry))) ⌝ }
 {
     let cells = triple_words(cells_of(argument));
     put(model, VOLTAGE_FROM, &cells);
@@ -39,7 +39,7 @@ pub(crate) fn fill_voltage(model: &mut [u64], argument: &[u8])
 
 pub(crate) fn fill_temperature(model: &mut [u64], argument: &[u8])
     requires { ⌜ modelSize ≤ length (now model) ⌝ }
-    ensures { λ _. ⌜ now (model .exit) ≡ sets (now (model .entry)) 38 (temperatureSaid (now (argument .entry))) ⌝ }
+    ensures { λ _. ⌜ now (model .exit) ≡ sets (now (model .entry)) temperatureFrom (temperatureSaid (now (argument .entry))) ⌝ }
 {
     let cells = triple_words(cells_of(argument));
     let range = [1, cells[0], cells[1], cells[2]];
@@ -73,7 +73,7 @@ pub(crate) fn fill_span(model: &mut [u64], at: usize, row: usize, count: usize)
 // The lines of [Ramp]; it answers where the next keyword line stands.
 pub(crate) fn fill_ramp(model: &mut [u64], src: &[u8], c: Cursor) -> Cursor
     requires { ⌜ Placed (now src) c × (modelSize ≤ length (now model)) ⌝ }
-    ensures { λ r. ⌜ now (model .exit) ≡ sets (now (model .entry)) 54 (rampWords (rampIn [] (under (rest (now (src .entry)) c)))) ⌝ }
+    ensures { λ r. ⌜ now (model .exit) ≡ sets (now (model .entry)) rampFrom (rampWords (rampIn [] (under (rest (now (src .entry)) c)))) ⌝ }
     ensures { λ r. ⌜ StopsAt (now (src .entry)) c r ⌝ }
 {
     let read = ramp_lines(src, c);

@@ -4,6 +4,8 @@ use mathlib.Core.List.{_++_}
 use borrow.Author.Needs.{needs}
 use denote.Ref.{now}
 use Rattle.record_words.specs.Records.{modelFirst, modelSplit, modelLevels, modelTables, rampWords, spanWords}
+use Rattle.keywords.specs.declared.CurrentTable.the-variants.{Pulldown}
+use Rattle.section_words.specs.Parts.{tableFrom, rampFrom, waveformsFrom}
 use Rattle.section_words.proofs.Laws.{sets-more, sets-three}
 use Rattle.section_words.proofs.puts.put_model.Statement.{statement}
 use Rattle.section_words.proofs.puts.put_model.Tie as tie
@@ -59,9 +61,9 @@ returns c =
     let m = a .m in
     let lines = modelFirst m ++ modelSplit m ++ modelLevels m in
     let span = spanWords (m .waveforms) in
-    sets-more (now (a .out)) (c .before .before .before .before .before .before .before .put2 .last .0) (c .before .before .put3 .last .0) ((lines ++ modelTables m) ++ rampWords (m .ramp)) span span (a .at) 68
+    sets-more (now (a .out)) (c .before .before .before .before .before .before .before .put2 .last .0) (c .before .before .put3 .last .0) ((lines ++ modelTables m) ++ rampWords (m .ramp)) span span (a .at) waveformsFrom
     (sets-three (now (a .out)) (c .before .before .before .before .before .before .before .before .before .before .before .before .before .before .before .before .before .put-model-lines .last .0) (c .before .before .before .before .before .before .before .before .before .before .before .before .put .last .0) (c .before .before .before .before .before .before .before .put2 .last .0)
-    lines (c .before .before .before .before .before .before .before .before .before .before .before .before .before .before .before .before .before .before .before .before .model-tables .result) (c .before .before .before .before .before .before .before .before .before .before .before .before .before .before .before .before .before .before .before .ramp-words .result) lines (modelTables m) (rampWords (m .ramp)) (a .at) 42 54
+    lines (c .before .before .before .before .before .before .before .before .before .before .before .before .before .before .before .before .before .before .before .before .model-tables .result) (c .before .before .before .before .before .before .before .before .before .before .before .before .before .before .before .before .before .before .before .ramp-words .result) lines (modelTables m) (rampWords (m .ramp)) (a .at) (tableFrom Pulldown) rampFrom
     (c .before .before .before .before .before .before .before .before .before .before .before .before .before .before .before .before .before .put-model-lines .ensures) (c .before .before .before .before .before .before .before .before .before .before .before .before .put .ensures) (c .before .before .before .before .before .before .before .put2 .ensures)
     refl (c .before .before .before .before .before .before .before .before .before .before .before .before .before .before .before .before .before .before .before .before .model-tables .ensures) (c .before .before .before .before .before .before .before .before .before .before .before .before .before .before .before .before .before .before .before .ramp-words .ensures) refl refl)
     (c .before .before .put3 .ensures) refl refl
