@@ -61,17 +61,17 @@ first-nothing : (f : FirstLines) (w : List ℕ) → lineAt modelLines w ≡ Noth
 unfolding placeFrom words grown ontoWord isBlank eqs
 first-nothing f w e =
     rw (
-      takes-nothing "Model_type" (wordLine modelTypes) (f .kind) w modelLines 0 e refl,
-      takes-nothing "Polarity" (wordLine polarities) (f .polarity) w modelLines 1 e refl,
-      takes-nothing "Enable" (wordLine enables) (f .enable) w modelLines 2 e refl,
+      takes-nothing "Model_type" (wordLine modelTypes) (f .marks .kind) w modelLines 0 e refl,
+      takes-nothing "Polarity" (wordLine polarities) (f .marks .polarity) w modelLines 1 e refl,
+      takes-nothing "Enable" (wordLine enables) (f .marks .enable) w modelLines 2 e refl,
       takes-nothing "C_comp" cellsLine (f .comp) w modelLines 3 e refl,
       split-nothing (f .split) w e,
-      takes-nothing "Vinl" numberLine (f .vinl) w modelLines 8 e refl,
-      takes-nothing "Vinh" numberLine (f .vinh) w modelLines 9 e refl,
-      takes-nothing "Vmeas" numberLine (f .vmeas) w modelLines 10 e refl,
-      takes-nothing "Cref" numberLine (f .cref) w modelLines 11 e refl,
-      takes-nothing "Rref" numberLine (f .rref) w modelLines 12 e refl,
-      takes-nothing "Vref" numberLine (f .vref) w modelLines 13 e refl,
+      takes-nothing "Vinl" numberLine (f .levels .vinl) w modelLines 8 e refl,
+      takes-nothing "Vinh" numberLine (f .levels .vinh) w modelLines 9 e refl,
+      takes-nothing "Vmeas" numberLine (f .levels .vmeas) w modelLines 10 e refl,
+      takes-nothing "Cref" numberLine (f .levels .cref) w modelLines 11 e refl,
+      takes-nothing "Rref" numberLine (f .levels .rref) w modelLines 12 e refl,
+      takes-nothing "Vref" numberLine (f .levels .vref) w modelLines 13 e refl,
     )
 
 -- ---- a line at place n changes its own part

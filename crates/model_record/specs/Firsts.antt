@@ -14,6 +14,7 @@ use Rattle.line_rules.specs.Tables.{modelTypes, polarities, enables}
 use Rattle.rules.specs.Types.{thresholds}
 use Rattle.rules.specs.Reading.{noSplit, splitSays, under}
 use Rattle.records.specs.Stored.{noCells}
+use Rattle.records.specs.declared.ModelType.{ModelType}
 use Rattle.records.specs.declared.ModelType.the-variants.{Terminator}
 use Rattle.records.specs.declared.Polarity.the-variants.{NoPolarity}
 use Rattle.records.specs.declared.Enable.the-variants.{NoEnable}
@@ -29,20 +30,7 @@ use Rattle.model_record.specs.declared.FirstRead.{FirstRead}
 -- ---- in four parts
 
 abbrev pub linesOver : Marks → Triple → Split → Levels → FirstLines
-linesOver m comp split l =
-    record {
-      kind = m .kind;
-      polarity = m .polarity;
-      enable = m .enable;
-      comp = comp;
-      split = split;
-      vinl = l .vinl;
-      vinh = l .vinh;
-      vmeas = l .vmeas;
-      cref = l .cref;
-      rref = l .rref;
-      vref = l .vref;
-    }
+linesOver m comp split l = record { marks = m; comp = comp; split = split; levels = l }
 
 -- before the first line
 abbrev pub bareMarks : Marks
@@ -100,52 +88,55 @@ levelsAt n l w =
 abbrev pub firstLine : FirstLines → List ℕ → FirstLines
 firstLine f w =
     record {
-      kind = takes "Model_type" (wordLine modelTypes) (f .kind) w;
-      polarity = takes "Polarity" (wordLine polarities) (f .polarity) w;
-      enable = takes "Enable" (wordLine enables) (f .enable) w;
+      marks =
+          record {
+            kind = takes "Model_type" (wordLine modelTypes) (f .marks .kind) w;
+            polarity = takes "Polarity" (wordLine polarities) (f .marks .polarity) w;
+            enable = takes "Enable" (wordLine enables) (f .marks .enable) w;
+          };
       comp = takes "C_comp" cellsLine (f .comp) w;
       split = splitLine (f .split) w;
-      vinl = takes "Vinl" numberLine (f .vinl) w;
-      vinh = takes "Vinh" numberLine (f .vinh) w;
-      vmeas = takes "Vmeas" numberLine (f .vmeas) w;
-      cref = takes "Cref" numberLine (f .cref) w;
-      rref = takes "Rref" numberLine (f .rref) w;
-      vref = takes "Vref" numberLine (f .vref) w;
+      levels =
+          record {
+            vinl = takes "Vinl" numberLine (f .levels .vinl) w;
+            vinh = takes "Vinh" numberLine (f .levels .vinh) w;
+            vmeas = takes "Vmeas" numberLine (f .levels .vmeas) w;
+            cref = takes "Cref" numberLine (f .levels .cref) w;
+            rref = takes "Rref" numberLine (f .levels .rref) w;
+            vref = takes "Vref" numberLine (f .levels .vref) w;
+          };
     }
 
 unfoldable pub firstsOn : FirstLines → List (List ℕ) → FirstLines
 firstsOn f ls =
     record {
-      kind = lineSays "Model_type" (wordLine modelTypes) (f .kind) ls;
-      polarity = lineSays "Polarity" (wordLine polarities) (f .polarity) ls;
-      enable = lineSays "Enable" (wordLine enables) (f .enable) ls;
+      marks =
+          record {
+            kind = lineSays "Model_type" (wordLine modelTypes) (f .marks .kind) ls;
+            polarity = lineSays "Polarity" (wordLine polarities) (f .marks .polarity) ls;
+            enable = lineSays "Enable" (wordLine enables) (f .marks .enable) ls;
+          };
       comp = lineSays "C_comp" cellsLine (f .comp) ls;
       split = splitSays (f .split) ls;
-      vinl = lineSays "Vinl" numberLine (f .vinl) ls;
-      vinh = lineSays "Vinh" numberLine (f .vinh) ls;
-      vmeas = lineSays "Vmeas" numberLine (f .vmeas) ls;
-      cref = lineSays "Cref" numberLine (f .cref) ls;
-      rref = lineSays "Rref" numberLine (f .rref) ls;
-      vref = lineSays "Vref" numberLine (f .vref) ls;
+      levels =
+          record {
+            vinl = lineSays "Vinl" numberLine (f .levels .vinl) ls;
+            vinh = lineSays "Vinh" numberLine (f .levels .vinh) ls;
+            vmeas = lineSays "Vmeas" numberLine (f .levels .vmeas) ls;
+            cref = lineSays "Cref" numberLine (f .levels .cref) ls;
+            rref = lineSays "Rref" numberLine (f .levels .rref) ls;
+            vref = lineSays "Vref" numberLine (f .levels .vref) ls;
+          };
     }
 
 -- with the thresholds that the type takes where they are absent
+abbrev pub levelsOf : ModelType → Levels → Levels
+levelsOf kind l =
+    let t = thresholds kind (l .vinl) (l .vinh) in
+    record { vinl = t .vinl; vinh = t .vinh; vmeas = l .vmeas; cref = l .cref; rref = l .rref; vref = l .vref }
+
 abbrev pub defaulted : FirstLines → FirstLines
-defaulted f =
-    let t = thresholds (f .kind) (f .vinl) (f .vinh) in
-    record {
-      kind = f .kind;
-      polarity = f .polarity;
-      enable = f .enable;
-      comp = f .comp;
-      split = f .split;
-      vinl = t .vinl;
-      vinh = t .vinh;
-      vmeas = f .vmeas;
-      cref = f .cref;
-      rref = f .rref;
-      vref = f .vref;
-    }
+defaulted f = linesOver (f .marks) (f .comp) (f .split) (levelsOf (f .marks .kind) (f .levels))
 
 pub record FirstReadIs (s : List ℕ) (c : Cursor) (r : FirstRead) : Type 0 where
   pub lines : r .lines ≡ firstsOn bareLines (under (rest s c))

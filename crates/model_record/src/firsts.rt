@@ -7,7 +7,7 @@ ghost use Rattle.cut_lines.specs.Cursors.{Placed};
 ghost use Rattle.line_rules.specs.Fields.{wordLine, cellsLine};
 ghost use Rattle.line_rules.specs.Tables.{polarities, enables};
 ghost use Rattle.rules.specs.Reading.{noSplit};
-ghost use Rattle.model_record.specs.Firsts.{bareMarks, bareLevels, linesOver, marksAt, groupAt, splitAt, levelsAt, defaulted, FirstReadIs};
+ghost use Rattle.model_record.specs.Firsts.{bareMarks, bareLevels, marksAt, groupAt, splitAt, levelsAt, levelsOf, FirstReadIs};
 use crate::FirstLines;
 use crate::FirstRead;
 use crate::Levels;
@@ -165,33 +165,6 @@ fn no_levels() -> Levels
 
 // ---- the lines
 
-fn lines_over(m: Marks, comp: Triple, split: Split, l: Levels) -> FirstLines
-    ensures { λ r. ⌜ r ≡ linesOver m comp split l ⌝ }
-{
-    let kind = m.kind;
-    let polarity = m.polarity;
-    let enable = m.enable;
-    let vinl = l.vinl;
-    let vinh = l.vinh;
-    let vmeas = l.vmeas;
-    let cref = l.cref;
-    let rref = l.rref;
-    let vref = l.vref;
-    FirstLines {
-        kind: kind,
-        polarity: polarity,
-        enable: enable,
-        comp: comp,
-        split: split,
-        vinl: vinl,
-        vinh: vinh,
-        vmeas: vmeas,
-        cref: cref,
-        rref: rref,
-        vref: vref,
-    }
-}
-
 // The first lines of the model behind whose keyword a cursor stands. They are held in four parts: a line is copied into its own only.
 pub fn first_lines(src: &[u8], c: Cursor) -> FirstRead
     requires { ⌜ Placed (now src) c ⌝ }
@@ -217,7 +190,12 @@ pub fn first_lines(src: &[u8], c: Cursor) -> FirstRead
             }
             LineNext::NoLine { next } => {
                 return FirstRead {
-                    lines: lines_over(marks, comp, split, levels),
+                    lines: FirstLines {
+                        marks: marks,
+                        comp: comp,
+                        split: split,
+                        levels: levels,
+                    },
                     next: next,
                 };
             }
@@ -228,29 +206,19 @@ pub fn first_lines(src: &[u8], c: Cursor) -> FirstRead
 // ---- thresholds
 
 // The thresholds of its type, each where absent.
-pub(crate) fn with_defaults(f: FirstLines) -> FirstLines
-    ensures { λ r. ⌜ r ≡ defaulted f ⌝ }
+pub(crate) fn with_defaults(kind: ModelType, l: Levels) -> Levels
+    ensures { λ r. ⌜ r ≡ levelsOf kind l ⌝ }
 {
-    let kind = f.kind;
-    let polarity = f.polarity;
-    let enable = f.enable;
-    let comp = f.comp;
-    let split = f.split;
-    let vinl = f.vinl;
-    let vinh = f.vinh;
-    let vmeas = f.vmeas;
-    let cref = f.cref;
-    let rref = f.rref;
-    let vref = f.vref;
+    let vinl = l.vinl;
+    let vinh = l.vinh;
+    let vmeas = l.vmeas;
+    let cref = l.cref;
+    let rref = l.rref;
+    let vref = l.vref;
     let t = rules::types::thresholds(kind, vinl, vinh);
     let low = t.vinl;
     let high = t.vinh;
-    FirstLines {
-        kind: kind,
-        polarity: polarity,
-        enable: enable,
-        comp: comp,
-        split: split,
+    Levels {
         vinl: low,
         vinh: high,
         vmeas: vmeas,

@@ -36,17 +36,10 @@ pub struct Levels {
 
 // What the first lines say.
 pub struct FirstLines {
-    pub kind: ModelType,
-    pub polarity: Polarity,
-    pub enable: Enable,
+    pub marks: Marks,
     pub comp: Triple,
     pub split: Split,
-    pub vinl: Cell,
-    pub vinh: Cell,
-    pub vmeas: Cell,
-    pub cref: Cell,
-    pub rref: Cell,
-    pub vref: Cell,
+    pub levels: Levels,
 }
 
 // The first lines, and where the next keyword line stands.

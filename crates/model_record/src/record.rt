@@ -22,18 +22,19 @@ use records::Span;
 pub fn model_over(section: usize, start: usize, name: Name, lines: FirstLines, b: Body) -> Model
     ensures { λ r. ⌜ r ≡ modelOver section start name (defaulted lines) b ⌝ }
 {
-    let f = with_defaults(lines);
-    let kind = f.kind;
-    let polarity = f.polarity;
-    let enable = f.enable;
-    let comp = f.comp;
-    let split = f.split;
-    let vinl = f.vinl;
-    let vinh = f.vinh;
-    let vmeas = f.vmeas;
-    let cref = f.cref;
-    let rref = f.rref;
-    let vref = f.vref;
+    let marks = lines.marks;
+    let kind = marks.kind;
+    let polarity = marks.polarity;
+    let enable = marks.enable;
+    let comp = lines.comp;
+    let split = lines.split;
+    let levels = with_defaults(kind, lines.levels);
+    let vinl = levels.vinl;
+    let vinh = levels.vinh;
+    let vmeas = levels.vmeas;
+    let cref = levels.cref;
+    let rref = levels.rref;
+    let vref = levels.vref;
     let voltage = b.voltage;
     let temperature = b.temperature;
     let pulldown = b.pulldown;

@@ -1,10 +1,11 @@
 -- Records as words, in the order of their fields.
 use Prim.Native.Nat.{ℕ}
-use mathlib.Core.List.{List, [], _∷_, _++_, flatMap}
+use mathlib.Core.List.{List, [], _∷_, _++_}
 use Rattle.decimal.specs.Decimal.{wordOf}
 use Rattle.records.specs.Types.{typeNumber}
 use Rattle.records.specs.declared.Triple.{Triple}
 use Rattle.records.specs.declared.RampTriple.{RampTriple}
+use Rattle.records.specs.declared.RampTable.{RampTable}
 use Rattle.records.specs.declared.Range.{Range}
 use Rattle.records.specs.declared.Span.{Span}
 use Rattle.records.specs.declared.Table.{Table}
@@ -58,6 +59,9 @@ abbrev pub slopeWords : RampTriple → List ℕ
 slopeWords t =
     dividendWord (t .typ) ∷ divisorWord (t .typ) ∷ dividendWord (t .min) ∷ divisorWord (t .min) ∷ dividendWord (t .max) ∷ divisorWord (t .max) ∷ []
 
+abbrev pub rampWords : RampTable → List ℕ
+rampWords r = (flagNumber (r .given) ∷ slopeWords (r .rise)) ++ slopeWords (r .fall) ++ (wordOf (r .load) ∷ [])
+
 abbrev pub tableWords : Table → List ℕ
 tableWords t = flagNumber (t .given) ∷ spanWords (t .rows)
 
@@ -104,12 +108,8 @@ modelTables m =
     ++ tableWords (m .ground)
     ++ tableWords (m .power)
 
-abbrev pub modelRamp : Model → List ℕ
-modelRamp m =
-    (flagNumber (m .ramp .given) ∷ slopeWords (m .ramp .rise)) ++ slopeWords (m .ramp .fall) ++ (wordOf (m .ramp .load) ∷ spanWords (m .waveforms))
-
 abbrev pub modelWords : Model → List ℕ
-modelWords m = modelFirst m ++ modelSplit m ++ modelLevels m ++ modelTables m ++ modelRamp m
+modelWords m = modelFirst m ++ modelSplit m ++ modelLevels m ++ modelTables m ++ rampWords (m .ramp) ++ spanWords (m .waveforms)
 
 abbrev pub waveformWords : Waveform → List ℕ
 waveformWords w =

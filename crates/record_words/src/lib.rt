@@ -16,6 +16,8 @@ pub const RANGE_WORDS: usize = 1 + TRIPLE_WORDS;
 
 pub const SLOPE_WORDS: usize = 2 * TRIPLE_WORDS;
 
+pub const RAMP_WORDS: usize = 1 + 2 * SLOPE_WORDS + 1;
+
 pub const TABLE_WORDS: usize = 1 + SPAN_WORDS;
 
 // ---- each record, and the answer
@@ -36,11 +38,9 @@ pub const MODEL_LEVELS_WORDS: usize = 6 + TRIPLE_WORDS + RANGE_WORDS;
 
 pub const MODEL_TABLES_WORDS: usize = 4 * TABLE_WORDS;
 
-pub const MODEL_RAMP_WORDS: usize = 1 + 2 * SLOPE_WORDS + 1 + SPAN_WORDS;
-
 pub const MODEL_LINES_WORDS: usize = MODEL_FIRST_WORDS + MODEL_SPLIT_WORDS + MODEL_LEVELS_WORDS;
 
-pub const MODEL_WORDS: usize = MODEL_LINES_WORDS + MODEL_TABLES_WORDS + MODEL_RAMP_WORDS;
+pub const MODEL_WORDS: usize = MODEL_LINES_WORDS + MODEL_TABLES_WORDS + RAMP_WORDS + SPAN_WORDS;
 
 pub const WAVEFORM_WORDS: usize = 10 + SPAN_WORDS;
 

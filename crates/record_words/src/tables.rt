@@ -1,15 +1,15 @@
 // Records as words, in the order of their fields.
 ghost use mathlib.Core.Path.{_≡_};
-ghost use Rattle.record_words.specs.Records.{nameWords, textWords, tripleWords, rangeWords, slopeWords, tableWords, componentWords, pinWords, selectorWords, choiceWords, modelFirst, modelSplit, modelLevels, modelTables, modelRamp, waveformWords};
+ghost use Rattle.record_words.specs.Records.{nameWords, textWords, tripleWords, rangeWords, slopeWords, rampWords, tableWords, componentWords, pinWords, selectorWords, choiceWords, modelFirst, modelSplit, modelLevels, modelTables, waveformWords};
 use crate::CHOICE_WORDS;
 use crate::COMPONENT_WORDS;
 use crate::MODEL_FIRST_WORDS;
 use crate::MODEL_LEVELS_WORDS;
-use crate::MODEL_RAMP_WORDS;
 use crate::MODEL_SPLIT_WORDS;
 use crate::MODEL_TABLES_WORDS;
 use crate::NAME_WORDS;
 use crate::PIN_WORDS;
+use crate::RAMP_WORDS;
 use crate::RANGE_WORDS;
 use crate::SELECTOR_WORDS;
 use crate::SLOPE_WORDS;
@@ -34,6 +34,7 @@ use records::Component;
 use records::Model;
 use records::Name;
 use records::Pin;
+use records::RampTable;
 use records::RampTriple;
 use records::Range;
 use records::Selector;
@@ -93,7 +94,7 @@ fn range_words(r: Range) -> [u64; RANGE_WORDS]
     [flag_number(r.given), c[0], c[1], c[2]]
 }
 
-pub fn slope_words(t: RampTriple) -> [u64; SLOPE_WORDS]
+fn slope_words(t: RampTriple) -> [u64; SLOPE_WORDS]
     ensures { λ r. ⌜ r ≡ slopeWords t ⌝ }
 {
     let typ = t.typ;
@@ -106,6 +107,30 @@ pub fn slope_words(t: RampTriple) -> [u64; SLOPE_WORDS]
         divisor_word(min),
         dividend_word(max),
         divisor_word(max),
+    ]
+}
+
+pub fn ramp_words(ramp: RampTable) -> [u64; RAMP_WORDS]
+    ensures { λ w. ⌜ w ≡ rampWords ramp ⌝ }
+{
+    let r = slope_words(ramp.rise);
+    let f = slope_words(ramp.fall);
+    let load = ramp.load;
+    [
+        flag_number(ramp.given),
+        r[0],
+        r[1],
+        r[2],
+        r[3],
+        r[4],
+        r[5],
+        f[0],
+        f[1],
+        f[2],
+        f[3],
+        f[4],
+        f[5],
+        word_of(load),
     ]
 }
 
@@ -243,7 +268,7 @@ pub fn choice_words(c: Choice) -> [u64; CHOICE_WORDS]
     ]
 }
 
-// A model in five parts: its name, type and C_comp,
+// A model's parts before its ramp: its name, type and C_comp,
 pub fn model_first(m: Model) -> [u64; MODEL_FIRST_WORDS]
     ensures { λ r. ⌜ r ≡ modelFirst m ⌝ }
 {
@@ -326,7 +351,7 @@ pub fn model_levels(m: Model) -> [u64; MODEL_LEVELS_WORDS]
     ]
 }
 
-// its current tables,
+// its current tables.
 pub fn model_tables(m: Model) -> [u64; MODEL_TABLES_WORDS]
     ensures { λ r. ⌜ r ≡ modelTables m ⌝ }
 {
@@ -347,34 +372,6 @@ pub fn model_tables(m: Model) -> [u64; MODEL_TABLES_WORDS]
         p[0],
         p[1],
         p[2],
-    ]
-}
-
-// its ramp and waveforms.
-pub fn model_ramp(m: Model) -> [u64; MODEL_RAMP_WORDS]
-    ensures { λ r. ⌜ r ≡ modelRamp m ⌝ }
-{
-    let ramp = m.ramp;
-    let r = slope_words(ramp.rise);
-    let f = slope_words(ramp.fall);
-    let load = ramp.load;
-    [
-        flag_number(ramp.given),
-        r[0],
-        r[1],
-        r[2],
-        r[3],
-        r[4],
-        r[5],
-        f[0],
-        f[1],
-        f[2],
-        f[3],
-        f[4],
-        f[5],
-        word_of(load),
-        m.waveforms.start as u64,
-        m.waveforms.count as u64,
     ]
 }
 

@@ -21,6 +21,7 @@ use Rattle.model_record.specs.Bodies.{bareBody, bodyOn, modelOver}
 use Rattle.model_record.specs.declared.Body.{Body}
 use Rattle.model_record.specs.declared.FirstLines.{FirstLines}
 use Rattle.model_record.proofs.BodyLaws.{model-is}
+use Rattle.section_words.specs.Parts.{waveformsFrom}
 use Rattle.section_words.specs.Models.{uncounted, modelBehind, BodyFills}
 use Rattle.section_words.specs.declared.Used.{Used}
 use Rattle.section_words.proofs.Laws.{sets-front}
@@ -52,13 +53,13 @@ module _ (s : List ℕ) (c : Cursor) (section row start : ℕ) (name model : Lis
 
   pub counted-lies : {n : Cursor} → StopsAt s c n → (m m' : List ℕ) {waves waves' store store' : List ℕ} {used : Used} → m ≡ sets model 0 (modelWords (with-body (bareBody row)))
       → BodyFills (rest s n) row m m' waves waves' store store' used
-      → set m' 69 (used .waveforms / waveformSize) ≡ over model (modelWords (modelBehind section row start name (rest s c)))
+      → set m' (waveformsFrom + 1) (used .waveforms / waveformSize) ≡ over model (modelWords (modelBehind section row start name (rest s c)))
   unfolding over
   counted-lies {n} h m m' {used = used} e f =
       let inside = front isWithin (rest s n) in
       let b = bodyOn (bareBody row) inside in
       let k : used .waveforms / waveformSize ≡ b .waveforms = omega (arith, f .waveforms .used, waveforms-length (waveformsLaid (tablesIn inside) row), count-is row inside) in
-      ap (λ (l : List ℕ). set l 69 (used .waveforms / waveformSize)) (f .turns section start (nameLaid name) lines (drop modelSize model) (bare-lies m e))
-      ∙ ap (λ (i : ℕ). set (modelWords (with-body (uncounted b)) ++ drop modelSize model) 69 i) k
+      ap (λ (l : List ℕ). set l (waveformsFrom + 1) (used .waveforms / waveformSize)) (f .turns section start (nameLaid name) lines (drop modelSize model) (bare-lies m e))
+      ∙ ap (λ (i : ℕ). set (modelWords (with-body (uncounted b)) ++ drop modelSize model) (waveformsFrom + 1) i) k
       ∙ ap (λ (x : Body). modelWords (with-body x) ++ drop modelSize model) (sym (body-ahead h row))
       ∙ ap (λ (x : Model). modelWords x ++ drop modelSize model) (model-is row start section name (rest s c))

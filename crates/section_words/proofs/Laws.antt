@@ -15,16 +15,17 @@ sets-append t (x ∷ v) w a =
     let e : a + length (x ∷ v) ≡ suc a + length v = omega arith in
     rw e (sets-append (set t a x) v w (suc a))
 
--- and in three
+-- n words stand at a, and the next part is written behind them
+pub sets-more : (t t₁ t₂ x v y : List ℕ) (a n : ℕ) → t₁ ≡ sets t a x → t₂ ≡ sets t₁ (a + n) v → v ≡ y → n ≡ length x → t₂ ≡ sets t a (x ++ y)
+sets-more t t₁ t₂ x v y a n first second is-y e =
+    second ∙ ap₂ (λ (s r : List ℕ). sets s (a + n) r) first is-y ∙ ap (λ (i : ℕ). sets (sets t a x) (a + i) y) e ∙ sets-append t x y a
+
+-- in three parts
 module _ (t t₁ t₂ t₃ u v w x y z : List ℕ) (a m n : ℕ) where
   pub sets-three : t₁ ≡ sets t a u → t₂ ≡ sets t₁ (a + m) v → t₃ ≡ sets t₂ (a + n) w → u ≡ x → v ≡ y → w ≡ z → m ≡ length x → n ≡ length x + length y
       → t₃ ≡ sets t a ((x ++ y) ++ z)
   sets-three first second third is-x is-y is-z e f =
-      let k : a + n ≡ a + length (x ++ y) = omega (arith, f, length-append x y) in
-      third
-      ∙ ap₂ (λ (s r : List ℕ). sets s (a + n) r) (second ∙ ap₂ (λ (s r : List ℕ). sets s (a + m) r) (first ∙ ap (sets t a) is-x) is-y ∙ ap (λ (i : ℕ). sets (sets t a x) (a + i) y) e ∙ sets-append t x y a) is-z
-      ∙ ap (λ (i : ℕ). sets (sets t a (x ++ y)) i z) k
-      ∙ sets-append t (x ++ y) z a
+      sets-more t t₂ t₃ (x ++ y) w z a n (sets-more t t₁ t₂ x v y a m (first ∙ ap (sets t a) is-x) second is-y e) third is-z (f ∙ sym (length-append x y))
 
 -- v is written behind a
 pub over-sets : (t a v : List ℕ) (n : ℕ) → n ≡ length a → length a + length v ≤ length t → sets (over t a) n v ≡ over t (a ++ v)

@@ -15,10 +15,10 @@ use Rattle.records.specs.declared.Table.{Table}
 use Rattle.records.specs.declared.Triple.{Triple}
 use Rattle.rules.specs.Reading.{rampIn}
 use Rattle.record_words.specs.Values.{flagNumber}
-use Rattle.record_words.specs.Records.{tripleWords, rangeWords, tableWords, modelWords}
+use Rattle.record_words.specs.Records.{tripleWords, rangeWords, rampWords, tableWords, modelWords}
 use Rattle.model_record.specs.Bodies.{withTable, partOn, modelOver}
 use Rattle.model_record.specs.declared.Body.{Body}
-use Rattle.section_words.specs.Parts.{tableFrom, rampWords}
+use Rattle.section_words.specs.Parts.{voltageFrom, temperatureFrom, tableFrom, rampFrom}
 use Rattle.section_words.specs.Models.{uncounted, Turns}
 
 -- a table is written unless it was given; X is the record with its three words
@@ -29,14 +29,14 @@ flagged X true s c row n = refl
 flagged X false s c row n = refl
 
 module _ (b : Body) (cells : Triple) (w : List ℕ) (ls : List (List ℕ)) (k : ℕ) (model : List ℕ) where
-  pub voltage-turns : Turns model (sets model 35 (tripleWords cells)) b (partOn b VoltageRange cells (rampIn w ls) k)
-  voltage-turns n start name f behind e = ap (λ (l : List ℕ). sets l 35 (tripleWords cells)) e
+  pub voltage-turns : Turns model (sets model voltageFrom (tripleWords cells)) b (partOn b VoltageRange cells (rampIn w ls) k)
+  voltage-turns n start name f behind e = ap (λ (l : List ℕ). sets l voltageFrom (tripleWords cells)) e
 
-  pub temperature-turns : Turns model (sets model 38 (rangeWords (record { given = true; cells = cells }))) b (partOn b TemperatureRange cells (rampIn w ls) k)
-  temperature-turns n start name f behind e = ap (λ (l : List ℕ). sets l 38 (rangeWords (record { given = true; cells = cells }))) e
+  pub temperature-turns : Turns model (sets model temperatureFrom (rangeWords (record { given = true; cells = cells }))) b (partOn b TemperatureRange cells (rampIn w ls) k)
+  temperature-turns n start name f behind e = ap (λ (l : List ℕ). sets l temperatureFrom (rangeWords (record { given = true; cells = cells }))) e
 
-  pub ramp-turns : Turns model (sets model 54 (rampWords (rampIn [] ls))) b (partOn b Ramp cells (rampIn w ls) k)
-  ramp-turns n start name f behind e = ap (λ (l : List ℕ). sets l 54 (rampWords (rampIn [] ls))) e
+  pub ramp-turns : Turns model (sets model rampFrom (rampWords (rampIn [] ls))) b (partOn b Ramp cells (rampIn w ls) k)
+  ramp-turns n start name f behind e = ap (λ (l : List ℕ). sets l rampFrom (rampWords (rampIn [] ls))) e
 
   pub wave-turns : (e : Edge) → Turns model model b (partOn b (Waveform e) cells (rampIn w ls) k)
   wave-turns e n start name f behind i = i
@@ -48,13 +48,13 @@ module _ (b : Body) (cells : Triple) (w : List ℕ) (ls : List (List ℕ)) (k : 
   pub current-turns : (t : CurrentTable) → Turns model (spanned model (tableFrom t) (b .row)) b (partOn b (Current t) cells (rampIn w ls) k)
   current-turns Pulldown n start name f behind e =
       let u = b .pulldown in
-      ap (λ (l : List ℕ). spanned l 42 (b .row)) e ∙ flagged (sets (modelWords (modelOver n start name f (uncounted b)) ++ behind) 42) (u .given) (u .rows .start) (u .rows .count) (b .row) k
+      ap (λ (l : List ℕ). spanned l (tableFrom Pulldown) (b .row)) e ∙ flagged (sets (modelWords (modelOver n start name f (uncounted b)) ++ behind) (tableFrom Pulldown)) (u .given) (u .rows .start) (u .rows .count) (b .row) k
   current-turns Pullup n start name f behind e =
       let u = b .pullup in
-      ap (λ (l : List ℕ). spanned l 45 (b .row)) e ∙ flagged (sets (modelWords (modelOver n start name f (uncounted b)) ++ behind) 45) (u .given) (u .rows .start) (u .rows .count) (b .row) k
+      ap (λ (l : List ℕ). spanned l (tableFrom Pullup) (b .row)) e ∙ flagged (sets (modelWords (modelOver n start name f (uncounted b)) ++ behind) (tableFrom Pullup)) (u .given) (u .rows .start) (u .rows .count) (b .row) k
   current-turns GndClamp n start name f behind e =
       let u = b .ground in
-      ap (λ (l : List ℕ). spanned l 48 (b .row)) e ∙ flagged (sets (modelWords (modelOver n start name f (uncounted b)) ++ behind) 48) (u .given) (u .rows .start) (u .rows .count) (b .row) k
+      ap (λ (l : List ℕ). spanned l (tableFrom GndClamp) (b .row)) e ∙ flagged (sets (modelWords (modelOver n start name f (uncounted b)) ++ behind) (tableFrom GndClamp)) (u .given) (u .rows .start) (u .rows .count) (b .row) k
   current-turns PowerClamp n start name f behind e =
       let u = b .power in
-      ap (λ (l : List ℕ). spanned l 51 (b .row)) e ∙ flagged (sets (modelWords (modelOver n start name f (uncounted b)) ++ behind) 51) (u .given) (u .rows .start) (u .rows .count) (b .row) k
+      ap (λ (l : List ℕ). spanned l (tableFrom PowerClamp) (b .row)) e ∙ flagged (sets (modelWords (modelOver n start name f (uncounted b)) ++ behind) (tableFrom PowerClamp)) (u .given) (u .rows .start) (u .rows .count) (b .row) k

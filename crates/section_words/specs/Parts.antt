@@ -1,16 +1,14 @@
 -- What a keyword says of a model, as words of its record.
-use Prim.Native.Nat.{ℕ}
-use mathlib.Core.List.{List, [], _∷_, _++_}
+use Prim.Native.Nat.{ℕ, _+_}
+use mathlib.Core.List.{List}
 use mathlib.Core.Bool.{true}
 use Rattle.laws.specs.Said.{orElse}
-use Rattle.decimal.specs.Decimal.{wordOf}
 use Rattle.words.specs.Words.{words}
 use Rattle.keywords.specs.declared.CurrentTable.{CurrentTable}
 use Rattle.keywords.specs.declared.CurrentTable.the-variants.{Pulldown, Pullup, GndClamp, PowerClamp}
 use Rattle.line_rules.specs.Fields.{threeCells}
 use Rattle.records.specs.Stored.{noCells}
-use Rattle.records.specs.declared.RampTable.{RampTable}
-use Rattle.record_words.specs.Records.{tripleWords, rangeWords, slopeWords}
+use Rattle.record_words.specs.Records.{tripleWords, rangeWords}
 
 -- w is the keyword's argument
 abbrev pub voltageSaid : List ℕ → List ℕ
@@ -19,13 +17,24 @@ voltageSaid w = tripleWords (orElse noCells (threeCells (words w)))
 abbrev pub temperatureSaid : List ℕ → List ℕ
 temperatureSaid w = rangeWords (record { given = true; cells = orElse noCells (threeCells (words w)) })
 
--- a ramp that is given
-abbrev pub rampWords : RampTable → List ℕ
-rampWords r = (1 ∷ slopeWords (r .rise)) ++ slopeWords (r .fall) ++ (wordOf (r .load) ∷ [])
+-- ---- where each begins in the record
 
--- where a table's three words begin
+-- behind what the first lines say
+abbrev pub voltageFrom : ℕ
+voltageFrom = 35
+
+abbrev pub temperatureFrom : ℕ
+temperatureFrom = voltageFrom + 3
+
+-- a range has four words, a table three
 abbrev pub tableFrom : CurrentTable → ℕ
-tableFrom Pulldown = 42
-tableFrom Pullup = 45
-tableFrom GndClamp = 48
-tableFrom PowerClamp = 51
+tableFrom Pulldown = temperatureFrom + 4
+tableFrom Pullup = temperatureFrom + 7
+tableFrom GndClamp = temperatureFrom + 10
+tableFrom PowerClamp = temperatureFrom + 13
+
+abbrev pub rampFrom : ℕ
+rampFrom = tableFrom PowerClamp + 3
+
+abbrev pub waveformsFrom : ℕ
+waveformsFrom = rampFrom + 14

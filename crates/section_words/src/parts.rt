@@ -9,8 +9,8 @@ ghost use lib.Seq.{sets};
 ghost use Rattle.cut_lines.specs.Cursors.{rest, Placed};
 ghost use Rattle.lines_under.specs.Under.{StopsAt};
 ghost use Rattle.rules.specs.Reading.{under, rampIn};
-ghost use Rattle.record_words.specs.Records.{modelSize};
-ghost use Rattle.section_words.specs.Parts.{voltageSaid, temperatureSaid, tableFrom, rampWords};
+ghost use Rattle.record_words.specs.Records.{rampWords, modelSize};
+ghost use Rattle.section_words.specs.Parts.{voltageSaid, temperatureSaid, voltageFrom, temperatureFrom, tableFrom, rampFrom};
 use crate::puts::LEVELS_FROM;
 use crate::puts::RAMP_FROM;
 use crate::puts::put;
@@ -21,9 +21,8 @@ use model_record::ramps::ramp_lines;
 use record_words::MODEL_LINES_WORDS;
 use record_words::RANGE_WORDS;
 use record_words::TABLE_WORDS;
-use record_words::tables::slope_words;
+use record_words::tables::ramp_words;
 use record_words::tables::triple_words;
-use records::RampTable;
 
 // The voltage range stands behind six numbers.
 const VOLTAGE_FROM: usize = LEVELS_FROM + 6;
@@ -32,7 +31,7 @@ const TEMPERATURE_FROM: usize = MODEL_LINES_WORDS - RANGE_WORDS;
 
 pub(crate) fn fill_voltage(model: &mut [u64], argument: &[u8])
     requires { ⌜ modelSize ≤ length (now model) ⌝ }
-    ensures { λ _. ⌜ now (model .exit) ≡ sets (now (model .entry)) 35 (voltageSaid (now (argument .entry))) ⌝ }
+    ensures { λ _. ⌜ now (model .exit) ≡ sets (now (model .entry)) voltageFrom (voltageSaid (now (argument .entry))) ⌝ }
 {
     let cells = triple_words(cells_of(argument));
     put(model, VOLTAGE_FROM, &cells);
@@ -40,7 +39,7 @@ pub(crate) fn fill_voltage(model: &mut [u64], argument: &[u8])
 
 pub(crate) fn fill_temperature(model: &mut [u64], argument: &[u8])
     requires { ⌜ modelSize ≤ length (now model) ⌝ }
-    ensures { λ _. ⌜ now (model .exit) ≡ sets (now (model .entry)) 38 (temperatureSaid (now (argument .entry))) ⌝ }
+    ensures { λ _. ⌜ now (model .exit) ≡ sets (now (model .entry)) temperatureFrom (temperatureSaid (now (argument .entry))) ⌝ }
 {
     let cells = triple_words(cells_of(argument));
     let range = [1, cells[0], cells[1], cells[2]];
@@ -71,40 +70,15 @@ pub(crate) fn fill_span(model: &mut [u64], at: usize, row: usize, count: usize)
     }
 }
 
-fn put_ramp(model: &mut [u64], ramp: RampTable)
-    requires { ⌜ modelSize ≤ length (now model) ⌝ }
-    ensures { λ _. ⌜ now (model .exit) ≡ sets (now (model .entry)) 54 (rampWords ramp) ⌝ }
-{
-    let r = slope_words(ramp.rise);
-    let f = slope_words(ramp.fall);
-    let load = ramp.load;
-    let words = [
-        1,
-        r[0],
-        r[1],
-        r[2],
-        r[3],
-        r[4],
-        r[5],
-        f[0],
-        f[1],
-        f[2],
-        f[3],
-        f[4],
-        f[5],
-        decimal::word_of(load),
-    ];
-    put(model, RAMP_FROM, &words);
-}
-
 // The lines of [Ramp]; it answers where the next keyword line stands.
 pub(crate) fn fill_ramp(model: &mut [u64], src: &[u8], c: Cursor) -> Cursor
     requires { ⌜ Placed (now src) c × (modelSize ≤ length (now model)) ⌝ }
-    ensures { λ r. ⌜ now (model .exit) ≡ sets (now (model .entry)) 54 (rampWords (rampIn [] (under (rest (now (src .entry)) c)))) ⌝ }
+    ensures { λ r. ⌜ now (model .exit) ≡ sets (now (model .entry)) rampFrom (rampWords (rampIn [] (under (rest (now (src .entry)) c)))) ⌝ }
     ensures { λ r. ⌜ StopsAt (now (src .entry)) c r ⌝ }
 {
     let read = ramp_lines(src, c);
     let next = read.next;
-    put_ramp(model, read.ramp);
+    let words = ramp_words(read.ramp);
+    put(model, RAMP_FROM, &words);
     next
 }

@@ -9,17 +9,20 @@ use record_words::MODEL_FIRST_WORDS;
 use record_words::MODEL_LINES_WORDS;
 use record_words::MODEL_SPLIT_WORDS;
 use record_words::MODEL_TABLES_WORDS;
+use record_words::RAMP_WORDS;
 use record_words::tables::model_first;
 use record_words::tables::model_levels;
-use record_words::tables::model_ramp;
 use record_words::tables::model_split;
 use record_words::tables::model_tables;
+use record_words::tables::ramp_words;
 use records::Model;
 
-// Where a model's numbers and its ramp begin.
+// Where a model's numbers, its ramp and its waveforms' span begin.
 pub(crate) const LEVELS_FROM: usize = MODEL_FIRST_WORDS + MODEL_SPLIT_WORDS;
 
 pub(crate) const RAMP_FROM: usize = MODEL_LINES_WORDS + MODEL_TABLES_WORDS;
+
+const WAVEFORMS_FROM: usize = RAMP_FROM + RAMP_WORDS;
 
 pub fn put(out: &mut [u64], at: usize, words: &[u64])
     requires { ⌜ at + length (now words) ≤ length (now out) ⌝ }
@@ -50,8 +53,10 @@ pub(crate) fn put_model(out: &mut [u64], at: usize, m: Model)
     ensures { λ _. ⌜ now (out .exit) ≡ sets (now (out .entry)) at (modelWords m) ⌝ }
 {
     let tables = model_tables(m);
-    let ramp = model_ramp(m);
+    let ramp = ramp_words(m.ramp);
+    let waveforms = [m.waveforms.start as u64, m.waveforms.count as u64];
     put_model_lines(out, at, m);
     put(out, at + MODEL_LINES_WORDS, &tables);
     put(out, at + RAMP_FROM, &ramp);
+    put(out, at + WAVEFORMS_FROM, &waveforms);
 }

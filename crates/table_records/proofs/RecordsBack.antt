@@ -28,8 +28,8 @@ use Rattle.records.specs.declared.Waveform.{Waveform}
 use Rattle.records.specs.declared.Range.{Range}
 use Rattle.records.specs.declared.Split.{Split}
 use Rattle.records.specs.declared.RampTable.{RampTable}
-use Rattle.record_words.specs.Values.{flagNumber, dividendWord, divisorWord}
-use Rattle.record_words.specs.Records.{spanWords, tripleWords, rangeWords, slopeWords, tableWords, componentWords, pinWords, selectorWords, choiceWords, modelWords, waveformWords}
+use Rattle.record_words.specs.Values.{dividendWord, divisorWord}
+use Rattle.record_words.specs.Records.{spanWords, tripleWords, rangeWords, slopeWords, rampWords, tableWords, componentWords, pinWords, selectorWords, choiceWords, modelWords, waveformWords}
 use Rattle.table_records.specs.declared.StoredRow.the-variants.{Kept}
 use Rattle.table_records.specs.Values.{cellAt, slopeIn}
 use Rattle.table_records.specs.Records.{spanFrom, tripleFrom, slopesFrom, tableFrom, rangeFrom, splitFrom, rampFrom, componentFrom, pinFrom, selectorFrom, choiceFrom, modelFrom, waveformFrom, asRow, rowFrom}
@@ -98,7 +98,7 @@ unfolding splitFrom
 split-back s rest f =
     rw (range-back (s .pullup) (rangeWords (s .pulldown) ++ (rangeWords (s .power) ++ (rangeWords (s .ground) ++ rest))) (f .pullup), range-back (s .pulldown) (rangeWords (s .power) ++ (rangeWords (s .ground) ++ rest)) (f .pulldown), range-back (s .power) (rangeWords (s .ground) ++ rest) (f .power), range-back (s .ground) rest (f .ground)) refl
 
-ramp-back : (r : RampTable) (rest : List ℕ) → FineSlopes (r .rise) → FineSlopes (r .fall) → FineCell (r .load) → rampFrom (flagNumber (r .given) ∷ (slopeWords (r .rise) ++ (slopeWords (r .fall) ++ (wordOf (r .load) ∷ rest)))) ≡ r
+ramp-back : (r : RampTable) (rest : List ℕ) → FineSlopes (r .rise) → FineSlopes (r .fall) → FineCell (r .load) → rampFrom (rampWords r ++ rest) ≡ r
 unfolding rampFrom cellAt
 ramp-back r rest rise fall load =
     rw (flag-back (r .given), slopes-back (r .rise) (slopeWords (r .fall) ++ (wordOf (r .load) ∷ rest)) rise, slopes-back (r .fall) (wordOf (r .load) ∷ rest) fall, kept (r .load) load) refl

@@ -14,7 +14,6 @@ use Rattle.model_record.proofs.firsts.first_lines.Lts as lts
 use Rattle.lines_under.proofs.next_line.Reads as next-line-reads
 use Rattle.model_record.proofs.firsts.comp_after.Reads as comp-after-reads
 use Rattle.model_record.proofs.firsts.levels_after.Reads as levels-after-reads
-use Rattle.model_record.proofs.firsts.lines_over.Reads as lines-over-reads
 use Rattle.model_record.proofs.firsts.marks_after.Reads as marks-after-reads
 use Rattle.model_record.proofs.firsts.no_levels.Reads as no-levels-reads
 use Rattle.model_record.proofs.firsts.no_marks.Reads as no-marks-reads
@@ -159,13 +158,10 @@ loop-again-5 c =
 enum-known-next : tie.Need-enum-known-next Inv-loop μ-loop
 enum-known-next c = search needs
 
-lines-over-requires : tie.Need-lines-over-requires Inv-loop μ-loop
-lines-over-requires c κs = tt
-
 returns : tie.Need-returns Inv-loop μ-loop
 returns c =
-    let g = gathers-end (c .before .before .before .before .before .loop .inv) (c .before .before .next .given .1) (c .before .before .before .before .next-line .ensures) in
-    record { lines = c .lines-over .ensures ∙ (rw (c .before .before .before .before .before .before .before .before .before .no-marks .ensures, c .before .before .before .before .before .before .before .before .no-cells .ensures, c .before .before .before .before .before .before .before .no-split .ensures, c .before .before .before .before .before .before .no-levels .ensures) at (g .whole)); stops = g .stops }
+    let g = gathers-end (c .before .before .before .before .loop .inv) (c .before .next .given .1) (c .before .before .before .next-line .ensures) in
+    record { lines = (rw (c .before .before .before .before .before .before .before .before .no-marks .ensures, c .before .before .before .before .before .before .before .no-cells .ensures, c .before .before .before .before .before .before .no-split .ensures, c .before .before .before .before .before .no-levels .ensures) at (g .whole)); stops = g .stops }
 
 pub first-lines-spec : {M : Type 1} → statement M
 first-lines-spec =
@@ -213,5 +209,4 @@ first-lines-spec =
     loop-less-5
     loop-again-5
     enum-known-next
-    lines-over-requires
     returns)
