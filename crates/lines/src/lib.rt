@@ -331,10 +331,10 @@ fn text_stop(s: &[u8], at: usize, comment: u8) -> usize
 {
     let mut i = at;
     while 8 <= s.len() - i {
-        if !eight_without(s, i, b'\n') {
+        if !eight_without(s, i, comment) {
             return text_stop_slowly(s, i, comment);
         }
-        if !eight_without(s, i, comment) {
+        if !eight_without(s, i, b'\n') {
             return text_stop_slowly(s, i, comment);
         }
         i += 8;

@@ -49,9 +49,9 @@ loop-less c = search needs
 loop-again : tie.Need-loop-again Inv-loop μ-loop
 loop-again c =
     let w = c .before .before .before .before .before .loop .inv in
-    let lf = c .before .before .before .eight-without in
-    let mark = c .before .eight-without2 in
-    (scan-eight (other 10) _ _ _ (w .0) (omega arith) (lf .ensures (not-false (lf .result) (c .before .before .if1 .left))), scan-eight (other _) _ _ _ (w .1) (omega arith) (mark .ensures (not-false (mark .result) (c .if2 .left))))
+    let mark = c .before .before .before .eight-without in
+    let lf = c .before .eight-without2 in
+    (scan-eight (other 10) _ _ _ (w .0) (omega arith) (lf .ensures (not-false (lf .result) (c .if2 .left))), scan-eight (other _) _ _ _ (w .1) (omega arith) (mark .ensures (not-false (mark .result) (c .before .before .if1 .left))))
 
 text-stop-slowly-requires-3 : tie.Need-text-stop-slowly-requires-3 Inv-loop μ-loop
 text-stop-slowly-requires-3 c κs = search needs
