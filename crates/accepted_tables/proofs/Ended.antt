@@ -2,18 +2,18 @@
 use Prim.Native.Nat.{ℕ, _+_, _≤_}
 use mathlib.Core.Path.{_≡_, refl, sym, ap, subst, _∙_}
 use mathlib.Core.List.{List, [], _∷_, map}
-use mathlib.Core.Bool.{Bool, true, false, cond}
+use mathlib.Core.Bool.{Bool, true, false}
 use native.Mathlib.Omega.{arith}
 use lib.ListN.{length}
 use lib.Dec.{eqb}
 use borrow.Author.Tests.{eqb-false}
-use Rattle.laws.specs.Said.{Said, says, fault}
+use Rattle.laws.specs.Said.{says, fault}
 use Rattle.laws.proofs.Tests.{by-test, cond-all, cond-yes, cond-no, never, impossible}
 use Rattle.cut_lines.specs.Texts.{Text, plain, change}
 use Rattle.line_rules.specs.Fields.{isBracketed}
 use Rattle.rules.specs.Outline.{Entry, is, count}
 use Rattle.rules.specs.Steps.{isEnded, onPlain, onChange, onText}
-use Rattle.rules.specs.Whole.{Held, Outcome, passed, refused, admit, textOf, lineOf, runs}
+use Rattle.rules.specs.Whole.{Held, passed, refused, admit, textOf, lineOf, runs}
 use Rattle.records.specs.declared.Kind.the-variants.{OfComponent}
 use Rattle.records.specs.declared.Lengths.{Lengths}
 use Rattle.rules.specs.declared.Stage.{Stage}
@@ -21,7 +21,7 @@ use Rattle.rules.specs.declared.Stage.the-variants.{BeforeVersion, InHeader, In
 use Rattle.rules.specs.declared.Event.{Event}
 use Rattle.rules.specs.declared.Event.the-variants.{Quiet, Opened, PinRow, ChoiceRow, WaveformOpened, TableRow, Ended}
 use Rattle.notes.specs.Noted.{Note, entryOf}
-use Rattle.layout_by_notes.specs.Lies.{pick, isOf}
+use Rattle.layout_by_notes.specs.Lies.{pick}
 use Rattle.layout_by_notes.proofs.Goes.{Goes}
 use Rattle.accepted_tables.proofs.Checks.{past-refuse, gone, stepped}
 use Rattle.accepted_tables.proofs.Events.{Names, text-goes}

@@ -27,8 +27,8 @@ use Rattle.given.specs.Given.{noneGiven, has, with}
 use Rattle.given.specs.declared.Given.{Given}
 use Rattle.given.proofs.Laws.{has-other}
 use Rattle.rules.specs.Going.{quietly, andThen}
-use Rattle.rules.specs.Header.{version, headerPlace, headerFault, headerPart, headerLine, headerShut, headerDone}
-use Rattle.rules.specs.Steps.{shut, done, opened, onVersion, onKeyword, keyed, onPlain, onChange, onText}
+use Rattle.rules.specs.Header.{version, headerPlace, headerFault, headerPart, headerLine, headerDone}
+use Rattle.rules.specs.Steps.{done, opened, onVersion, onKeyword, keyed, onPlain, onChange, onText}
 use Rattle.rules.specs.Reading.{keySays, isWithin, headerSays}
 use Rattle.rules.specs.Keys.{keyAt, isEnd}
 use Rattle.rules.proofs.Keys.{says-skip, says-key}

@@ -11,7 +11,6 @@ use record_words::COMPONENT_WORDS;
 use record_words::MODEL_WORDS;
 use record_words::SELECTOR_WORDS;
 use records::Answer;
-use records::Counts;
 use records::Verdict;
 use sections::put_sections;
 

@@ -6,7 +6,7 @@ use mathlib.Core.Bool.{_&&_}
 use lib.ListN.{length, drop}
 use lib.Dec.{eqb}
 use Rattle.laws.specs.Lists.{among, eqs}
-use Rattle.laws.specs.Said.{Said, says, fault, readOn}
+use Rattle.laws.specs.Said.{Said, says, fault}
 use Rattle.laws.proofs.Tests.{cond-all}
 use Rattle.decimal.specs.Decimal.{numberOf, givenCell, cellOf, isMissing}
 use Rattle.decimal.specs.Fine.{Fine, FineNumber, FineCell, FineRead}

@@ -1,11 +1,11 @@
 -- The record at a place is the one that was written there, and its words read back as itself.
 use Prim.Native.Nat.{ℕ, zero, suc, _<_}
-use mathlib.Core.Path.{_≡_, refl, ap, ap₂, _∙_, subst, sym}
+use mathlib.Core.Path.{_≡_, refl, ap, _∙_}
 use mathlib.Core.List.{List, [], _∷_, _++_, flatMap}
 use native.Mathlib.Nat.{not-suc-le-zero, le-of-suc-le-suc}
 use native.Mathlib.Omega.{arith}
 use lib.ListN.{length, getD}
-use Rattle.rules.specs.Whole.{Outcome, passed, outcome, textsOf}
+use Rattle.rules.specs.Whole.{passed, textsOf}
 use Rattle.rules.specs.Reading.{fileIn}
 use Rattle.layout.specs.Laid.{Laid, laid}
 use Rattle.records.specs.Stored.{rowWords, stored, over}

@@ -7,7 +7,6 @@ use Rattle.rules.specs.Whole.{Outcome, passed, refused, outcome, textsOf}
 use Rattle.rules.specs.Reading.{FileIs, fileIn}
 use Rattle.layout.specs.Laid.{laid, countsOf}
 use Rattle.records.specs.declared.Answer.{Answer}
-use Rattle.records.specs.declared.Verdict.{Verdict}
 use Rattle.records.specs.declared.Verdict.the-variants.{Accepted, Refused}
 use Rattle.file_answer.specs.Answered.{answerFor, answerOf}
 use Rattle.tables_say.specs.Kept.{headerAnswered, Holds}

@@ -2,7 +2,7 @@
 use Prim.Native.Nat.{ℕ, _+_, _≤_, _<_}
 use Prim.Native.Char.{code}
 use mathlib.Core.Path.{_≡_, refl, sym, ap, _∙_}
-use mathlib.Core.List.{List, [], _∷_}
+use mathlib.Core.List.{List, _∷_}
 use mathlib.Core.Bool.{true, false, cond}
 use native.Mathlib.Omega.{arith}
 use lib.ListN.{length, take, drop, getD, drop-of-length-le, length-drop}
@@ -29,7 +29,6 @@ use Rattle.words.specs.declared.Word.{Word}
 use Rattle.words.proofs.Laws.{words-none, words-some}
 use Rattle.line_rules.specs.Fields.{exactly, typMinMax, cellsBy, slopeOf, slopeFrom, slopeOrMissing, ratioOf, isUpward, upward, threeSlopes}
 use Rattle.line_rules.specs.Answers.{tripleRead, slopeRead, rampRead, slopeSays}
-use Rattle.line_rules.specs.declared.TripleRead.{TripleRead}
 use Rattle.line_rules.specs.declared.TripleRead.the-variants.{Cells, Flawed}
 use Rattle.line_rules.specs.declared.RampCellRead.{RampCellRead}
 use Rattle.line_rules.specs.declared.RampCellRead.the-variants.{Faulted}

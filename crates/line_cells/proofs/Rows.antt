@@ -10,7 +10,7 @@ use Rattle.laws.specs.Said.{Said, says, fault, readOn}
 use Rattle.laws.proofs.Tests.{cond-no, cond-all}
 use Rattle.decimal.specs.Decimal.{numberOf, cellOf}
 use Rattle.decimal.specs.Fine.{Fine, FineFault, FineNumber, FineCell, FineRead}
-use Rattle.decimal.specs.Answers.{numberWord, cellWord, faultAt}
+use Rattle.decimal.specs.Answers.{numberWord, cellWord}
 use Rattle.decimal.specs.declared.Decimal.{Decimal}
 use Rattle.decimal.specs.declared.Cell.{Cell}
 use Rattle.decimal.proofs.Fine.{number-fine, cell-fine}

@@ -11,7 +11,6 @@ ghost use Rattle.rules.specs.Model.{modelFault};
 use keywords::ComponentPart;
 use keywords::ModelPart;
 use line_cells::HeadingRead;
-use line_cells::ThreeWords;
 use line_rules::RampRead;
 use line_rules::TripleRead;
 use named_lines::LocationRead;

@@ -2,14 +2,14 @@
 use Prim.Native.Nat.{ℕ, _≤_, _<_}
 use mathlib.Core.Path.{_≡_, refl, sym, ap, _∙_}
 use mathlib.Core.List.{List}
-use mathlib.Core.Bool.{Bool, true, false, cond}
+use mathlib.Core.Bool.{true, false}
 use lib.Dec.{eqb}
 use native.Mathlib.Omega.{arith}
 use borrow.Author.Tests.{eq-eqb, ne-eqb}
 use Rattle.laws.specs.Bytes.{isBlank}
 use Rattle.laws.specs.Lists.{eqs}
 use Rattle.laws.proofs.Tests.{cond-yes}
-use Rattle.laws.specs.Said.{Said, says, fault, faultIn, orElse, readOn}
+use Rattle.laws.specs.Said.{Said, says, fault, faultIn, orElse}
 use Rattle.words.specs.Words.{words, grown, ontoWord}
 use Rattle.name_table.specs.Names.{placeFrom}
 use Rattle.name_table.specs.declared.Found.the-variants.{At, Nothing}

@@ -1,7 +1,7 @@
 -- What the functions for C answer and leave: the answer and the tables of the reader, in words.
 use Prim.Native.Nat.{ℕ, _^_, _-_}
 use mathlib.Core.Path.{_≡_}
-use mathlib.Core.List.{List, [], _∷_, _++_}
+use mathlib.Core.List.{List, _++_}
 use Rattle.rules.specs.Reading.{fileIn}
 use Rattle.layout.specs.Laid.{laid}
 use Rattle.rules.specs.Whole.{outcome, textsOf}

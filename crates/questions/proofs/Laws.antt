@@ -1,5 +1,5 @@
 -- Laws of what is asked: a name's bytes, places of a span, and a search from the top.
-use Prim.Native.Nat.{ℕ, zero, suc, _+_, _-_, _<_, _≤_, min}
+use Prim.Native.Nat.{ℕ, suc, _+_, _-_, _<_, _≤_, min}
 use mathlib.Core.Path.{_≡_, refl, sym, ap, _∙_}
 use mathlib.Core.List.{List}
 use mathlib.Core.Bool.{Bool, true, false, not, cond, _&&_}
@@ -11,7 +11,6 @@ use Rattle.laws.proofs.Tests.{by-order}
 use Rattle.laws.specs.Eights.{bytesFrom}
 use Rattle.laws.specs.Lists.{eqs}
 use Rattle.laws.proofs.Same.{eqs-apart}
-use Rattle.name_table.specs.declared.Found.{Found}
 use Rattle.name_table.specs.declared.Found.the-variants.{At, Nothing}
 use Rattle.table_records.specs.Records.{nameFrom}
 use Rattle.laws.proofs.Eights.{bytes-length, bytes-take}

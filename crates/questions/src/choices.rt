@@ -2,7 +2,7 @@
 ghost use mathlib.Core.Path.{_≡_};
 ghost use Rattle.questions.specs.Named.{nameBytes};
 ghost use Rattle.questions.specs.Searched.{modelNamed, selectorNamed};
-ghost use Rattle.questions.specs.Chosen.{firstChoice, selected, nameFor, modelFor, modelOfPin};
+ghost use Rattle.questions.specs.Chosen.{firstChoice, nameFor, modelFor, modelOfPin};
 use crate::names::first_bytes;
 use crate::names::needs_no_model;
 use crate::searches::model_named;

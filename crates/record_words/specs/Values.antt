@@ -15,12 +15,6 @@ use Rattle.records.specs.declared.Enable.{Enable}
 use Rattle.records.specs.declared.Enable.the-variants.{NoEnable, ActiveHigh, ActiveLow}
 use Rattle.records.specs.declared.RampCell.{RampCell}
 use Rattle.records.specs.declared.RampCell.the-variants.{Ratio, Absent}
-use Rattle.records.specs.declared.RampTriple.{RampTriple}
-use Rattle.records.specs.declared.Triple.{Triple}
-use Rattle.records.specs.declared.Span.{Span}
-use Rattle.records.specs.declared.Table.{Table}
-use Rattle.records.specs.declared.Name.{Name}
-use Rattle.records.specs.declared.Words.{Words}
 
 -- ---- bytes from a place on, the first one lowest; 0 for those that are not there
 

@@ -10,8 +10,6 @@ use Rattle.keywords.specs.declared.CurrentTable.{CurrentTable}
 use Rattle.keywords.specs.declared.CurrentTable.the-variants.{Pulldown, Pullup, GndClamp, PowerClamp}
 use Rattle.keywords.specs.declared.ModelPart.the-variants.{VoltageRange, TemperatureRange, Current, Ramp, Waveform}
 use Rattle.records.specs.declared.Edge.{Edge}
-use Rattle.records.specs.declared.RampTable.{RampTable}
-use Rattle.records.specs.declared.Table.{Table}
 use Rattle.records.specs.declared.Triple.{Triple}
 use Rattle.rules.specs.Reading.{rampIn}
 use Rattle.record_words.specs.Values.{flagNumber}

@@ -27,7 +27,7 @@ use Rattle.table_rows.specs.Parts.{keyRows}
 use Rattle.table_rows.specs.declared.Filled.{Filled}
 use Rattle.table_rows.proofs.Stores.{stored-length}
 use Rattle.table_rows.proofs.RowWalks.{lies-start}
-use Rattle.model_record.specs.Bodies.{partOn, bodyStep, BodyFits}
+use Rattle.model_record.specs.Bodies.{bodyStep, BodyFits}
 use Rattle.model_record.specs.declared.Body.{Body}
 use Rattle.model_record.proofs.Takes.{taken, current-fits}
 use Rattle.section_words.specs.Parts.{tableFrom}

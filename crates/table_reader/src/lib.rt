@@ -1,7 +1,6 @@
 // The reader over tables in words: a file is checked first, and the lent tables are filled only when it is accepted.
 ghost use mathlib.Core.Path.{_≡_};
 ghost use Prim.Native.Nat.{_/_};
-ghost use lib.ListN.{length};
 ghost use Rattle.table_words.specs.Packed.{wordTables};
 ghost use Rattle.table_reader.specs.ReadInWords.{roomIn, ReadInWords};
 use note_words::STORE_LENGTH;

@@ -1,16 +1,12 @@
 -- What was written comes back: the values in a record's words. A byte by its place in its word, a case by its number.
-use Prim.Native.Nat.{ℕ, zero, suc, _+_, _*_, _^_, _/_, _%_, _≤_, _<_, min}
+use Prim.Native.Nat.{ℕ, zero, suc, _+_, _*_, _^_, _/_, _%_, _≤_, _<_}
 use mathlib.Core.Path.{_≡_, refl, sym, ap, ap₂, _∙_}
 use mathlib.Core.Bool.{Bool, true, false}
 use mathlib.Core.List.{List, [], _∷_, _++_}
-use native.Mathlib.Nat.{min-eq-left, not-suc-le-zero, le-of-suc-le-suc}
+use native.Mathlib.Nat.{min-eq-left}
 use native.Mathlib.Omega.{arith}
-use lib.ListN.{length, take, drop, getD}
-use lib.Seq.{take-all, ext-getD, take-suc}
-use Rattle.decimal.specs.Fine.{Fine, FineCell}
-use Rattle.decimal.specs.declared.Cell.{Cell}
-use Rattle.decimal.specs.declared.Cell.the-variants.{Number}
-use Rattle.decimal.proofs.Cells.{kept}
+use lib.ListN.{length, take, getD}
+use lib.Seq.{take-all, take-suc}
 use Rattle.records.specs.declared.Location.{Location}
 use Rattle.records.specs.declared.Location.the-variants.{AtPin, AtDie}
 use Rattle.records.specs.declared.Polarity.{Polarity}
@@ -22,7 +18,7 @@ use Rattle.records.specs.declared.Edge.the-variants.{Rising, Falling}
 use Rattle.records.specs.declared.Name.{Name}
 use Rattle.records.specs.declared.Words.{Words}
 use Rattle.laws.specs.Eights.{byteIn, bytesFrom}
-use Rattle.record_words.specs.Values.{eightAt, twoAt, fourAt, flagNumber, locationNumber, polarityNumber, enableNumber, edgeNumber}
+use Rattle.record_words.specs.Values.{eightAt, flagNumber, locationNumber, polarityNumber, enableNumber, edgeNumber}
 use Rattle.record_words.specs.Records.{nameWords, textWords}
 use Rattle.table_records.specs.Values.{numberAt, flagIn, locationIn, polarityIn, enableIn, edgeIn}
 use Rattle.table_records.specs.Records.{nameFrom, textFrom}

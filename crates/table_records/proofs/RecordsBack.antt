@@ -1,14 +1,11 @@
 -- What was written comes back: each record's words are read as the record, by its fields; and the record at a place, among records of so many words each.
-use Prim.Native.Nat.{ℕ, zero, suc, _+_, _*_, _/_, _≤_, _<_}
-use mathlib.Core.Path.{_≡_, refl, sym, ap, ap₂, _∙_}
+use Prim.Native.Nat.{ℕ}
+use mathlib.Core.Path.{_≡_, refl, sym, ap₂}
 use mathlib.Core.Bool.{Bool}
-use mathlib.Core.List.{List, [], _∷_, _++_, flatMap}
-use native.Mathlib.Omega.{arith}
-use lib.ListN.{length, take, drop, getD}
+use mathlib.Core.List.{List, _∷_, _++_}
 use Rattle.decimal.specs.Decimal.{wordOf}
 use Rattle.decimal.specs.Answers.{cellIn}
 use Rattle.decimal.specs.Fine.{FineCell}
-use Rattle.decimal.specs.declared.Cell.{Cell}
 use Rattle.decimal.specs.declared.Cell.the-variants.{Number, Missing}
 use Rattle.decimal.proofs.Cells.{kept}
 use Rattle.records.specs.Stored.{rowWords}
@@ -32,7 +29,7 @@ use Rattle.record_words.specs.Values.{dividendWord, divisorWord}
 use Rattle.record_words.specs.Records.{spanWords, tripleWords, rangeWords, slopeWords, rampWords, tableWords, componentWords, pinWords, selectorWords, choiceWords, modelWords, waveformWords}
 use Rattle.table_records.specs.declared.StoredRow.the-variants.{Kept}
 use Rattle.table_records.specs.Values.{cellAt, slopeIn}
-use Rattle.table_records.specs.Records.{spanFrom, tripleFrom, slopesFrom, tableFrom, rangeFrom, splitFrom, rampFrom, componentFrom, pinFrom, selectorFrom, choiceFrom, modelFrom, waveformFrom, asRow, rowFrom}
+use Rattle.table_records.specs.Records.{spanFrom, tripleFrom, slopesFrom, tableFrom, rangeFrom, splitFrom, rampFrom, componentFrom, pinFrom, selectorFrom, choiceFrom, modelFrom, waveformFrom, rowFrom}
 use Rattle.table_records.specs.Fine.{FineTriple, FineSplit, FineSlope, FineSlopes, FineComponent, FinePin, FineSelector, FineChoice, FineModel, FineWaveform, FineRow}
 use Rattle.table_records.proofs.Types.{type-back}
 use Rattle.table_records.proofs.Back.{flag-back, location-back, polarity-back, enable-back, edge-back, name-back, text-back}

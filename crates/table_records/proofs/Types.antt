@@ -1,5 +1,5 @@
 -- Model types by number: the number of a type tells it, and from the last one on stands Terminator.
-use Prim.Native.Nat.{ℕ, zero, suc, _+_, _-_, _≤_}
+use Prim.Native.Nat.{ℕ, zero, suc, _-_, _≤_}
 use mathlib.Core.Path.{_≡_, refl, ap, _∙_}
 use native.Mathlib.Omega.{arith}
 use Rattle.records.specs.Types.{typeNumber}

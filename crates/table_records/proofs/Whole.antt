@@ -4,11 +4,9 @@ use mathlib.Core.Path.{_≡_, refl}
 use mathlib.Core.List.{List}
 use lib.ListN.{drop}
 use Rattle.decimal.specs.declared.Cell.{Cell}
-use Rattle.records.specs.declared.Component.{Component}
 use Rattle.records.specs.declared.Edge.{Edge}
 use Rattle.records.specs.declared.Enable.{Enable}
 use Rattle.records.specs.declared.Location.{Location}
-use Rattle.records.specs.declared.Model.{Model}
 use Rattle.records.specs.declared.ModelType.{ModelType}
 use Rattle.records.specs.declared.Name.{Name}
 use Rattle.records.specs.declared.Polarity.{Polarity}
@@ -18,11 +16,7 @@ use Rattle.records.specs.declared.Span.{Span}
 use Rattle.records.specs.declared.Split.{Split}
 use Rattle.records.specs.declared.Table.{Table}
 use Rattle.records.specs.declared.Triple.{Triple}
-use Rattle.records.specs.declared.Waveform.{Waveform}
 use Rattle.records.specs.declared.Words.{Words}
-use Rattle.records.specs.declared.Pin.{Pin}
-use Rattle.records.specs.declared.Selector.{Selector}
-use Rattle.records.specs.declared.Choice.{Choice}
 use Rattle.table_records.specs.Values.{numberAt, cellAt, locationIn, polarityIn, enableIn, edgeIn, typeIn}
 use Rattle.table_records.specs.Records.{nameFrom, spanFrom, tripleFrom, tableFrom, rangeFrom, splitFrom, rampFrom, textFrom, componentFrom, pinFrom, selectorFrom, choiceFrom, modelFrom, waveformFrom}
 

@@ -11,7 +11,6 @@ use Rattle.laws.proofs.Tests.{by-test}
 use Rattle.laws.proofs.Lists.{from-cons, part-none}
 use Rattle.laws.proofs.Fronts.{after-at, front-at, front-le}
 use Rattle.words.specs.Words.{ontoWord}
-use Rattle.words.specs.declared.Word.{Word}
 use Rattle.text_buffer.specs.Parts.{parts, startFrom, lyingAt, PartAt}
 
 -- up to the separator, and behind it

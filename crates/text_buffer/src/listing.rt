@@ -1,5 +1,4 @@
 // The listing's lines: the verdict with its counts, and a pin with the levels of the model chosen for it.
-ghost use mathlib.Core.List.{_++_};
 ghost use Rattle.text_buffer.specs.Put.{Put};
 ghost use Rattle.text_buffer.specs.Lines.{countText, namesText, nextCell, acceptedText, refusedText, pinText};
 use crate::bytes::put_byte;

@@ -7,12 +7,6 @@ use Rattle.file_answer.specs.Answered.{verdictOf}
 use Rattle.table_words.specs.Packed.{faultNumber, faultLine}
 use Rattle.olhovest.proofs.olhovest_check.Statement.{statement}
 use Rattle.olhovest.proofs.olhovest_check.Tie as tie
-use Rattle.olhovest.proofs.olhovest_check.Reads as reads
-use Rattle.olhovest.proofs.olhovest_check.Lts as lts
-use Rattle.file_answer.proofs.check.Reads as check-reads
-use Rattle.table_words.proofs.fault_line.Reads as fault-line-reads
-use Rattle.table_words.proofs.fault_number.Reads as fault-number-reads
-use Rattle.olhovest.proofs.lengths_are.Reads as lengths-are-reads
 
 lengths-are-requires : tie.Need-lengths-are-requires
 lengths-are-requires c κs = tt

@@ -1,5 +1,4 @@
 -- The answer in words, by `read`.
-use Prim.Native.Nat.{_-_}
 use mathlib.Core.Path.{ap, _∙_}
 use borrow.Author.Needs.{needs}
 use Rattle.records.specs.declared.Answer.{Answer}

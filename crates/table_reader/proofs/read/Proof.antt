@@ -1,5 +1,4 @@
 -- The answer and the notes by `outlined`; what the fills leave of them is what is promised.
-use Prim.Native.Nat.{_-_}
 use mathlib.Core.Path.{_∙_, subst}
 use borrow.Author.Needs.{needs}
 use denote.Ref.{now}

@@ -1,5 +1,4 @@
 -- By cases on the keyword: one of the header's, or nothing changes.
-use mathlib.Core.Path.{refl}
 use borrow.Author.Needs.{needs}
 use Rattle.component_records.proofs.head.with_key.Statement.{statement}
 use Rattle.component_records.proofs.head.with_key.Tie as tie

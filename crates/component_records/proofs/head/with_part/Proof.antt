@@ -1,5 +1,4 @@
 -- By cases on the keyword.
-use mathlib.Core.Path.{refl}
 use borrow.Author.Needs.{needs}
 use Rattle.component_records.proofs.head.with_part.Statement.{statement}
 use Rattle.component_records.proofs.head.with_part.Tie as tie

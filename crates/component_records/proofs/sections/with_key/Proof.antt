@@ -2,7 +2,6 @@
 use mathlib.Core.Path.{refl}
 use native.Mathlib.Omega.{arith}
 use borrow.Author.Needs.{needs}
-use denote.Ref.{now}
 use Rattle.component_records.proofs.sections.with_key.Statement.{statement}
 use Rattle.component_records.proofs.sections.with_key.Tie as tie
 

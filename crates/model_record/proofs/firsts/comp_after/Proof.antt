@@ -8,9 +8,6 @@ use Rattle.line_rules.proofs.Answers.{triple-said}
 use Rattle.line_rules.specs.Fields.{cellsLine}
 use Rattle.model_record.proofs.firsts.comp_after.Statement.{statement}
 use Rattle.model_record.proofs.firsts.comp_after.Tie as tie
-use Rattle.model_record.proofs.firsts.comp_after.Reads as reads
-use Rattle.model_record.proofs.firsts.comp_after.Lts as lts
-use Rattle.line_faults.proofs.cells_line.Reads as cells-line-reads
 
 cells-line-requires : tie.Need-cells-line-requires
 cells-line-requires c κs = search needs

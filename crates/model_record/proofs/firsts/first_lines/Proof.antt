@@ -9,18 +9,6 @@ use Rattle.model_record.specs.Firsts.{linesOver}
 use Rattle.model_record.proofs.FirstLaws.{first-fold, line-nothing, line-marks, line-comp, line-split, line-levels}
 use Rattle.model_record.proofs.firsts.first_lines.Statement.{statement}
 use Rattle.model_record.proofs.firsts.first_lines.Tie as tie
-use Rattle.model_record.proofs.firsts.first_lines.Reads as reads
-use Rattle.model_record.proofs.firsts.first_lines.Lts as lts
-use Rattle.lines_under.proofs.next_line.Reads as next-line-reads
-use Rattle.model_record.proofs.firsts.comp_after.Reads as comp-after-reads
-use Rattle.model_record.proofs.firsts.levels_after.Reads as levels-after-reads
-use Rattle.model_record.proofs.firsts.marks_after.Reads as marks-after-reads
-use Rattle.model_record.proofs.firsts.no_levels.Reads as no-levels-reads
-use Rattle.model_record.proofs.firsts.no_marks.Reads as no-marks-reads
-use Rattle.model_record.proofs.firsts.no_split.Reads as no-split-reads
-use Rattle.model_record.proofs.firsts.split_after.Reads as split-after-reads
-use Rattle.named_lines.proofs.model_line.Reads as model-line-reads
-use Rattle.records.proofs.no_cells.Reads as no-cells-reads
 
 abbrev Inv-loop : tie.InvT-loop
 Inv-loop src marks₀ comp₀ split₀ levels₀ d₀ marks comp split levels d = Gathers first-fold src d₀ d (linesOver marks₀ comp₀ split₀ levels₀) (linesOver marks comp split levels)

@@ -2,9 +2,6 @@
 use borrow.Author.Needs.{needs}
 use Rattle.model_record.proofs.firsts.levels_after.Statement.{statement}
 use Rattle.model_record.proofs.firsts.levels_after.Tie as tie
-use Rattle.model_record.proofs.firsts.levels_after.Reads as reads
-use Rattle.model_record.proofs.firsts.levels_after.Lts as lts
-use Rattle.named_lines.proofs.fields.number_after.Reads as number-after-reads
 
 number-after-requires : tie.Need-number-after-requires
 number-after-requires c κs = search needs

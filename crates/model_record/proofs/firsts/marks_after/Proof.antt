@@ -2,11 +2,6 @@
 use borrow.Author.Needs.{needs}
 use Rattle.model_record.proofs.firsts.marks_after.Statement.{statement}
 use Rattle.model_record.proofs.firsts.marks_after.Tie as tie
-use Rattle.model_record.proofs.firsts.marks_after.Reads as reads
-use Rattle.model_record.proofs.firsts.marks_after.Lts as lts
-use Rattle.model_record.proofs.firsts.enable_after.Reads as enable-after-reads
-use Rattle.model_record.proofs.firsts.polarity_after.Reads as polarity-after-reads
-use Rattle.named_lines.proofs.fields.type_after.Reads as type-after-reads
 
 type-after-requires : tie.Need-type-after-requires
 type-after-requires c κs = search needs

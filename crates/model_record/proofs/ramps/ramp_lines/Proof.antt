@@ -9,13 +9,6 @@ use Rattle.model_record.specs.Ramps.{rampOver}
 use Rattle.model_record.proofs.RampLaws.{ramp-fold, ramp-is, line-nothing, line-rise, line-fall, line-load}
 use Rattle.model_record.proofs.ramps.ramp_lines.Statement.{statement}
 use Rattle.model_record.proofs.ramps.ramp_lines.Tie as tie
-use Rattle.model_record.proofs.ramps.ramp_lines.Reads as reads
-use Rattle.model_record.proofs.ramps.ramp_lines.Lts as lts
-use Rattle.lines_under.proofs.next_line.Reads as next-line-reads
-use Rattle.model_record.proofs.ramps.no_slopes.Reads as no-slopes-reads
-use Rattle.model_record.proofs.ramps.slopes_after.Reads as slopes-after-reads
-use Rattle.named_lines.proofs.fields.number_after.Reads as number-after-reads
-use Rattle.named_lines.proofs.ramp_line.Reads as ramp-line-reads
 
 abbrev Inv-loop : tie.InvT-loop
 Inv-loop src rise₀ fall₀ load₀ d₀ rise fall load d = Gathers ramp-fold src d₀ d (rampOver rise₀ fall₀ load₀) (rampOver rise fall load)

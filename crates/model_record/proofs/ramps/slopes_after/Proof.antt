@@ -8,9 +8,6 @@ use Rattle.line_rules.proofs.Answers.{ramp-said}
 use Rattle.line_rules.specs.Fields.{slopesLine}
 use Rattle.model_record.proofs.ramps.slopes_after.Statement.{statement}
 use Rattle.model_record.proofs.ramps.slopes_after.Tie as tie
-use Rattle.model_record.proofs.ramps.slopes_after.Reads as reads
-use Rattle.model_record.proofs.ramps.slopes_after.Lts as lts
-use Rattle.line_faults.proofs.slopes_line.Reads as slopes-line-reads
 
 slopes-line-requires : tie.Need-slopes-line-requires
 slopes-line-requires c κs = search needs

@@ -1,7 +1,6 @@
 -- By what the line says as a row: `row-amiss`, else `row-refused` or `row-taken`.
 use mathlib.Core.Path.{sym, ap, _∙_}
 use native.Mathlib.Omega.{arith}
-use borrow.Author.Needs.{needs}
 use borrow.Author.Tests.{not-true, not-false}
 use denote.Ref.{now}
 use Rattle.words.specs.Words.{words}

@@ -1,5 +1,4 @@
 -- The place that was found.
-use Prim.Native.Nat.{_-_}
 use Rattle.olhovest.proofs.asked.olhovest_find_model_2.Statement.{statement}
 use Rattle.olhovest.proofs.asked.olhovest_find_model_2.Tie as tie
 

@@ -1,5 +1,4 @@
 -- The place that was found.
-use Prim.Native.Nat.{_-_}
 use Rattle.olhovest.proofs.asked.olhovest_find_pin.Statement.{statement}
 use Rattle.olhovest.proofs.asked.olhovest_find_pin.Tie as tie
 

@@ -1,5 +1,4 @@
 -- The values in words.
-use Prim.Native.Nat.{_-_}
 use mathlib.Core.Path.{ap, _∙_}
 use Rattle.olhovest.specs.Exported.{valueWords}
 use Rattle.olhovest.proofs.asked.olhovest_values_of_pin.Statement.{statement}

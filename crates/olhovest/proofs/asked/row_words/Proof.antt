@@ -1,5 +1,4 @@
 -- The number, then three cells.
-use Prim.Native.Nat.{_-_}
 use mathlib.Core.Path.{refl}
 use borrow.Author.Needs.{needs}
 use Rattle.olhovest.proofs.asked.row_words.Statement.{statement}

@@ -1,5 +1,4 @@
 -- Three cells at a time.
-use Prim.Native.Nat.{_-_}
 use mathlib.Core.Path.{refl}
 use borrow.Author.Needs.{needs}
 use Rattle.olhovest.proofs.asked.value_words.Statement.{statement}

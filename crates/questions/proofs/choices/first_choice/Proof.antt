@@ -1,5 +1,4 @@
 -- By whether there is a row.
-use Prim.Native.Nat.{_-_}
 use mathlib.Core.Path.{ap}
 use borrow.Author.Tests.{eq-eqb, ne-eqb}
 use Rattle.records.specs.declared.Choice.{Choice}

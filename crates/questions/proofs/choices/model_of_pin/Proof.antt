@@ -1,10 +1,9 @@
 -- By whether the pin is there.
-use Prim.Native.Nat.{_-_, _/_}
+use Prim.Native.Nat.{_/_}
 use mathlib.Core.Path.{refl, ap, _∙_}
 use lib.ListN.{length}
 use borrow.Author.Tests.{lt-ltb, le-ltb}
 use denote.Ref.{now}
-use Rattle.records.specs.declared.Pin.{Pin}
 use Rattle.record_words.specs.Records.{pinSize}
 use Rattle.questions.specs.Chosen.{modelFor, modelOfPin}
 use Rattle.questions.proofs.choices.model_of_pin.Statement.{statement}

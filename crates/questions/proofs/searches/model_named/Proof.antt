@@ -1,5 +1,4 @@
 -- A search of the whole table.
-use Prim.Native.Nat.{_-_}
 use borrow.Author.Needs.{needs}
 use Rattle.table_records.specs.Records.{modelFrom}
 use Rattle.questions.specs.Searched.{modelNamed}

@@ -1,5 +1,4 @@
 -- Before the span's first place none is there.
-use Prim.Native.Nat.{_-_}
 use native.Mathlib.Omega.{arith}
 use Rattle.questions.specs.Searched.{placesIn}
 use Rattle.questions.proofs.searches.places_in.Statement.{statement}

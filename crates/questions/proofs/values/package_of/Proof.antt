@@ -1,5 +1,4 @@
 -- Past its end a table has no record.
-use Prim.Native.Nat.{_-_}
 use mathlib.Core.Path.{ap, _∙_}
 use lib.ListN.{length}
 use borrow.Author.Needs.{needs}
@@ -7,7 +6,6 @@ use denote.Ref.{now}
 use native.Mathlib.Nat.{div-le-self}
 use Rattle.table_records.specs.Records.{componentFrom}
 use Rattle.table_records.proofs.Places.{record-none}
-use Rattle.questions.specs.Valued.{packageOf}
 use Rattle.questions.proofs.values.package_of.Statement.{statement}
 use Rattle.questions.proofs.values.package_of.Tie as tie
 

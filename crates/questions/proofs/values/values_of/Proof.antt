@@ -1,5 +1,4 @@
 -- Value by value.
-use Prim.Native.Nat.{_-_}
 use Rattle.questions.specs.Valued.{valuesOf}
 use Rattle.questions.proofs.values.values_of.Statement.{statement}
 use Rattle.questions.proofs.values.values_of.Tie as tie

@@ -1,5 +1,4 @@
 -- The pin, and the component that has it.
-use Prim.Native.Nat.{_-_}
 use Rattle.questions.specs.Valued.{valuesOfPin}
 use Rattle.questions.proofs.values.values_of_pin.Statement.{statement}
 use Rattle.questions.proofs.values.values_of_pin.Tie as tie

@@ -2,10 +2,6 @@
 use borrow.Author.Needs.{needs}
 use Rattle.record_words.proofs.tables.choice_words.Statement.{statement}
 use Rattle.record_words.proofs.tables.choice_words.Tie as tie
-use Rattle.record_words.proofs.tables.choice_words.Reads as reads
-use Rattle.record_words.proofs.tables.choice_words.Lts as lts
-use Rattle.record_words.proofs.tables.name_words.Reads as name-words-reads
-use Rattle.record_words.proofs.tables.text_words.Reads as text-words-reads
 
 name-words-requires : tie.Need-name-words-requires
 name-words-requires c κs = tt

@@ -3,11 +3,6 @@ use mathlib.Core.Path.{refl}
 use borrow.Author.Needs.{needs}
 use Rattle.record_words.proofs.tables.component_words.Statement.{statement}
 use Rattle.record_words.proofs.tables.component_words.Tie as tie
-use Rattle.record_words.proofs.tables.component_words.Reads as reads
-use Rattle.record_words.proofs.tables.component_words.Lts as lts
-use Rattle.record_words.proofs.tables.name_words.Reads as name-words-reads
-use Rattle.record_words.proofs.tables.triple_words.Reads as triple-words-reads
-use Rattle.record_words.proofs.values.location_number.Reads as location-number-reads
 
 name-words-requires : tie.Need-name-words-requires
 name-words-requires c κs = tt

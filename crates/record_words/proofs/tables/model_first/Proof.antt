@@ -2,12 +2,6 @@
 use borrow.Author.Needs.{needs}
 use Rattle.record_words.proofs.tables.model_first.Statement.{statement}
 use Rattle.record_words.proofs.tables.model_first.Tie as tie
-use Rattle.record_words.proofs.tables.model_first.Reads as reads
-use Rattle.record_words.proofs.tables.model_first.Lts as lts
-use Rattle.record_words.proofs.tables.name_words.Reads as name-words-reads
-use Rattle.record_words.proofs.tables.triple_words.Reads as triple-words-reads
-use Rattle.record_words.proofs.values.enable_number.Reads as enable-number-reads
-use Rattle.record_words.proofs.values.polarity_number.Reads as polarity-number-reads
 
 name-words-requires : tie.Need-name-words-requires
 name-words-requires c κs = tt

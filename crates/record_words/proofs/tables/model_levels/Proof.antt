@@ -2,11 +2,6 @@
 use borrow.Author.Needs.{needs}
 use Rattle.record_words.proofs.tables.model_levels.Statement.{statement}
 use Rattle.record_words.proofs.tables.model_levels.Tie as tie
-use Rattle.record_words.proofs.tables.model_levels.Reads as reads
-use Rattle.record_words.proofs.tables.model_levels.Lts as lts
-use Rattle.decimal.proofs.word_of.Reads as word-of-reads
-use Rattle.record_words.proofs.tables.triple_words.Reads as triple-words-reads
-use Rattle.record_words.proofs.tables.range_words.Reads as range-words-reads
 
 triple-words-requires : tie.Need-triple-words-requires
 triple-words-requires c κs = tt

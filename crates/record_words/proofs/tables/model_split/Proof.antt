@@ -2,9 +2,6 @@
 use borrow.Author.Needs.{needs}
 use Rattle.record_words.proofs.tables.model_split.Statement.{statement}
 use Rattle.record_words.proofs.tables.model_split.Tie as tie
-use Rattle.record_words.proofs.tables.model_split.Reads as reads
-use Rattle.record_words.proofs.tables.model_split.Lts as lts
-use Rattle.record_words.proofs.tables.range_words.Reads as range-words-reads
 
 range-words-requires : tie.Need-range-words-requires
 range-words-requires c κs = tt

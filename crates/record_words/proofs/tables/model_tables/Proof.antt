@@ -2,9 +2,6 @@
 use borrow.Author.Needs.{needs}
 use Rattle.record_words.proofs.tables.model_tables.Statement.{statement}
 use Rattle.record_words.proofs.tables.model_tables.Tie as tie
-use Rattle.record_words.proofs.tables.model_tables.Reads as reads
-use Rattle.record_words.proofs.tables.model_tables.Lts as lts
-use Rattle.record_words.proofs.tables.table_words.Reads as table-words-reads
 
 table-words-requires : tie.Need-table-words-requires
 table-words-requires c κs = tt

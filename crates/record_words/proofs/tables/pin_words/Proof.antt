@@ -2,10 +2,6 @@
 use borrow.Author.Needs.{needs}
 use Rattle.record_words.proofs.tables.pin_words.Statement.{statement}
 use Rattle.record_words.proofs.tables.pin_words.Tie as tie
-use Rattle.record_words.proofs.tables.pin_words.Reads as reads
-use Rattle.record_words.proofs.tables.pin_words.Lts as lts
-use Rattle.decimal.proofs.word_of.Reads as word-of-reads
-use Rattle.record_words.proofs.tables.name_words.Reads as name-words-reads
 
 name-words-requires : tie.Need-name-words-requires
 name-words-requires c κs = tt

@@ -2,10 +2,6 @@
 use borrow.Author.Needs.{needs}
 use Rattle.record_words.proofs.tables.range_words.Statement.{statement}
 use Rattle.record_words.proofs.tables.range_words.Tie as tie
-use Rattle.record_words.proofs.tables.range_words.Reads as reads
-use Rattle.record_words.proofs.tables.range_words.Lts as lts
-use Rattle.record_words.proofs.tables.triple_words.Reads as triple-words-reads
-use Rattle.record_words.proofs.values.flag_number.Reads as flag-number-reads
 
 triple-words-requires : tie.Need-triple-words-requires
 triple-words-requires c κs = tt

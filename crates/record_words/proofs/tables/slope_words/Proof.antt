@@ -1,10 +1,6 @@
 -- By its slopes.
 use Rattle.record_words.proofs.tables.slope_words.Statement.{statement}
 use Rattle.record_words.proofs.tables.slope_words.Tie as tie
-use Rattle.record_words.proofs.tables.slope_words.Reads as reads
-use Rattle.record_words.proofs.tables.slope_words.Lts as lts
-use Rattle.record_words.proofs.values.dividend_word.Reads as dividend-word-reads
-use Rattle.record_words.proofs.values.divisor_word.Reads as divisor-word-reads
 
 dividend-word-requires : tie.Need-dividend-word-requires
 dividend-word-requires c κs = tt

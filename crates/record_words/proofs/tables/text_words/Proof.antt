@@ -3,9 +3,6 @@ use native.Mathlib.Omega.{arith}
 use borrow.Author.Needs.{needs}
 use Rattle.record_words.proofs.tables.text_words.Statement.{statement}
 use Rattle.record_words.proofs.tables.text_words.Tie as tie
-use Rattle.record_words.proofs.tables.text_words.Reads as reads
-use Rattle.record_words.proofs.tables.text_words.Lts as lts
-use Rattle.record_words.proofs.values.eights_at.Reads as eights-at-reads
 
 slice-aggregate-eights-at : tie.Need-slice-aggregate-eights-at
 slice-aggregate-eights-at c = search needs

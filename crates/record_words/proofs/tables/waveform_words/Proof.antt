@@ -1,10 +1,6 @@
 -- By its cells.
 use Rattle.record_words.proofs.tables.waveform_words.Statement.{statement}
 use Rattle.record_words.proofs.tables.waveform_words.Tie as tie
-use Rattle.record_words.proofs.tables.waveform_words.Reads as reads
-use Rattle.record_words.proofs.tables.waveform_words.Lts as lts
-use Rattle.decimal.proofs.word_of.Reads as word-of-reads
-use Rattle.record_words.proofs.values.edge_number.Reads as edge-number-reads
 
 edge-number-requires : tie.Need-edge-number-requires
 edge-number-requires c κs = tt

@@ -4,9 +4,6 @@ use borrow.Author.Needs.{needs}
 use Rattle.record_words.specs.Values.{divisorWord}
 use Rattle.record_words.proofs.values.divisor_word.Statement.{statement}
 use Rattle.record_words.proofs.values.divisor_word.Tie as tie
-use Rattle.record_words.proofs.values.divisor_word.Reads as reads
-use Rattle.record_words.proofs.values.divisor_word.Lts as lts
-use Rattle.decimal.proofs.word_of.Reads as word-of-reads
 
 enum-known-c : tie.Need-enum-known-c
 enum-known-c c = search needs

@@ -3,9 +3,6 @@ use borrow.Author.Needs.{needs}
 use Rattle.record_words.specs.Values.{eightAt}
 use Rattle.record_words.proofs.values.eight_at.Statement.{statement}
 use Rattle.record_words.proofs.values.eight_at.Tie as tie
-use Rattle.record_words.proofs.values.eight_at.Reads as reads
-use Rattle.record_words.proofs.values.eight_at.Lts as lts
-use Rattle.record_words.proofs.values.four_at.Reads as four-at-reads
 
 four-at-requires : tie.Need-four-at-requires
 four-at-requires c κs = search needs

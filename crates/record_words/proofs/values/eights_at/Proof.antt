@@ -3,9 +3,6 @@ use mathlib.Core.Path.{refl}
 use borrow.Author.Needs.{needs}
 use Rattle.record_words.proofs.values.eights_at.Statement.{statement}
 use Rattle.record_words.proofs.values.eights_at.Tie as tie
-use Rattle.record_words.proofs.values.eights_at.Reads as reads
-use Rattle.record_words.proofs.values.eights_at.Lts as lts
-use Rattle.record_words.proofs.values.eight_at.Reads as eight-at-reads
 
 eight-at-requires : tie.Need-eight-at-requires
 eight-at-requires c κs = search needs

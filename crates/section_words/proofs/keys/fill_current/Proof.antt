@@ -2,7 +2,7 @@
 use borrow.Author.Needs.{needs}
 use Prim.Native.Nat.{ℕ, _/_}
 use mathlib.Core.Path.{sym, ap, _∙_}
-use mathlib.Core.List.{List, [], _∷_}
+use mathlib.Core.List.{[], _∷_}
 use mathlib.Core.Bool.{cond}
 use lib.Dec.{eqb}
 use lib.ListN.{getD}
@@ -13,11 +13,6 @@ use Rattle.section_words.specs.Parts.{tableFrom}
 use Rattle.section_words.proofs.Written.{current-filled}
 use Rattle.section_words.proofs.keys.fill_current.Statement.{statement}
 use Rattle.section_words.proofs.keys.fill_current.Tie as tie
-use Rattle.section_words.proofs.keys.fill_current.Reads as reads
-use Rattle.section_words.proofs.keys.fill_current.Lts as lts
-use Rattle.section_words.proofs.parts.fill_span.Reads as fill-span-reads
-use Rattle.section_words.proofs.parts.table_from.Reads as table-from-reads
-use Rattle.table_rows.proofs.fill_table.Reads as fill-table-reads
 
 fill-table-requires : tie.Need-fill-table-requires
 fill-table-requires c κs = search needs

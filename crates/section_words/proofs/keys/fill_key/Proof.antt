@@ -7,10 +7,6 @@ use Rattle.keywords.specs.declared.Keyword.the-variants.{IbisVer, InHeader, Ope
 use Rattle.section_words.proofs.Written.{none-filled}
 use Rattle.section_words.proofs.keys.fill_key.Statement.{statement}
 use Rattle.section_words.proofs.keys.fill_key.Tie as tie
-use Rattle.section_words.proofs.keys.fill_key.Reads as reads
-use Rattle.section_words.proofs.keys.fill_key.Lts as lts
-use Rattle.section_words.proofs.keys.fill_part.Reads as fill-part-reads
-use Rattle.section_words.proofs.keys.no_tables.Reads as no-tables-reads
 
 enum-known-k : tie.Need-enum-known-k
 enum-known-k c = search needs

@@ -9,20 +9,12 @@ use Rattle.keywords.specs.declared.Keyword.the-variants.{InModel}
 use Rattle.keywords.specs.declared.ModelPart.the-variants.{VoltageRange, TemperatureRange, Ramp}
 use Rattle.cut_lines.specs.Cursors.{rest}
 use Rattle.line_rules.specs.Fields.{threeCells}
-use Rattle.rules.specs.Reading.{under, rowsIn}
+use Rattle.rules.specs.Reading.{under}
 use Rattle.records.specs.Stored.{noCells}
 use Rattle.section_words.proofs.Turns.{voltage-turns, temperature-turns, ramp-turns}
 use Rattle.section_words.proofs.Written.{none-filled, lines-filled}
 use Rattle.section_words.proofs.keys.fill_part.Statement.{statement}
 use Rattle.section_words.proofs.keys.fill_part.Tie as tie
-use Rattle.section_words.proofs.keys.fill_part.Reads as reads
-use Rattle.section_words.proofs.keys.fill_part.Lts as lts
-use Rattle.section_words.proofs.keys.fill_current.Reads as fill-current-reads
-use Rattle.section_words.proofs.keys.fill_wave.Reads as fill-wave-reads
-use Rattle.section_words.proofs.keys.no_tables.Reads as no-tables-reads
-use Rattle.section_words.proofs.parts.fill_ramp.Reads as fill-ramp-reads
-use Rattle.section_words.proofs.parts.fill_temperature.Reads as fill-temperature-reads
-use Rattle.section_words.proofs.parts.fill_voltage.Reads as fill-voltage-reads
 
 enum-told : tie.Need-enum-told
 enum-told c = search needs

@@ -10,11 +10,6 @@ use Rattle.record_words.specs.Records.{waveformWords}
 use Rattle.section_words.proofs.Written.{wave-filled}
 use Rattle.section_words.proofs.keys.fill_wave.Statement.{statement}
 use Rattle.section_words.proofs.keys.fill_wave.Tie as tie
-use Rattle.section_words.proofs.keys.fill_wave.Reads as reads
-use Rattle.section_words.proofs.keys.fill_wave.Lts as lts
-use Rattle.record_words.proofs.tables.waveform_words.Reads as waveform-words-reads
-use Rattle.section_words.proofs.puts.put.Reads as put-reads
-use Rattle.table_rows.proofs.fill_waveform.Reads as fill-waveform-reads
 
 fill-waveform-requires : tie.Need-fill-waveform-requires
 fill-waveform-requires c κs = search needs

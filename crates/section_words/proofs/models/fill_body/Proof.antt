@@ -10,11 +10,6 @@ use Rattle.section_words.proofs.Walks.{waves-length, rows-length, waves
 use Rattle.section_words.proofs.Fills.{Fills, fills-start, wave-room, place-fits, filled, place-is, fills-key, fills-whole}
 use Rattle.section_words.proofs.models.fill_body.Statement.{statement}
 use Rattle.section_words.proofs.models.fill_body.Tie as tie
-use Rattle.section_words.proofs.models.fill_body.Reads as reads
-use Rattle.section_words.proofs.models.fill_body.Lts as lts
-use Rattle.lines_under.proofs.ends.Reads as ends-reads
-use Rattle.lines_under.proofs.next_key.Reads as next-key-reads
-use Rattle.section_words.proofs.keys.fill_key.Reads as fill-key-reads
 
 abbrev Inv-loop : tie.InvT-loop
 Inv-loop model₀ waveforms₀ rows₀ src row d₀ place₀ waves₀ words₀ model waveforms rows d place waves words = Fills src d₀ d row place model₀ model waveforms₀ waveforms waves rows₀ rows words

@@ -16,14 +16,6 @@ use Rattle.section_words.proofs.Walks.{waves-ahead, rows-ahead}
 use Rattle.section_words.proofs.Counted.{counted-lies}
 use Rattle.section_words.proofs.models.fill_model.Statement.{statement}
 use Rattle.section_words.proofs.models.fill_model.Tie as tie
-use Rattle.section_words.proofs.models.fill_model.Reads as reads
-use Rattle.section_words.proofs.models.fill_model.Lts as lts
-use Rattle.model_record.proofs.bodies.bare_body.Reads as bare-body-reads
-use Rattle.model_record.proofs.firsts.first_lines.Reads as first-lines-reads
-use Rattle.model_record.proofs.record.model_over.Reads as model-over-reads
-use Rattle.records.proofs.name_of.Reads as name-of-reads
-use Rattle.section_words.proofs.models.fill_body.Reads as fill-body-reads
-use Rattle.section_words.proofs.puts.put_model.Reads as put-model-reads
 
 first-lines-requires : tie.Need-first-lines-requires
 first-lines-requires c κs = search needs

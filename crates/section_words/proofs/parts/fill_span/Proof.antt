@@ -5,9 +5,6 @@ use borrow.Author.Tests.{eq-eqb, ne-eqb}
 use Rattle.laws.proofs.Tests.{cond-yes, cond-no}
 use Rattle.section_words.proofs.parts.fill_span.Statement.{statement}
 use Rattle.section_words.proofs.parts.fill_span.Tie as tie
-use Rattle.section_words.proofs.parts.fill_span.Reads as reads
-use Rattle.section_words.proofs.parts.fill_span.Lts as lts
-use Rattle.section_words.proofs.puts.put.Reads as put-reads
 
 mul-if1 : tie.Need-mul-if1
 mul-if1 c = search needs

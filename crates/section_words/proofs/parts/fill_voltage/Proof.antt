@@ -2,11 +2,6 @@
 use borrow.Author.Needs.{needs}
 use Rattle.section_words.proofs.parts.fill_voltage.Statement.{statement}
 use Rattle.section_words.proofs.parts.fill_voltage.Tie as tie
-use Rattle.section_words.proofs.parts.fill_voltage.Reads as reads
-use Rattle.section_words.proofs.parts.fill_voltage.Lts as lts
-use Rattle.model_record.proofs.bodies.cells_of.Reads as cells-of-reads
-use Rattle.record_words.proofs.tables.triple_words.Reads as triple-words-reads
-use Rattle.section_words.proofs.puts.put.Reads as put-reads
 
 cells-of-requires : tie.Need-cells-of-requires
 cells-of-requires c κs = search needs

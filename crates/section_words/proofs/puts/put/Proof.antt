@@ -9,8 +9,6 @@ use lib.Seq.{sets}
 use Rattle.note_words.proofs.Laws.{sets-turn, sets-end}
 use Rattle.section_words.proofs.puts.put.Statement.{statement}
 use Rattle.section_words.proofs.puts.put.Tie as tie
-use Rattle.section_words.proofs.puts.put.Reads as reads
-use Rattle.section_words.proofs.puts.put.Lts as lts
 
 abbrev Inv-loop : tie.InvT-loop
 Inv-loop out₀ at words i₀ out i = (i ≤ length words) × (length out ≡ length out₀) × (sets out (at + i) (drop i words) ≡ sets out₀ at words)

@@ -9,12 +9,6 @@ use Rattle.section_words.specs.Parts.{tableFrom, rampFrom, waveformsFrom
 use Rattle.section_words.proofs.Laws.{sets-more, sets-three}
 use Rattle.section_words.proofs.puts.put_model.Statement.{statement}
 use Rattle.section_words.proofs.puts.put_model.Tie as tie
-use Rattle.section_words.proofs.puts.put_model.Reads as reads
-use Rattle.section_words.proofs.puts.put_model.Lts as lts
-use Rattle.section_words.proofs.puts.put.Reads as put-reads
-use Rattle.section_words.proofs.puts.put_model_lines.Reads as put-model-lines-reads
-use Rattle.record_words.proofs.tables.model_tables.Reads as model-tables-reads
-use Rattle.record_words.proofs.tables.ramp_words.Reads as ramp-words-reads
 
 model-tables-requires : tie.Need-model-tables-requires
 model-tables-requires c κs = tt

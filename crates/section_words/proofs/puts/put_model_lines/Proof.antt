@@ -6,12 +6,6 @@ use Rattle.record_words.specs.Records.{modelFirst, modelSplit, modelLevels}
 use Rattle.section_words.proofs.Laws.{sets-three}
 use Rattle.section_words.proofs.puts.put_model_lines.Statement.{statement}
 use Rattle.section_words.proofs.puts.put_model_lines.Tie as tie
-use Rattle.section_words.proofs.puts.put_model_lines.Reads as reads
-use Rattle.section_words.proofs.puts.put_model_lines.Lts as lts
-use Rattle.section_words.proofs.puts.put.Reads as put-reads
-use Rattle.record_words.proofs.tables.model_first.Reads as model-first-reads
-use Rattle.record_words.proofs.tables.model_levels.Reads as model-levels-reads
-use Rattle.record_words.proofs.tables.model_split.Reads as model-split-reads
 
 model-first-requires : tie.Need-model-first-requires
 model-first-requires c κs = tt

@@ -1,5 +1,4 @@
 -- From word k on.
-use Prim.Native.Nat.{_-_}
 use Rattle.table_records.proofs.parts.name_at.Statement.{statement}
 use Rattle.table_records.proofs.parts.name_at.Tie as tie
 

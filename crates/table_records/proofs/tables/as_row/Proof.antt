@@ -1,5 +1,4 @@
 -- By the first cell.
-use Prim.Native.Nat.{_-_}
 use mathlib.Core.Path.{refl}
 use borrow.Author.Needs.{needs}
 use Rattle.table_records.proofs.tables.as_row.Statement.{statement}

@@ -1,5 +1,4 @@
 -- Part by part.
-use Prim.Native.Nat.{_-_}
 use Rattle.table_records.specs.Records.{choiceFrom}
 use Rattle.table_records.proofs.tables.choice_from.Statement.{statement}
 use Rattle.table_records.proofs.tables.choice_from.Tie as tie

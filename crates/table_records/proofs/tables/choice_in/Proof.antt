@@ -1,5 +1,4 @@
 -- The record's words, then the record.
-use Prim.Native.Nat.{_-_}
 use Rattle.table_records.proofs.tables.choice_in.Statement.{statement}
 use Rattle.table_records.proofs.tables.choice_in.Tie as tie
 

@@ -1,5 +1,4 @@
 -- Part by part.
-use Prim.Native.Nat.{_-_}
 use borrow.Author.Needs.{needs}
 use Rattle.table_records.specs.Records.{selectorFrom}
 use Rattle.table_records.proofs.tables.selector_from.Statement.{statement}

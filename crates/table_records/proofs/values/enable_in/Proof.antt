@@ -1,5 +1,4 @@
 -- By the tests.
-use Prim.Native.Nat.{_-_}
 use mathlib.Core.Path.{refl}
 use borrow.Author.Tests.{eq-eqb, ne-eqb}
 use Rattle.table_records.specs.Values.{enableIn}

@@ -1,5 +1,4 @@
 -- By the test.
-use Prim.Native.Nat.{_-_}
 use mathlib.Core.Path.{refl}
 use Rattle.table_records.specs.Values.{flagIn}
 use Rattle.table_records.proofs.values.flag_in.Statement.{statement}

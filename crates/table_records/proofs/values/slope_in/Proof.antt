@@ -1,5 +1,4 @@
 -- By the two cells.
-use Prim.Native.Nat.{_-_}
 use mathlib.Core.Path.{refl}
 use borrow.Author.Needs.{needs}
 use Rattle.table_records.proofs.values.slope_in.Statement.{statement}

@@ -1,5 +1,4 @@
 -- Each arm by computing the list at its number; past them stands Terminator.
-use Prim.Native.Nat.{_-_}
 use mathlib.Core.Path.{sym}
 use Rattle.laws.proofs.Numbers.{apart-le}
 use Rattle.table_records.specs.Values.{typeIn}

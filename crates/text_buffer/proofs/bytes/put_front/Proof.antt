@@ -1,6 +1,5 @@
 -- A part, or the whole text where the count is no less than its length.
 use mathlib.Core.Path.{sym}
-use lib.ListN.{length}
 use borrow.Author.Needs.{needs}
 use denote.Ref.{now}
 use lib.Seq.{take-all, length-take-le}
