@@ -1,21 +1,19 @@
 -- A pin row behind the first one is noted and counted, and leaves the stage as it is.
-use Prim.Native.Nat.{ℕ, _+_, _≤_, _<_}
+use Prim.Native.Nat.{ℕ, _<_}
 use mathlib.Core.Path.{_≡_, refl, sym, ap, _∙_, subst}
 use mathlib.Core.List.{List}
-use mathlib.Core.Bool.{Bool, true, false}
+use mathlib.Core.Bool.{Bool, true}
 use native.Mathlib.Omega.{arith}
 use lib.ListN.{length}
 use borrow.Author.Tests.{lt-leb}
-use Rattle.laws.proofs.Tests.{cond-yes, cond-no, impossible}
-use Rattle.words.specs.Words.{words}
-use Rattle.line_rules.specs.Fields.{isBracketed}
-use Rattle.cut_lines.specs.Cursors.{rest, past, Placed, Goes, TextIs}
+use Rattle.laws.proofs.Tests.{cond-no, impossible}
+use Rattle.cut_lines.specs.Cursors.{rest, past, TextIs}
 use Rattle.cut_lines.specs.declared.Cursor.{Cursor}
 use Rattle.records.specs.declared.Kind.the-variants.{OfPin}
 use Rattle.records.specs.declared.Lengths.{Lengths}
 use Rattle.rules.specs.Going.{unless}
 use Rattle.rules.specs.Whole.{bound}
-use Rattle.rules.specs.Component.{withList, pinFault}
+use Rattle.rules.specs.Component.{withList}
 use Rattle.rules.specs.Steps.{onPlain}
 use Rattle.rules.specs.declared.ComponentList.the-variants.{PinRows}
 use Rattle.rules.specs.declared.ComponentState.{ComponentState}
@@ -24,11 +22,11 @@ use Rattle.rules.specs.declared.Stage.the-variants.{InComponent}
 use Rattle.rules.specs.declared.Event.the-variants.{PinRow}
 use Rattle.notes.specs.Noted.{Log, full, withNote, runLog}
 use Rattle.note_words.specs.Store.{logIn}
-use Rattle.noted_events.specs.Events.{logOf, loggedAt, Within, KeptCounts}
+use Rattle.noted_events.specs.Events.{logOf, loggedAt}
 use Rattle.noted_events.specs.declared.Spot.{Spot}
 use Rattle.noted_events.specs.declared.Tally.{Tally}
 use Rattle.file_answer.specs.Scans.{standing, runFrom, Ground, Sound, ListPassed}
-use Rattle.file_answer.specs.Pins.{PinIs, PinIn, KeepsPins, PinNext, NextPinIs, PinsAre}
+use Rattle.file_answer.specs.Pins.{PinIn, KeepsPins, PinNext, NextPinIs, PinsAre}
 use Rattle.file_answer.specs.declared.NextPin.{NextPin}
 use Rattle.file_answer.specs.declared.NextPin.the-variants.{Pin, NoPin}
 use Rattle.file_answer.specs.declared.PinsPassed.{PinsPassed}
@@ -80,6 +78,7 @@ module _ (l : Lengths) (s xs : List ℕ) (c : Cursor) (t : Tally) (long : Bool) 
               small = p .ground .small;
               store = omega (arith, e, p .ground .store);
               within = n .kept .within;
+              filed = n .kept .filed;
               rows = omega (arith, n .kept .rows, p .ground .rows, n .goes .rises);
             };
         from = omega (arith, p .from, n .goes .rises);

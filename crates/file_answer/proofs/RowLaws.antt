@@ -1,25 +1,25 @@
 -- A row's line in an open table changes the rows that were seen and the file's count of rows, and nothing else of where the reading stands.
-use Prim.Native.Nat.{ℕ, _+_, _≤_, _<_, min}
+use Prim.Native.Nat.{ℕ, _+_, _<_, min}
 use mathlib.Core.Path.{_≡_, refl, sym, ap, ap₂, _∙_, subst}
 use mathlib.Core.List.{List, _∷_}
-use mathlib.Core.Bool.{Bool, true, false, cond}
+use mathlib.Core.Bool.{Bool, cond}
 use native.Mathlib.Omega.{arith}
-use lib.Dec.{leb, ltb, eqb}
+use lib.Dec.{ltb, eqb}
 use borrow.Author.Tests.{lt-leb}
 use Rattle.laws.specs.Said.{Said, says, fault}
 use Rattle.laws.specs.Lists.{part}
-use Rattle.laws.proofs.Tests.{by-test, cond-yes, cond-no, impossible}
+use Rattle.laws.proofs.Tests.{by-test, cond-no, impossible}
 use Rattle.decimal.specs.Answers.{pastNumbers, decimalIn}
 use Rattle.decimal.specs.declared.Decimal.{Decimal}
 use Rattle.words.specs.Words.{word, words}
-use Rattle.line_rules.specs.Fields.{isBracketed, rowOf}
+use Rattle.line_rules.specs.Fields.{rowOf}
 use Rattle.cut_lines.specs.Texts.{Text, plain}
 use Rattle.line_cells.specs.declared.RowWords.{RowWords}
 use Rattle.cut_lines.specs.Cursors.{rest, past, Placed, TextIs}
 use Rattle.cut_lines.specs.declared.Cursor.{Cursor}
 use Rattle.records.specs.declared.Lengths.{Lengths}
 use Rattle.records.specs.declared.Row as line
-use Rattle.rules.specs.Model.{withRow, withModelList, rowLine, beginsLetter, waveformLine, modelLine}
+use Rattle.rules.specs.Model.{withRow, withModelList, rowLine, beginsLetter, waveformLine}
 use Rattle.rules.specs.Steps.{onPlain}
 use Rattle.rules.proofs.Lettered.{letter-no-row}
 use Rattle.given.specs.declared.Given.{Given}
@@ -35,7 +35,8 @@ use Rattle.model_steps.specs.declared.RowStep.the-variants as step
 use Rattle.model_steps.proofs.Laws.{row-line, row-seen}
 use Rattle.notes.specs.Noted.{runLog}
 use Rattle.note_words.specs.Store.{logIn}
-use Rattle.noted_events.specs.Events.{logOf, Within}
+use Rattle.note_words.proofs.Laws.{filed-other}
+use Rattle.noted_events.specs.Events.{logOf}
 use Rattle.noted_events.specs.declared.Tally.{Tally}
 use Rattle.file_answer.specs.Scans.{runFrom}
 use Rattle.file_answer.specs.Rows.{seenRows, RowIs, RowIn, HoldsRows, withRows, standingAt, inTable, PassedIs, Steady, PassesOn}
@@ -126,9 +127,10 @@ passes-table l s x y m table r p holds stage list h q e =
     (record {
       says = λ xs. ap (runFrom l s xs) here ∙ q .says xs m table (x .tally) holds;
       steady = steady-behind l s x m (table (p .rows)) r p h q;
+      filed = λ xs f. filed-other xs (x .tally .names) (x .tally .counts) (x .tally .counts .waveforms) (p .count) f;
       reached = q .reached;
       from = q .from;
     })
 
 pub passes-none : (l : Lengths) (s : List ℕ) (x : Standing) → Steady s x → PassesOn l s x x
-passes-none l s x h = record { says = λ xs. refl; steady = h; reached = λ k. k; from = omega arith }
+passes-none l s x h = record { says = λ xs. refl; steady = h; filed = λ xs f. f; reached = λ k. k; from = omega arith }

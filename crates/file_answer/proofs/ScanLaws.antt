@@ -17,6 +17,8 @@ use Rattle.rules.specs.Going.{stop, unless, refuse, quietly}
 use Rattle.rules.specs.Steps.{isBefore, isEnded, onPlain, onChange}
 use Rattle.rules.specs.Whole.{bound}
 use Rattle.records.specs.Bounds.{mostWaveforms}
+use Rattle.records.specs.declared.Kind.{Kind}
+use Rattle.records.specs.declared.Kind.the-variants.{OfComponent, OfPin, OfSelector, OfChoice, OfModel}
 use Rattle.records.specs.declared.Lengths.{Lengths}
 use Rattle.rules.specs.declared.Stage.{Stage}
 use Rattle.rules.specs.declared.Stage.the-variants.{BeforeVersion}
@@ -27,6 +29,7 @@ use Rattle.rules.specs.declared.Went.{Went}
 use Rattle.rules.specs.declared.Went.the-variants.{On, Stop}
 use Rattle.notes.specs.Noted.{Note, Log, Logged, going, full, withNote, logged, used, broken, outOfLines, runLog, emptyLog, nothingUsed}
 use Rattle.note_words.specs.Store.{mostNames, logIn, notesTo, wavesTo, storeLength}
+use Rattle.note_words.proofs.Laws.{filed-none}
 use Rattle.noted_events.specs.Events.{logOf, loggedAt, toldIs, Within, KeptCounts, KeptBy, Ready}
 use Rattle.noted_events.specs.declared.Told.the-variants.{Going, Full}
 use Rattle.file_answer.specs.Scans.{finishIs, textStep, changeStep, toldBy, standing, runFrom, Reached, Ground, Sound}
@@ -138,7 +141,7 @@ module _ (l : Lengths) (s xs : List ℕ) (x : Standing) where
 
   pub ready : (p : Spot) → Sound s xs x → TextIs s (x .cursor) (p .line) (p .start) (p .end) (p .next) → Ready s xs (x .tally) p
   ready p h t =
-      record { cursor = x .cursor; text = t; counted = h .reached .counted; clean = h .reached .clean; small = h .small; store = h .store; within = h .within; rows = omega (arith, h .rows, t .from) }
+      record { cursor = x .cursor; text = t; counted = h .reached .counted; clean = h .reached .clean; small = h .small; store = h .store; within = h .within; filed = h .filed; rows = omega (arith, h .rows, t .from) }
 
 -- ---- from a place on, behind the text that stands there
 
@@ -157,9 +160,9 @@ module _ (l : Lengths) (s xs ys : List ℕ) (g : Stage) (c : Cursor) (t : Tally)
   pub text-stop : (f : Fault) → onPlain g (p .line) (part (p .start) (p .end) s) ≡ Stop f → runFrom l s xs (standing g c t) ≡ finishIs s xs (record { ending = Broken f; tally = t })
   text-stop f h = run-text l s xs (standing g c t) p text ∙ plain-stop l (past s c) s xs ys g t p f h
 
-  text-sound : (v : Tally) → Ground s xs c t → length ys ≡ length xs → KeptCounts t v → Ground s ys (p .next) v
+  text-sound : (v : Tally) → Ground s xs c t → length ys ≡ length xs → KeptCounts ys t v → Ground s ys (p .next) v
   text-sound v h e k =
-      record { placed = text .goes .placed; reached = reached-on s c (p .next) (text .goes) (h .reached); small = h .small; store = omega (arith, e, h .store); within = k .within; rows = omega (arith, k .rows, h .rows, text .goes .rises) }
+      record { placed = text .goes .placed; reached = reached-on s c (p .next) (text .goes) (h .reached); small = h .small; store = omega (arith, e, h .store); within = k .within; filed = k .filed; rows = omega (arith, k .rows, h .rows, text .goes .rises) }
 
 -- as it was noted: q is the text p
 module _ (l : Lengths) (s xs ys : List ℕ) (g : Stage) (c : Cursor) (t : Tally) (p q : Spot) (is : q ≡ p) (text : TextIs s c (p .line) (p .start) (p .end) (p .next)) (r : NotedLine) (e : Event) (noted : loggedAt l s xs t q e ≡ toldIs s ys (q .line) (toldBy r)) where
@@ -174,11 +177,11 @@ module _ (l : Lengths) (s xs ys : List ℕ) (g : Stage) (c : Cursor) (t : Tally)
   noted-full u h z = text-full l s xs ys g c t p text u e (r .fault) (r .tally) h (noted-here ∙ ap (toldIs s ys (p .line)) (told-full r z))
 
 pub noted-sound : (l : Lengths) (s xs ys : List ℕ) (g : Stage) (c : Cursor) (t : Tally) (p : Spot) → TextIs s c (p .line) (p .start) (p .end) (p .next) → (r : NotedLine) → Ground s xs c t → length ys ≡ length xs
-    → KeptBy t (toldBy r) → r .fault ≡ 0 → Ground s ys (p .next) (r .tally)
-noted-sound l s xs ys g c t p text r h k m z = text-sound l s xs ys g c t p text (r .tally) h k (subst (KeptBy t) (told-going r z) m)
+    → KeptBy ys t (toldBy r) → r .fault ≡ 0 → Ground s ys (p .next) (r .tally)
+noted-sound l s xs ys g c t p text r h k m z = text-sound l s xs ys g c t p text (r .tally) h k (subst (KeptBy ys t) (told-going r z) m)
 
-pub noted-names : (t : Tally) (r : NotedLine) → KeptBy t (toldBy r) → (r .fault ≡ 0 → ⊥) → r .tally .names ≤ mostNames
-noted-names t r m z = subst (KeptBy t) (told-full r z) m
+pub noted-names : (xs : List ℕ) (t : Tally) (r : NotedLine) → KeptBy xs t (toldBy r) → (r .fault ≡ 0 → ⊥) → r .tally .names ≤ mostNames
+noted-names xs t r m z = subst (KeptBy xs t) (told-full r z) m
 
 module _ (l : Lengths) (s xs : List ℕ) (g : Stage) (c : Cursor) (t : Tally) (k f : ℕ) (n : Cursor) (line : ChangeIs s c k f n) where
   pub line-on : (u : Stage) (e : Event) → onChange g k f ≡ On u e → runFrom l s xs (standing g c t) ≡ runFrom l s xs (standing u n t)
@@ -191,11 +194,18 @@ module _ (l : Lengths) (s xs : List ℕ) (g : Stage) (c : Cursor) (t : Tally) (k
   line-stop x h = run-change l s xs (standing g c t) k f n line ∙ change-stop l (past s c) s xs g t k f n x h
 
   pub line-sound : Ground s xs c t → Ground s xs n t
-  line-sound h = record { placed = line .goes .placed; reached = reached-on s c n (line .goes) (h .reached); small = h .small; store = h .store; within = h .within; rows = omega (arith, h .rows, line .goes .rises) }
+  line-sound h = record { placed = line .goes .placed; reached = reached-on s c n (line .goes) (h .reached); small = h .small; store = h .store; within = h .within; filed = h .filed; rows = omega (arith, h .rows, line .goes .rises) }
 
 nothing-within : Within (record { names = 0; counts = nothingUsed })
 nothing-within =
     record { names = refl; components = omega arith; pins = omega arith; selectors = omega arith; choices = omega arith; models = omega arith; waveforms = omega arith }
+
+none-used : (k : Kind) → used nothingUsed k ≡ 0
+none-used OfComponent = refl
+none-used OfPin = refl
+none-used OfSelector = refl
+none-used OfChoice = refl
+none-used OfModel = refl
 
 nothing-logged : (s xs : List ℕ) → logOf s xs (record { names = 0; counts = nothingUsed }) ≡ emptyLog
 unfolding logIn notesTo wavesTo
@@ -206,7 +216,7 @@ nothing-logged s xs = refl
 pub first-sound : (s xs : List ℕ) → length s ≤ 65536 → storeLength ≤ length xs → CleanFrom s firstCursor
     → Sound s xs (record { stage = BeforeVersion; cursor = firstCursor; tally = record { names = 0; counts = nothingUsed } })
 first-sound s xs h g k =
-    record { placed = record { within = omega arith; lines = omega arith }; reached = record { counted = refl; clean = k }; small = h; store = g; within = nothing-within; rows = omega arith }
+    record { placed = record { within = omega arith; lines = omega arith }; reached = record { counted = refl; clean = k }; small = h; store = g; within = nothing-within; filed = filed-none xs nothingUsed none-used; rows = omega arith }
 
 pub first-run : (l : Lengths) (s xs : List ℕ) (c : Cursor) (t : Tally) → c ≡ firstCursor → t ≡ record { names = 0; counts = nothingUsed }
     → runLog l (past s firstCursor) BeforeVersion emptyLog (rest s firstCursor) ≡ runFrom l s xs (record { stage = BeforeVersion; cursor = c; tally = t })

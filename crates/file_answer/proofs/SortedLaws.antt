@@ -1,71 +1,78 @@
--- The names by kind and the waveforms, as lists: each is read where it lies.
-use Prim.Native.Nat.{ℕ, zero, suc, _+_, _<_}
+-- The notes of a kind and the waveforms, as lists: each is read where it lies.
+use Prim.Native.Nat.{ℕ, zero, suc, _+_, _≤_, _<_}
 use mathlib.Core.Path.{_≡_, refl, sym, ap, _∙_}
 use mathlib.Core.List.{List, [], _∷_, _++_, reverse, reverse-cons}
-use mathlib.Core.Bool.{Bool, true}
+use mathlib.Core.Bool.{true}
 use native.Mathlib.Omega.{arith}
-use native.Mathlib.Nat.{not-suc-le-zero}
-use lib.ListN.{length, getD}
+use native.Mathlib.Numerals.{add-one}
+use lib.ListN.{length}
+use lib.Dec.{eqb}
 use borrow.Author.Tests.{eqb-true}
-use Rattle.laws.specs.Lists.{all}
-use Rattle.laws.proofs.Tests.{by-test, and-both, and-first, and-second}
-use Rattle.laws.proofs.Fronts.{all-append}
+use Rattle.laws.proofs.Tests.{by-test, cond-yes, cond-no}
 use Rattle.rules.specs.Outline.{place}
 use Rattle.records.specs.declared.Kind.{Kind}
 use Rattle.records.specs.declared.Kind.the-variants.{OfComponent, OfPin, OfSelector, OfChoice, OfModel}
+use Rattle.records.specs.declared.Counts.{Counts}
 use Rattle.notes.specs.Noted.{Note, Wave}
-use Rattle.note_words.specs.Store.{kindOf, kindAt, noteOf, noteAt, waveAt, wavesTo}
+use Rattle.note_words.specs.Store.{liesAt, kindAt, noteOf, noteAt, howMany, Filed, notesTo, waveAt, wavesTo}
 use Rattle.note_words.proofs.Laws.{note-kind}
 use Rattle.layout_by_notes.specs.Lies.{pick, isOf}
+use Rattle.from_notes.specs.Made.{noteBy}
 use Rattle.file_answer.specs.Sorted.{upTo}
-use Rattle.file_answer.proofs.UpTo.{all-upTo}
+use Rattle.file_answer.proofs.UpTo.{upTo-length}
 
--- ---- what is picked is of its kind
+-- ---- a kind by its number
 
-all-pick : {A : Type 0} (p : A → Bool) (l : List A) → all p (pick p l) ≡ true
-unfolding all pick
-all-pick p [] = refl
-all-pick p (a ∷ l) = by-test (p a) (λ t. rw t rw t (all-pick p l)) (λ t. rw t (all-pick p l))
-
-all-reverse : {A : Type 0} (p : A → Bool) (l : List A) → all p l ≡ true → all p (reverse l) ≡ true
-unfolding all
-all-reverse p [] h = refl
-all-reverse p (a ∷ l) h =
-    rw (reverse-cons a l) (all-append p (reverse l) (a ∷ []) (all-reverse p l (and-second (p a) (all p l) h)) (and-both (p a) true (and-first (p a) (all p l) h) refl))
-
-all-get : {A : Type 0} (p : A → Bool) (l : List A) (i : ℕ) (d : A) → all p l ≡ true → i < length l → p (getD l i d) ≡ true
-unfolding all
-all-get p [] i d h k = absurd (not-suc-le-zero k)
-all-get p (a ∷ l) zero d h k = and-first (p a) (all p l) h
-all-get p (a ∷ l) (suc i) d h k = all-get p l i d (and-second (p a) (all p l) h) (omega (arith, k))
-
-pub picked : (k : Kind) (l : List Note) (i : ℕ) (d : Note) → i < length (reverse (pick (isOf k) l)) → isOf k (getD (reverse (pick (isOf k) l)) i d) ≡ true
-picked k l i d h = all-get (isOf k) (reverse (pick (isOf k) l)) i d (all-reverse (isOf k) (pick (isOf k) l) (all-pick (isOf k) l)) h
-
--- ---- a note of a kind is read as one of that kind
+abbrev kindOf : ℕ → Kind
+kindOf zero = OfComponent
+kindOf (suc zero) = OfPin
+kindOf (suc (suc zero)) = OfSelector
+kindOf (suc (suc (suc zero))) = OfChoice
+kindOf (suc (suc (suc (suc n)))) = OfModel
 
 kind-place : (k : Kind) → kindOf (place k) ≡ k
-unfolding kindOf
 kind-place OfComponent = refl
 kind-place OfPin = refl
 kind-place OfSelector = refl
 kind-place OfChoice = refl
 kind-place OfModel = refl
 
-of-kind : (s xs : List ℕ) (i : ℕ) (k : Kind) → isOf k (noteAt s xs i) ≡ true → noteAt s xs i ≡ noteOf s xs i k
-unfolding noteAt
-of-kind s xs i k h =
-    let q : Kind = kindAt xs i in
-    let e : place k ≡ place q = eqb-true (place k) (place (noteAt s xs i .kind)) h ∙ ap place (note-kind s xs i) in
-    let m : k ≡ q = sym (kind-place k) ∙ ap kindOf e ∙ kind-place q in
-    ap (noteOf s xs i) (sym m)
+same-kind : (k m : Kind) → eqb (place k) (place m) ≡ true → k ≡ m
+same-kind k m h = sym (kind-place k) ∙ ap kindOf (eqb-true (place k) (place m) h) ∙ kind-place m
 
-module _ (s xs : List ℕ) (k : Kind) (l : List Note) (f : ℕ → ℕ) (d : Note)
-    (each : (j : ℕ) → j < length (reverse (pick (isOf k) l)) → getD (reverse (pick (isOf k) l)) j d ≡ noteAt s xs (f j)) where
-  pub by-kind : reverse (pick (isOf k) l) ≡ upTo (λ (i : ℕ). noteOf s xs (f i) k) (length (reverse (pick (isOf k) l)))
+-- ---- the notes of a kind lie one behind the other
+
+module _ (s xs : List ℕ) (n : ℕ) (c : Counts) (filed : Filed xs n c) (k : Kind) where
+  note-here : (m : ℕ) → m < n → k ≡ kindAt xs m → noteAt s xs m ≡ noteBy s xs k (howMany xs k m)
+  unfolding noteAt
+  note-here m h e =
+      ap (λ (a : ℕ). noteOf s xs a (kindAt xs m)) (filed .lies m h)
+      ∙ ap (λ (x : Kind). noteOf s xs (liesAt x (howMany xs x m)) x) (sym e)
+
+  picked : (m : ℕ) → m ≤ n → reverse (pick (isOf k) (notesTo s xs m)) ≡ upTo (noteBy s xs k) (howMany xs k m)
+  unfolding pick notesTo howMany upTo
+  picked zero h = refl
+  picked (suc m) h =
+      let a : Note = noteAt s xs m in
+      let ns : List Note = pick (isOf k) (notesTo s xs m) in
+      let many : ℕ = howMany xs k m in
+      let test : isOf k a ≡ eqb (place k) (place (kindAt xs m)) = ap (λ (x : Kind). eqb (place k) (place x)) (note-kind s xs m) in
+      let more : upTo (noteBy s xs k) (many + 1) ≡ upTo (noteBy s xs k) many ++ (noteBy s xs k many ∷ []) = rw (add-one many) refl in
+      by-test (eqb (place k) (place (kindAt xs m)))
+      (λ t.
+      ap reverse (cond-yes (a ∷ ns) ns (test ∙ t))
+      ∙ reverse-cons a ns
+      ∙ ap (λ (l : List Note). l ++ (a ∷ [])) (picked m (omega (arith, h)))
+      ∙ ap (λ (b : Note). upTo (noteBy s xs k) many ++ (b ∷ [])) (note-here m (omega (arith, h)) (same-kind k (kindAt xs m) t))
+      ∙ sym more
+      ∙ ap (upTo (noteBy s xs k)) (sym (cond-yes (many + 1) many t)))
+      (λ t.
+      ap reverse (cond-no (a ∷ ns) ns (test ∙ t)) ∙ picked m (omega (arith, h)) ∙ ap (upTo (noteBy s xs k)) (sym (cond-no (many + 1) many t)))
+
+  pub by-kind : reverse (pick (isOf k) (notesTo s xs n)) ≡ upTo (noteBy s xs k) (length (reverse (pick (isOf k) (notesTo s xs n))))
   by-kind =
-      all-upTo (reverse (pick (isOf k) l)) (λ (i : ℕ). noteOf s xs (f i) k) d
-      (λ i h. each i h ∙ of-kind s xs (f i) k (ap (isOf k) (sym (each i h)) ∙ picked k l i d h))
+      let all = picked n (omega arith) in
+      all ∙ ap (upTo (noteBy s xs k)) (sym (ap length all ∙ upTo-length (noteBy s xs k) (howMany xs k n)))
 
 -- ---- waveforms
 

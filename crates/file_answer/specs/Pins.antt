@@ -3,7 +3,6 @@ use Prim.Native.Nat.{ℕ, _≤_}
 use mathlib.Core.Path.{_≡_}
 use mathlib.Core.List.{List}
 use mathlib.Core.Bool.{Bool, false}
-use lib.ListN.{length}
 use Rattle.laws.specs.Lists.{part}
 use Rattle.words.specs.Words.{words}
 use Rattle.line_rules.specs.Fields.{isBracketed}
@@ -31,7 +30,7 @@ pub record PinIs (l : Lengths) (s xs : List ℕ) (t : Tally) (p : Spot) (long : 
   pub unbracketed : isBracketed (part (p .start) (p .end) s) ≡ false
   pub pin : pinFault long (words (part (p .start) (p .end) s)) ≡ 0
   pub noted : loggedAt l s xs t p PinRow ≡ going (logOf s ys more)
-  pub kept : KeptCounts t more
+  pub kept : KeptCounts ys t more
   pub behind : next ≡ p .next
 
 abbrev pub PinIn : Lengths → List ℕ → List ℕ → Tally → Spot → Bool → List ℕ → NextPin → Type 0
@@ -46,7 +45,7 @@ KeepsPins g long = (k : ℕ) (w : List ℕ) → isBracketed w ≡ false → pinF
 pub record PinNext (l : Lengths) (s xs : List ℕ) (c : Cursor) (t : Tally) (long : Bool) (ys : List ℕ) (more : Tally) (next : Cursor) : Type 0 where
   pub says : (g : Stage) → KeepsPins g long → runFrom l s xs (standing g c t) ≡ runFrom l s ys (standing g next more)
   pub goes : Goes s c next
-  pub kept : KeptCounts t more
+  pub kept : KeptCounts ys t more
 
 abbrev pub NextPinIs : Lengths → List ℕ → List ℕ → Cursor → Tally → Bool → List ℕ → NextPin → Type 0
 NextPinIs l s xs c t long ys (Pin more next) = PinNext l s xs c t long ys more next

@@ -21,7 +21,7 @@ use Rattle.rules.specs.declared.ModelState.{ModelState}
 use Rattle.rules.specs.declared.Stage.the-variants.{InModel}
 use Rattle.model_steps.specs.Rows.{rowStep}
 use Rattle.model_steps.specs.declared.RowStep.the-variants as step
-use Rattle.noted_events.specs.Events.{Within}
+use Rattle.noted_events.specs.Events.{Within, FiledBy}
 use Rattle.noted_events.specs.declared.Tally.{Tally}
 use Rattle.file_answer.specs.Scans.{runFrom, Reached}
 use Rattle.file_answer.specs.declared.Passed.{Passed}
@@ -79,5 +79,6 @@ pub record Steady (s : List ℕ) (x : Standing) : Type 0 where
 pub record PassesOn (l : Lengths) (s : List ℕ) (x y : Standing) : Type 0 where
   pub says : (xs : List ℕ) → runFrom l s xs x ≡ runFrom l s xs y
   pub steady : Steady s y
+  pub filed : (xs : List ℕ) → FiledBy xs (x .tally) → FiledBy xs (y .tally)
   pub reached : Reached s (x .cursor) → Reached s (y .cursor)
   pub from : x .cursor .at ≤ y .cursor .at

@@ -16,7 +16,7 @@ use Rattle.records.specs.declared.Lengths.{Lengths}
 use Rattle.rules.specs.declared.Stage.{Stage}
 use Rattle.notes.specs.Noted.{Log, Finish, afterWent, runLog}
 use Rattle.note_words.specs.Store.{storeLength}
-use Rattle.noted_events.specs.Events.{logOf, Within}
+use Rattle.noted_events.specs.Events.{logOf, Within, FiledBy}
 use Rattle.noted_events.specs.declared.Spot.{Spot}
 use Rattle.noted_events.specs.declared.Tally.{Tally}
 use Rattle.noted_events.specs.declared.Told.{Told}
@@ -50,10 +50,10 @@ changeStep l n s xs g t k f c =
 abbrev pub toldBy : NotedLine → Told
 toldBy r = cond (eqb (r .fault) 0) (Going (r .tally)) (Full (r .fault) (r .tally))
 
--- lines read to the end leave a tally within the bounds
-abbrev pub WithinAt : Tally → Ending → Type 0
-WithinAt t Whole = Within t
-WithinAt t (Broken f) = Unit {0}
+-- lines read to the end leave a tally within the bounds, and a store filed by it
+abbrev pub WithinAt : List ℕ → Tally → Ending → Type 0
+WithinAt xs t Whole = Within t × FiledBy xs t
+WithinAt xs t (Broken f) = Unit {0}
 
 -- ---- from a place on
 
@@ -75,6 +75,7 @@ pub record Ground (s xs : List ℕ) (c : Cursor) (t : Tally) : Type 0 where
   pub small : length s ≤ 65536
   pub store : storeLength ≤ length xs
   pub within : Within t
+  pub filed : FiledBy xs t
   pub rows : t .counts .rows ≤ c .at
 
 abbrev pub Sound : List ℕ → List ℕ → Standing → Type 0

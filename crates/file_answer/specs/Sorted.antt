@@ -1,5 +1,5 @@
 -- What is noted of an accepted file, for those who fill the tables: its names by kind, and its waveforms.
-use Prim.Native.Nat.{ℕ, zero, suc, _≤_}
+use Prim.Native.Nat.{ℕ, zero, suc}
 use mathlib.Core.Path.{_≡_}
 use mathlib.Core.List.{List, [], _∷_, _++_, map, reverse}
 use mathlib.Core.Option.{none}
@@ -12,8 +12,8 @@ use Rattle.records.specs.declared.Kind.{Kind}
 use Rattle.records.specs.declared.Lengths.{Lengths}
 use Rattle.rules.specs.declared.Stage.the-variants.{BeforeVersion}
 use Rattle.notes.specs.Noted.{Log, entryOf, runLog, emptyLog, whole, clash}
-use Rattle.note_words.specs.Store.{waveAt, notesTo, storeLength}
-use Rattle.noted_events.specs.Events.{logOf, Within}
+use Rattle.note_words.specs.Store.{waveAt, notesTo}
+use Rattle.noted_events.specs.Events.{logOf, Within, FiledBy}
 use Rattle.noted_events.specs.declared.Tally.{Tally}
 use Rattle.layout_by_notes.specs.Lies.{noted}
 use Rattle.from_notes.specs.Made.{noteBy}
@@ -47,4 +47,4 @@ pub record ReadWhole (l : Lengths) (s xs : List ℕ) (t : Tally) : Type 0 where
   pub read : runLog l (past s firstCursor) BeforeVersion emptyLog (rest s firstCursor) ≡ whole (logOf s xs t)
   pub names : clash (map entryOf (notesTo s xs (t .names))) ≡ none
   pub within : Within t
-  pub store : storeLength ≤ length xs
+  pub filed : FiledBy xs t

@@ -8,7 +8,7 @@ ghost use Rattle.rules.specs.declared.Stage.the-variants.{BeforeVersion};
 ghost use Rattle.notes.specs.Noted.{runLog, emptyLog, outOfLines};
 ghost use Rattle.file_answer.specs.declared.Ending.the-variants.{Broken};
 ghost use Rattle.note_words.specs.Store.{mostNames, storeLength};
-ghost use Rattle.noted_events.specs.Events.{logOf, loggedAt, toldIs, KeptBy, Ready, Within};
+ghost use Rattle.noted_events.specs.Events.{logOf, loggedAt, toldIs, KeptBy, Ready, Within, FiledBy};
 ghost use Rattle.file_answer.specs.Scans.{toldBy, finishIs, standing, WithinAt, Sound, ListPassed};
 use crate::Ending;
 use crate::NotedLine;
@@ -75,7 +75,7 @@ fn stands(stage: Stage, cursor: Cursor, tally: Tally) -> Standing
 fn note_line(notes: &mut [u16], src: &[u8], l: Lengths, t: Tally, p: Spot, e: Event) -> NotedLine
     requires { ⌜ Ready (now src) (now notes) t p ⌝ }
     ensures { λ r. ⌜ loggedAt l (now (src .entry)) (now (notes .entry)) t p e ≡ toldIs (now (src .entry)) (now (notes .exit)) (p .line) (toldBy r) ⌝ }
-    ensures { λ r. ⌜ KeptBy t (toldBy r) ⌝ }
+    ensures { λ r. ⌜ KeptBy (now (notes .exit)) t (toldBy r) ⌝ }
 {
     if let Event::Quiet = e {
         return NotedLine { tally: t, fault: 0 };
@@ -121,7 +121,7 @@ fn behind_list(notes: &mut [u16], src: &[u8], l: Lengths, x: Standing) -> Standi
 fn out_of_lines(s: Stage, t: Tally, line: u64) -> Scanned
     ensures { λ r. ⌜ ((src xs : List ℕ) → outOfLines line (logOf src xs t) s ≡ finishIs src xs r) ⌝ }
     ensures { λ r. ⌜ r .tally ≡ t ⌝ }
-    ensures { λ r. ⌜ (Within t → WithinAt (r .tally) (r .ending)) ⌝ }
+    ensures { λ r. ⌜ ((xs : List ℕ) → Within t × FiledBy xs t → WithinAt xs (r .tally) (r .ending)) ⌝ }
 {
     let f = Fault {
         number: 19,
@@ -145,7 +145,7 @@ pub fn scan(notes: &mut [u16], src: &[u8], l: Lengths) -> Scanned
     requires { ⌜ (length (now src) ≤ 65536) × (storeLength ≤ length (now notes)) ⌝ }
     requires { ⌜ CleanFrom (now src) firstCursor ⌝ }
     ensures { λ r. ⌜ runLog l (past (now (src .entry)) firstCursor) BeforeVersion emptyLog (rest (now (src .entry)) firstCursor) ≡ finishIs (now (src .entry)) (now (notes .exit)) r ⌝ }
-    ensures { λ r. ⌜ (r .tally .names ≤ mostNames) × WithinAt (r .tally) (r .ending) ⌝ }
+    ensures { λ r. ⌜ (r .tally .names ≤ mostNames) × WithinAt (now (notes .exit)) (r .tally) (r .ending) ⌝ }
 {
     let mut stage = Stage::BeforeVersion;
     let mut cursor = Cursor::first();

@@ -57,17 +57,13 @@ fn accepted(src: &[u8], c: Counts) -> Answer
     }
 }
 
-// The last checks, once all lines are read and no name is used twice; an accepted file's names are then sorted by kind.
-fn last_checks(src: &[u8], l: Lengths, t: Tally, notes: &mut [u16]) -> Answer
+// The last checks, once all lines are read and no name is used twice.
+fn last_checks(src: &[u8], l: Lengths, t: Tally, notes: &[u16]) -> Answer
     requires { ⌜ ReadWhole l (now src) (now notes) t ⌝ }
-    ensures { λ r. ⌜ Outlines l (now (src .entry)) r (now (notes .exit)) ⌝ }
+    ensures { λ r. ⌜ Outlines l (now (src .entry)) r (now (notes .entry)) ⌝ }
 {
-    let names = t.names;
-    match name_checks::last_fault(src, notes, names) {
-        Last::Fine => {
-            name_checks::sort_by_kind(notes, names);
-            accepted(src, t.counts)
-        }
+    match name_checks::last_fault(src, notes, t.names) {
+        Last::Fine => accepted(src, t.counts),
         Last::Faulty(f) => refused(f),
     }
 }

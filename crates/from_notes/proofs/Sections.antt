@@ -18,7 +18,7 @@ use Rattle.records.specs.declared.Component.{Component}
 use Rattle.records.specs.declared.Selector.{Selector}
 use Rattle.records.specs.declared.Model.{Model}
 use Rattle.records.specs.declared.Kind.the-variants.{OfComponent, OfSelector, OfModel}
-use Rattle.note_words.specs.Store.{sectionAt, nameAt, noteOf}
+use Rattle.note_words.specs.Store.{sectionAt, nameOf, noteOf}
 use Rattle.note_words.specs.declared.SectionNote.{SectionNote}
 use Rattle.layout_by_notes.specs.Lies.{componentNoted, selectorNoted, tablesNoted, modelNoted}
 use Rattle.from_notes.specs.Made.{StandsBehind}
@@ -55,24 +55,24 @@ model-from n row start name f ts =
 
 -- ---- as noted
 
-module _ (s ns : List ℕ) (n : ℕ) {c : Cursor} (h : StandsBehind s ns n c) where
+module _ (s ns : List ℕ) (a : ℕ) {c : Cursor} (h : StandsBehind s ns a c) where
   abbrev x : SectionNote
-  x = sectionAt ns n
+  x = sectionAt ns a
 
   abbrev name : List ℕ
-  name = nameAt s ns n
+  name = nameOf s ns a
 
-  pub component-noted : componentFrom (x .section) (x .start) name (rest s c) ≡ componentNoted (noteOf s ns n OfComponent)
+  pub component-noted : componentFrom (x .section) (x .start) name (rest s c) ≡ componentNoted (noteOf s ns a OfComponent)
   unfolding componentNoted
   component-noted = stands-behind (componentFrom (x .section) (x .start) name) (component-from (x .section) (x .start) name) h (lineAt s (x .at))
 
-  pub selector-noted : selectorFrom (x .section) (x .start) name (rest s c) ≡ selectorNoted (noteOf s ns n OfSelector)
+  pub selector-noted : selectorFrom (x .section) (x .start) name (rest s c) ≡ selectorNoted (noteOf s ns a OfSelector)
   unfolding selectorNoted
   selector-noted = stands-behind (selectorFrom (x .section) (x .start) name) (selector-from (x .section) (x .start) name) h (lineAt s (x .at))
 
-  pub model-noted : modelFrom (x .section) (x .row) (x .start) name (rest s c) ≡ modelNoted (noteOf s ns n OfModel)
+  pub model-noted : modelFrom (x .section) (x .row) (x .start) name (rest s c) ≡ modelNoted (noteOf s ns a OfModel)
   unfolding modelNoted
   model-noted = stands-behind (modelFrom (x .section) (x .row) (x .start) name) (model-from (x .section) (x .row) (x .start) name) h (lineAt s (x .at))
 
-  pub tables-noted : tablesIn (front isWithin (rest s c)) ≡ tablesNoted (noteOf s ns n OfModel)
+  pub tables-noted : tablesIn (front isWithin (rest s c)) ≡ tablesNoted (noteOf s ns a OfModel)
   tables-noted = stands-behind (λ (ts : List Text). tablesIn (front isWithin ts)) tables-within-numberless h (lineAt s (x .at))

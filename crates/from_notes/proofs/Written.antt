@@ -4,7 +4,7 @@ use mathlib.Core.Path.{_≡_, refl, sym, ap, _∙_}
 use mathlib.Core.List.{List, _++_, flatMap}
 use native.Mathlib.Omega.{arith}
 use native.Mathlib.Numerals.{add-one}
-use lib.ListN.{length, getD, length-append}
+use lib.ListN.{length, length-append}
 use borrow.Rule.Slice.PartMut.{putMid, midOf}
 use Rattle.laws.proofs.Tests.{by-order}
 use Rattle.cut_lines.specs.Cursors.{rest}
@@ -14,7 +14,7 @@ use Rattle.rules.specs.Reading.{isWithin, TableIs}
 use Rattle.layout.specs.Laid.{rowsOf}
 use Rattle.records.specs.Stored.{stored, over}
 use Rattle.records.specs.declared.Kind.the-variants.{OfModel}
-use Rattle.note_words.specs.Store.{listFrom, noteOf}
+use Rattle.note_words.specs.Store.{liesAt, noteOf}
 use Rattle.layout_by_notes.specs.Lies.{rowsNoted}
 use Rattle.table_rows.specs.Parts.{modelWords}
 use Rattle.table_rows.proofs.Stores.{over-none, over-length, over-rest, stored-append}
@@ -23,9 +23,9 @@ use Rattle.from_notes.proofs.Sections.{tables-noted}
 
 -- ---- a model's rows
 
-model-rows : (s ns : List ℕ) (n : ℕ) {c : Cursor} → StandsBehind s ns n c → modelWords (front isWithin (rest s c)) ≡ stored (rowsNoted (noteOf s ns n OfModel))
+model-rows : (s ns : List ℕ) (a : ℕ) {c : Cursor} → StandsBehind s ns a c → modelWords (front isWithin (rest s c)) ≡ stored (rowsNoted (noteOf s ns a OfModel))
 unfolding rowsNoted
-model-rows s ns n h = ap (λ (ts : List TableIs). stored (flatMap rowsOf ts)) (tables-noted s ns n h)
+model-rows s ns a h = ap (λ (ts : List TableIs). stored (flatMap rowsOf ts)) (tables-noted s ns a h)
 
 -- ---- the words of the first models
 
@@ -58,16 +58,14 @@ module _ {s ns before now : List ℕ} {i used : ℕ} (p : Written s ns before no
   pub written-length : i ≤ n → length now ≡ length before
   written-length q = ap length (p .store) ∙ over-length before (words s ns i) (omega (arith, words-rise s ns i n q))
 
-  module _ (q : i < n) {k : ℕ} (e : k ≡ getD ns (listFrom OfModel + i) 0) {c : Cursor} (b : StandsBehind s ns k c) where
+  module _ (q : i < n) {c : Cursor} (b : StandsBehind s ns (liesAt OfModel i) c) where
     abbrev more : List ℕ
     more = modelWords (front isWithin (rest s c))
 
     next-words : words s ns (i + 1) ≡ words s ns i ++ more
     next-words =
         rw (add-one i)
-        (words-more s ns i
-        ∙ ap (λ (j : ℕ). words s ns i ++ stored (rowsNoted (noteOf s ns j OfModel))) (sym e)
-        ∙ ap (λ (l : List ℕ). words s ns i ++ l) (sym (model-rows s ns k b)))
+        (words-more s ns i ∙ ap (λ (l : List ℕ). words s ns i ++ l) (sym (model-rows s ns (liesAt OfModel i) b)))
 
     next-length : used + length more ≤ length before
     next-length =

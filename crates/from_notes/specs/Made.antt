@@ -1,10 +1,10 @@
 -- The records that the notes in a store of words say, one by one, and the rows of its models; for any words.
-use Prim.Native.Nat.{ℕ, zero, suc, _+_}
+use Prim.Native.Nat.{ℕ, zero, suc}
 use Prim.Native.Char.{code}
 use mathlib.Core.Path.{_≡_}
 use mathlib.Core.List.{List, [], _++_}
 use mathlib.Core.Bool.{cond}
-use lib.ListN.{drop, getD}
+use lib.ListN.{drop}
 use lib.Dec.{leb}
 use Rattle.laws.specs.Lists.{part}
 use Rattle.cut_lines.specs.Cursors.{rest, Placed}
@@ -19,13 +19,13 @@ use Rattle.records.specs.declared.Choice.{Choice}
 use Rattle.records.specs.declared.Model.{Model}
 use Rattle.records.specs.declared.Waveform.{Waveform}
 use Rattle.notes.specs.Noted.{Note}
-use Rattle.note_words.specs.Store.{listFrom, sectionAt, rowAt, noteOf, waveAt}
+use Rattle.note_words.specs.Store.{liesAt, sectionAt, rowAt, noteOf, waveAt}
 use Rattle.layout_by_notes.specs.Lies.{componentNoted, pinNoted, selectorNoted, choiceNoted, modelNoted, rowsNoted, waveNoted}
 
--- ---- the note at place i in the list of its kind
+-- ---- note i of a kind
 
 abbrev pub noteBy : List ℕ → List ℕ → Kind → ℕ → Note
-noteBy s ns k i = noteOf s ns (getD ns (listFrom k + i) 0) k
+noteBy s ns k i = noteOf s ns (liesAt k i) k
 
 -- ---- the record at place i of each table
 
@@ -68,10 +68,10 @@ pub record BehindText (s : List ℕ) (d c : Cursor) : Type 0 where
   pub placed : Placed s c
   pub texts : rest s c ≡ drop 1 (rest s d)
 
--- ---- what is noted at place n: a row's text, and what stands behind a section's keyword line
+-- ---- the note that lies at a: a row's text, and what stands behind a section's keyword line
 
 abbrev pub rowNoted : List ℕ → List ℕ → ℕ → List ℕ
-rowNoted s ns n = part (rowAt ns n .at) (rowAt ns n .«text_end») s
+rowNoted s ns a = part (rowAt ns a .at) (rowAt ns a .«text_end») s
 
 abbrev pub StandsBehind : List ℕ → List ℕ → ℕ → Cursor → Type 0
-StandsBehind s ns n c = BehindText s (record { at = sectionAt ns n .at; line = 1; comment = sectionAt ns n .comment }) c
+StandsBehind s ns a c = BehindText s (record { at = sectionAt ns a .at; line = 1; comment = sectionAt ns a .comment }) c

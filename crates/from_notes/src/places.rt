@@ -1,24 +1,27 @@
 // What the words of a store name, whatever the words are: words, parts of the file and cursors.
 ghost use mathlib.Core.Path.{_≡_};
-ghost use Prim.Native.Nat.{_+_};
+ghost use Prim.Native.Nat.{_+_, _*_, _≤_, _<_};
 ghost use lib.ListN.{getD};
 ghost use Rattle.laws.specs.Lists.{part};
 ghost use Rattle.cut_lines.specs.Cursors.{Placed};
-ghost use Rattle.note_words.specs.Store.{nameAt, nameWord, waveWord};
+ghost use Rattle.note_words.specs.Store.{wordsPerSection, wordsPerRow, orderFrom, wordOf, nameOf, sectionAt, waveWord};
 ghost use Rattle.from_notes.specs.Made.{markOf, StandsAt, rowNoted, BehindText, StandsBehind};
 use cut_lines::Cursor;
 use cut_lines::Next;
 use note_words::AT;
-use note_words::KIND;
 use note_words::NAME;
 use note_words::PAIR;
+use note_words::ROW_TEXT;
+use note_words::SECTION_PLACE;
 use note_words::WAVES_FROM;
-use note_words::WORDS_PER_NAME;
+use note_words::WORDS_PER_ROW;
+use note_words::WORDS_PER_SECTION;
 use note_words::WORDS_PER_WAVE;
 
 // The word i places behind a place; 0 past the end.
 pub fn word_behind(notes: &[u16], from: usize, i: usize) -> usize
     ensures { λ r. ⌜ r ≡ getD (now (notes .entry)) (from + i) 0 ⌝ }
+    ensures { λ r. ⌜ r < 65536 ⌝ }
 {
     if notes.len() <= i {
         return 0;
@@ -29,14 +32,28 @@ pub fn word_behind(notes: &[u16], from: usize, i: usize) -> usize
     note_words::word(notes, from + i)
 }
 
-// Word j of the name noted at place n.
-pub fn name_word(notes: &[u16], n: usize, j: usize) -> usize
-    ensures { λ r. ⌜ r ≡ nameWord (now (notes .entry)) n j ⌝ }
+// Word j of section i in the area that begins at this word.
+pub fn section_word(notes: &[u16], from: usize, i: usize, j: usize) -> usize
+    requires { ⌜ from ≤ orderFrom ⌝ }
+    ensures { λ r. ⌜ r ≡ wordOf (now (notes .entry)) (from + wordsPerSection * i) j ⌝ }
+    ensures { λ r. ⌜ r < 65536 ⌝ }
 {
-    if notes.len() / WORDS_PER_NAME < n {
+    if notes.len() / WORDS_PER_SECTION < i {
         return 0;
     }
-    word_behind(notes, WORDS_PER_NAME * n, j)
+    word_behind(notes, from + WORDS_PER_SECTION * i, j)
+}
+
+// Word j of row i in the area that begins at this word.
+fn row_word(notes: &[u16], from: usize, i: usize, j: usize) -> usize
+    requires { ⌜ from ≤ orderFrom ⌝ }
+    ensures { λ r. ⌜ r ≡ wordOf (now (notes .entry)) (from + wordsPerRow * i) j ⌝ }
+    ensures { λ r. ⌜ r < 65536 ⌝ }
+{
+    if notes.len() / WORDS_PER_ROW < i {
+        return 0;
+    }
+    word_behind(notes, from + WORDS_PER_ROW * i, j)
 }
 
 // Word j of the waveform noted at place n.
@@ -94,23 +111,25 @@ pub(crate) fn cursor_at(src: &[u8], at: usize, comment: usize) -> Cursor
     }
 }
 
-// The name that is noted at place n.
-pub fn name_noted<'a>(src: &'a [u8], notes: &[u16], n: usize) -> &'a [u8]
-    ensures { λ r. ⌜ now r ≡ nameAt (now (src .entry)) (now (notes .entry)) n ⌝ }
+// The name of section i in an area.
+pub fn name_noted<'a>(src: &'a [u8], notes: &[u16], from: usize, i: usize) -> &'a [u8]
+    requires { ⌜ from ≤ orderFrom ⌝ }
+    ensures { λ r. ⌜ now r ≡ nameOf (now (src .entry)) (now (notes .entry)) (from + wordsPerSection * i) ⌝ }
 {
-    let at = name_word(notes, n, AT);
-    let name = name_word(notes, n, NAME);
+    let at = section_word(notes, from, i, AT);
+    let name = section_word(notes, from, i, NAME);
     let start = at + name / PAIR;
     part_of(src, start, start + name % PAIR)
 }
 
-// The text of the row that is noted at place n.
-pub(crate) fn row_noted<'a>(src: &'a [u8], notes: &[u16], n: usize) -> &'a [u8]
-    ensures { λ r. ⌜ now r ≡ rowNoted (now (src .entry)) (now (notes .entry)) n ⌝ }
+// The text of row i in an area.
+pub(crate) fn row_noted<'a>(src: &'a [u8], notes: &[u16], from: usize, i: usize) -> &'a [u8]
+    requires { ⌜ from ≤ orderFrom ⌝ }
+    ensures { λ r. ⌜ now r ≡ rowNoted (now (src .entry)) (now (notes .entry)) (from + wordsPerRow * i) ⌝ }
 {
-    let at = name_word(notes, n, AT);
-    let kind = name_word(notes, n, KIND);
-    part_of(src, at, at + kind % PAIR)
+    let at = row_word(notes, from, i, AT);
+    let length = row_word(notes, from, i, ROW_TEXT);
+    part_of(src, at, at + length)
 }
 
 // Behind the next text; where there is none, the same.
@@ -130,12 +149,21 @@ fn behind_text(src: &[u8], c: Cursor) -> Cursor
     }
 }
 
-// Behind the keyword line of the section that is noted at place n.
-pub fn section_noted(src: &[u8], notes: &[u16], n: usize) -> Cursor
-    ensures { λ r. ⌜ StandsBehind (now (src .entry)) (now (notes .entry)) n r ⌝ }
+// Behind the keyword line of section i in an area.
+pub fn section_noted(src: &[u8], notes: &[u16], from: usize, i: usize) -> Cursor
+    requires { ⌜ from ≤ orderFrom ⌝ }
+    ensures { λ r. ⌜ StandsBehind (now (src .entry)) (now (notes .entry)) (from + wordsPerSection * i) r ⌝ }
 {
-    let at = name_word(notes, n, AT);
-    let kind = name_word(notes, n, KIND);
-    let c = cursor_at(src, at, kind % PAIR);
+    let at = section_word(notes, from, i, AT);
+    let place = section_word(notes, from, i, SECTION_PLACE);
+    let c = cursor_at(src, at, place / PAIR);
     behind_text(src, c)
+}
+
+// The place of section i in an area, among the sections.
+pub fn place_noted(notes: &[u16], from: usize, i: usize) -> usize
+    requires { ⌜ from ≤ orderFrom ⌝ }
+    ensures { λ r. ⌜ r ≡ sectionAt (now (notes .entry)) (from + wordsPerSection * i) .section ⌝ }
+{
+    section_word(notes, from, i, SECTION_PLACE) % PAIR
 }

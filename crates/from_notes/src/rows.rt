@@ -5,7 +5,6 @@ ghost use lib.ListN.{length};
 ghost use Rattle.records.specs.Stored.{stored, over};
 ghost use Rattle.from_notes.specs.Made.{rowsAt};
 use crate::places::section_noted;
-use crate::places::word_behind;
 use note_words::MODELS_FROM;
 
 // Writes the rows of the first n models.
@@ -16,8 +15,7 @@ pub fn fill_rows(rows: &mut [u64], src: &[u8], notes: &[u16], n: usize)
     let mut used: usize = 0;
     let mut i: usize = 0;
     while i < n {
-        let place = word_behind(notes, MODELS_FROM, i);
-        let c = section_noted(src, notes, place);
+        let c = section_noted(src, notes, MODELS_FROM, i);
         let words = table_rows::fill_model(&mut rows[used..], src, c);
         used += words;
         i += 1;

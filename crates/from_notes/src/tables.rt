@@ -2,15 +2,14 @@
 ghost use mathlib.Core.Path.{_≡_};
 ghost use Rattle.from_notes.specs.Made.{componentAt, pinAt, selectorAt, choiceAt, modelAt};
 use crate::places::name_noted;
-use crate::places::name_word;
+use crate::places::place_noted;
 use crate::places::row_noted;
 use crate::places::section_noted;
-use crate::places::word_behind;
+use crate::places::section_word;
 use note_words::CHOICES_FROM;
 use note_words::COMPONENTS_FROM;
 use note_words::MODELS_FROM;
 use note_words::PINS_FROM;
-use note_words::SECTION_PLACE;
 use note_words::SECTION_ROW;
 use note_words::SECTION_START;
 use note_words::SELECTORS_FROM;
@@ -23,44 +22,42 @@ use records::Selector;
 pub fn component_at(src: &[u8], notes: &[u16], i: usize) -> Component
     ensures { λ r. ⌜ r ≡ componentAt (now (src .entry)) (now (notes .entry)) i ⌝ }
 {
-    let n = word_behind(notes, COMPONENTS_FROM, i);
-    let section = name_word(notes, n, SECTION_PLACE);
-    let start = name_word(notes, n, SECTION_START);
-    let c = section_noted(src, notes, n);
-    component_records::component_of(src, c, name_noted(src, notes, n), section, start)
+    let section = place_noted(notes, COMPONENTS_FROM, i);
+    let start = section_word(notes, COMPONENTS_FROM, i, SECTION_START);
+    let c = section_noted(src, notes, COMPONENTS_FROM, i);
+    let name = name_noted(src, notes, COMPONENTS_FROM, i);
+    component_records::component_of(src, c, name, section, start)
 }
 
 pub fn pin_at(src: &[u8], notes: &[u16], i: usize) -> Pin
     ensures { λ r. ⌜ r ≡ pinAt (now (src .entry)) (now (notes .entry)) i ⌝ }
 {
-    let n = word_behind(notes, PINS_FROM, i);
-    component_records::pin_of(row_noted(src, notes, n))
+    component_records::pin_of(row_noted(src, notes, PINS_FROM, i))
 }
 
 pub fn selector_at(src: &[u8], notes: &[u16], i: usize) -> Selector
     ensures { λ r. ⌜ r ≡ selectorAt (now (src .entry)) (now (notes .entry)) i ⌝ }
 {
-    let n = word_behind(notes, SELECTORS_FROM, i);
-    let section = name_word(notes, n, SECTION_PLACE);
-    let start = name_word(notes, n, SECTION_START);
-    let c = section_noted(src, notes, n);
-    component_records::selector_of(src, c, name_noted(src, notes, n), section, start)
+    let section = place_noted(notes, SELECTORS_FROM, i);
+    let start = section_word(notes, SELECTORS_FROM, i, SECTION_START);
+    let c = section_noted(src, notes, SELECTORS_FROM, i);
+    let name = name_noted(src, notes, SELECTORS_FROM, i);
+    component_records::selector_of(src, c, name, section, start)
 }
 
 pub fn choice_at(src: &[u8], notes: &[u16], i: usize) -> Choice
     ensures { λ r. ⌜ r ≡ choiceAt (now (src .entry)) (now (notes .entry)) i ⌝ }
 {
-    let n = word_behind(notes, CHOICES_FROM, i);
-    component_records::choice_of(row_noted(src, notes, n))
+    component_records::choice_of(row_noted(src, notes, CHOICES_FROM, i))
 }
 
 pub fn model_at(src: &[u8], notes: &[u16], i: usize) -> Model
     ensures { λ r. ⌜ r ≡ modelAt (now (src .entry)) (now (notes .entry)) i ⌝ }
 {
-    let n = word_behind(notes, MODELS_FROM, i);
-    let section = name_word(notes, n, SECTION_PLACE);
-    let row = name_word(notes, n, SECTION_ROW);
-    let start = name_word(notes, n, SECTION_START);
-    let lines = section_noted(src, notes, n);
-    model_record::model_of(src, lines, name_noted(src, notes, n), section, row, start)
+    let section = place_noted(notes, MODELS_FROM, i);
+    let row = section_word(notes, MODELS_FROM, i, SECTION_ROW);
+    let start = section_word(notes, MODELS_FROM, i, SECTION_START);
+    let lines = section_noted(src, notes, MODELS_FROM, i);
+    let name = name_noted(src, notes, MODELS_FROM, i);
+    model_record::model_of(src, lines, name, section, row, start)
 }

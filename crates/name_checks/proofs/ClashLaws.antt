@@ -85,7 +85,7 @@ module _ (s xs : List ℕ) (i : ℕ) where
       ∙ rw (note-kind s xs i) rw (note-kind s xs j) rw (note-name s xs i) rw (note-name s xs j) refl
 
   -- of its kind k, and its name at w
-  module _ (k : ℕ) (w : Word) (kind : k ≡ placeAt xs i) (said : w ≡ partSaid xs i 2) where
+  module _ (k : ℕ) (w : Word) (kind : k ≡ placeAt xs i) (said : w ≡ partSaid xs i 1) where
     pub used-turn : (j : ℕ) (m v : Meeting) → 0 < j → m ≡ meeting k (placeAt xs (j - 1)) (eqs (part (w .start) (w .end) s) (nameAt s xs (j - 1))) → m ≡ v → usedAt j ≡ met v (usedAt (j - 1))
     unfolding meetingAt
     used-turn j m v h g t =

@@ -2,8 +2,6 @@
 pub mod NoteLaws
 pub mod SeenLaws
 pub mod ClashLaws
-pub mod OutsideLaws
-pub mod SortLaws
 pub mod TargetLaws
 pub mod ListingLaws
 pub mod MarkLaws

@@ -15,10 +15,9 @@ use Rattle.laws.proofs.Same.{eqs-eq}
 use Rattle.name_table.specs.declared.Found.{Found}
 use Rattle.name_table.specs.declared.Found.the-variants.{At, Nothing}
 use Rattle.notes.specs.Noted.{clash}
-use Rattle.note_words.specs.Store.{namesHeld, nameAt}
-use Rattle.name_checks.specs.Lookup.{placeAt, modelAt, entriesTo, Outside, modelOrSelector, seenWords, isSeen, withSeen, reaches, reachesAt, targetTo, targetKey, withKey, slotCount, withSlot, after, keysTo, Listed}
+use Rattle.note_words.specs.Store.{nameAt}
+use Rattle.name_checks.specs.Lookup.{placeAt, modelAt, entriesTo, modelOrSelector, seenWords, isSeen, withSeen, reaches, reachesAt, targetTo, targetKey, withKey, slotCount, withSlot, after, keysTo, Listed}
 use Rattle.name_checks.proofs.SeenLaws.{seen-long, seen-own, seen-stays}
-use Rattle.name_checks.proofs.OutsideLaws.{outside-place, name-outside, entries-outside}
 use Rattle.name_checks.proofs.TargetLaws.{reaches-some, target-found, target-missed, one-target}
 
 -- ---- a table after a step for each place
@@ -88,15 +87,6 @@ module _ (s xs seen : List ℕ) (long : length seen ≡ seenWords) where
 -- all names are listed, from an empty filter on
 pub listed-all : (s xs : List ℕ) (n : ℕ) (seen : List ℕ) → seen ≡ keysTo s xs (replicate seenWords 0) n → Listed s xs n seen
 listed-all s xs n seen e = rw e (keys-listed s xs (replicate seenWords 0) (length-replicate {A = ℕ} seenWords 0) n)
-
--- a store that differs only by marks says the same of the names
-pub listed-outside : (s xs ys : List ℕ) (n : ℕ) (seen : List ℕ) → Outside xs ys → n ≤ namesHeld → (clash (entriesTo s xs n) ≡ none) × Listed s xs n seen → (clash (entriesTo s ys n) ≡ none) × Listed s ys n seen
-listed-outside s xs ys n seen o small h = (
-  rw (entries-outside s xs ys n o small) (h .0),
-  λ j g t.
-      let b : j ≤ namesHeld = omega (arith, g, small) in
-      rw (name-outside s xs ys o j b) (h .1 j g (sym (ap modelOrSelector (outside-place xs ys j o b)) ∙ t)),
-)
 
 -- ---- what is named
 

@@ -5,13 +5,12 @@ use mathlib.Core.List.{List, [], _∷_, _++_, reverse, reverse-cons}
 use mathlib.Core.Bool.{Bool, true, false, cond, _&&_, _||_}
 use mathlib.Core.Option.{none}
 use native.Mathlib.Omega.{arith}
-use native.Mathlib.Numerals.{add-one}
-use lib.ListN.{length, getD, set}
+use lib.ListN.{length, getD, set, length-set, replicate, length-replicate, getD-replicate}
 use lib.Seq.{getD-set-same, getD-set-other}
 use lib.Dec.{eqb}
-use borrow.Author.Tests.{eq-eqb, ne-eqb, lt-ltb, le-ltb, eqb-true, eqb-false}
+use borrow.Author.Tests.{ne-eqb, lt-ltb, le-ltb, eqb-true, eqb-false}
 use Rattle.laws.specs.Lists.{eqs}
-use Rattle.laws.proofs.Tests.{by-test, by-order, cond-yes, cond-no, cond-map, never, impossible}
+use Rattle.laws.proofs.Tests.{by-test, cond-yes, cond-no, cond-map, never, impossible}
 use Rattle.laws.proofs.Same.{eqs-refl, eqs-eq}
 use Rattle.name_table.specs.declared.Found.{Found}
 use Rattle.name_table.specs.declared.Found.the-variants.{At, Nothing}
@@ -24,14 +23,13 @@ use Rattle.records.specs.declared.Kind.the-variants.{OfComponent, OfPin, OfSele
 use Rattle.lines.specs.Places.{lineAt}
 use Rattle.lines.proofs.Numbers.{lines-fewer}
 use Rattle.notes.specs.Noted.{clash}
-use Rattle.note_words.specs.Store.{namesHeld, byKindFrom, storeLength, notedLine, noteAt, notesTo}
+use Rattle.note_words.specs.Store.{namesHeld, mostNames, notedLine, noteAt, notesTo}
 use Rattle.note_words.proofs.Laws.{note-line}
 use Rattle.name_checks.specs.declared.Last.{Last}
 use Rattle.name_checks.specs.declared.Last.the-variants.{Fine, Faulty}
-use Rattle.name_checks.specs.Lookup.{placeAt, entryAt, entriesTo, entriesFrom, Outside, modelOrSelector, enclosed, reaches, reachesAt, targetTo, toldOf, toldAt, missing, isMarked, clearedTo, Clear, withMark, marked, Marks, Marked, unmarked, unmarkedFrom, lastIs, Concludes}
+use Rattle.name_checks.specs.Lookup.{placeAt, entryAt, entriesTo, entriesFrom, modelOrSelector, enclosed, reaches, reachesAt, targetTo, toldOf, toldAt, missing, isMarked, Clear, withMark, marked, Marks, Marked, unmarked, unmarkedFrom, lastIs, Concludes}
 use Rattle.name_checks.proofs.NoteLaws.{note-kind}
-use Rattle.name_checks.proofs.OutsideLaws.{outside-refl, outside-set, outside-place, line-outside, outside-then, entries-outside}
-use Rattle.name_checks.proofs.TargetLaws.{hits-at, target-found, target-missed, found-told, one-target, target-outside, missing-outside}
+use Rattle.name_checks.proofs.TargetLaws.{hits-at, target-found, target-missed, found-told, one-target}
 
 -- ---- entries in file order
 
@@ -68,34 +66,34 @@ from-none s xs n =
 
 -- ---- a name that is not marked
 
-module _ (xs : List ℕ) (i k later : ℕ) (kind : k ≡ placeAt xs i) where
-  pub unmarked-kept : (w : ℕ) → modelOrSelector k ≡ true → w ≡ getD xs (byKindFrom + i) 0 → w ≡ 1 → later ≡ unmarked xs i later
+module _ (xs marks : List ℕ) (i k later : ℕ) (kind : k ≡ placeAt xs i) where
+  pub unmarked-kept : modelOrSelector k ≡ true → getD marks i 0 ≡ 1 → later ≡ unmarked xs marks i later
   unfolding unmarked
-  unmarked-kept w h e o = rw (← kind) rw h rw (← e) rw o refl
+  unmarked-kept h o = rw (← kind) rw h rw o refl
 
-  pub unmarked-told : (w : ℕ) → modelOrSelector k ≡ true → w ≡ getD xs (byKindFrom + i) 0 → (w ≡ 1 → ⊥) → i ≡ unmarked xs i later
+  pub unmarked-told : modelOrSelector k ≡ true → (getD marks i 0 ≡ 1 → ⊥) → i ≡ unmarked xs marks i later
   unfolding unmarked
-  unmarked-told w h e o = rw (← kind) rw h rw (← e) rw (ne-eqb w 1 o) refl
+  unmarked-told h o = rw (← kind) rw h rw (ne-eqb (getD marks i 0) 1 o) refl
 
-  pub unmarked-other : modelOrSelector k ≡ false → later ≡ unmarked xs i later
+  pub unmarked-other : modelOrSelector k ≡ false → later ≡ unmarked xs marks i later
   unfolding unmarked
   unmarked-other h = rw (← kind) rw h refl
 
-module _ (xs : List ℕ) (n : ℕ) where
-  pub unmarked-turn : (j : ℕ) → 0 < j → j ≤ n → unmarkedFrom xs (j - 1) (n - (j - 1)) ≡ unmarked xs (j - 1) (unmarkedFrom xs j (n - j))
+module _ (xs marks : List ℕ) (n : ℕ) where
+  pub unmarked-turn : (j : ℕ) → 0 < j → j ≤ n → unmarkedFrom xs marks (j - 1) (n - (j - 1)) ≡ unmarked xs marks (j - 1) (unmarkedFrom xs marks j (n - j))
   unfolding unmarkedFrom
   unmarked-turn j h g =
       let e : n - (j - 1) ≡ suc (n - j) = omega (arith, h, g) in
       let f : j - 1 + 1 ≡ j = omega (arith, h) in
       rw e rw f refl
 
-  pub unmarked-none : n ≡ unmarkedFrom xs n (n - n)
+  pub unmarked-none : n ≡ unmarkedFrom xs marks n (n - n)
   unfolding unmarkedFrom
   unmarked-none =
       let e : n - n ≡ 0 = omega arith in
       rw e refl
 
-  pub unmarked-all : (j : ℕ) → j ≤ 0 → unmarkedFrom xs j (n - j) ≡ unmarkedFrom xs 0 n
+  pub unmarked-all : (j : ℕ) → j ≤ 0 → unmarkedFrom xs marks j (n - j) ≡ unmarkedFrom xs marks 0 n
   unmarked-all j h =
       let e : j ≡ 0 = omega (arith, h) in
       let f : n - 0 ≡ n = omega arith in
@@ -103,38 +101,8 @@ module _ (xs : List ℕ) (n : ℕ) where
 
 -- ---- no marks
 
-module _ (xs : List ℕ) where
-  pub cleared-none : xs ≡ clearedTo xs 0
-  unfolding clearedTo
-  cleared-none = refl
-
-  pub cleared-turn : (i : ℕ) (ys : List ℕ) → ys ≡ clearedTo xs i → set ys (byKindFrom + i) 0 ≡ clearedTo xs (i + 1)
-  unfolding clearedTo
-  cleared-turn i ys e = rw (add-one i) rw e refl
-
-  pub cleared-outside : (n : ℕ) → n ≤ namesHeld → Outside xs (clearedTo xs n)
-  unfolding clearedTo
-  cleared-outside zero h = outside-refl xs
-  cleared-outside (suc n) h = outside-set xs (clearedTo xs n) (byKindFrom + n) 0 (cleared-outside n (omega (arith, h))) (omega arith) (omega (arith, h))
-
-  pub cleared-clear : (n : ℕ) → n ≤ namesHeld → storeLength ≤ length xs → Clear (clearedTo xs n) n
-  unfolding clearedTo
-  cleared-clear zero h g j f = absurd (omega (arith, f))
-  cleared-clear (suc n) h g j f =
-      by-order n j
-      (λ a.
-      let e : j ≡ n = omega (arith, a, f) in
-      let o = cleared-outside n (omega (arith, h)) in
-      rw e (getD-set-same (clearedTo xs n) (byKindFrom + n) 0 0 (omega (arith, h, g, o .long))))
-      (λ a. getD-set-other (clearedTo xs n) (byKindFrom + n) (byKindFrom + j) 0 0 (λ e. omega (arith, a, e)) ∙ cleared-clear n (omega (arith, h)) g j a)
-
-  pub cleared-length : (ys : List ℕ) (i n : ℕ) → i ≤ n → n ≤ namesHeld → ys ≡ clearedTo xs i → length ys ≡ length xs
-  cleared-length ys i n h g e = ap length e ∙ cleared-outside i (omega (arith, h, g)) .long
-
-  pub cleared-end : (i n : ℕ) (ys : List ℕ) → i ≤ n → n ≤ i → ys ≡ clearedTo xs i → ys ≡ clearedTo xs n
-  cleared-end i n ys h g e =
-      let z : i ≡ n = omega (arith, h, g) in
-      e ∙ ap (clearedTo xs) z
+pub none-marked : (n : ℕ) → n ≤ namesHeld → Clear (replicate mostNames 0) n
+none-marked n h = (omega (arith, h, length-replicate {A = ℕ} mostNames 0), λ j g. getD-replicate mostNames j 0 0 (omega (arith, h, g)))
 
 -- ---- a row's mark
 
@@ -185,32 +153,30 @@ marked-none f OfSelector = refl
 marked-none f OfChoice = refl
 marked-none f OfModel = refl
 
-module _ (s xs : List ℕ) (n : ℕ) (unique : clash (entriesTo s xs n) ≡ none) (small : n ≤ namesHeld) where
-  mark-each : (i : ℕ) (ys : List ℕ) (t : Found) → storeLength ≤ length ys → targetTo s xs i n ≡ t
+mark-length : (marks : List ℕ) (t : Found) → length (withMark marks t) ≡ length marks
+mark-length marks (At k) = length-set marks k 1
+mark-length marks Nothing = refl
+
+module _ (s xs : List ℕ) (n : ℕ) (unique : clash (entriesTo s xs n) ≡ none) where
+  mark-each : (i : ℕ) (ys : List ℕ) (t : Found) → n ≤ length ys → targetTo s xs i n ≡ t
       → (j : ℕ) → j < n → isMarked (withMark ys t) j ≡ (reachesAt s xs i j || isMarked ys j)
   mark-each i ys (At k) long e j h =
       let r = target-found s xs i n k e in
       by-test (eqb j k)
       (λ q.
       let z : j ≡ k = eqb-true j k q in
-      let g : getD (set ys (byKindFrom + k) 1) (byKindFrom + k) 0 ≡ 1 = getD-set-same ys (byKindFrom + k) 1 0 (omega (arith, r .0, small, long)) in
+      let g : getD (set ys k 1) k 0 ≡ 1 = getD-set-same ys k 1 0 (omega (arith, r .0, long)) in
       rw z rw g rw (r .1) refl)
       (λ q.
       let z : j ≡ k → ⊥ = eqb-false j k q in
-      let g : getD (set ys (byKindFrom + k) 1) (byKindFrom + j) 0 ≡ getD ys (byKindFrom + j) 0 = getD-set-other ys (byKindFrom + k) (byKindFrom + j) 1 0 (λ y. z (omega (arith, y))) in
+      let g : getD (set ys k 1) j 0 ≡ getD ys j 0 = getD-set-other ys k j 1 0 (λ y. z (omega (arith, y))) in
       rw g rw (one-target s xs n unique i j k h (omega (arith, r .0)) z (r .1)) refl)
   mark-each i ys Nothing long e j h = rw (target-missed s xs i n j e h) refl
 
-  mark-turn : (i : ℕ) (es : List Entry) (ys : List ℕ) → storeLength ≤ length ys → Marks s xs es n ys → Marks s xs (entryAt s xs i ∷ es) n (withMark ys (targetTo s xs i n))
+  mark-turn : (i : ℕ) (es : List Entry) (ys : List ℕ) → n ≤ length ys → Marks s xs es n ys → Marks s xs (entryAt s xs i ∷ es) n (withMark ys (targetTo s xs i n))
   mark-turn i es ys long m j h =
       mark-each i ys (targetTo s xs i n) long refl j h
       ∙ rw (m j h) rw (← (hits-at s xs i j)) (sym (marked-more (entryAt s xs i) es (entryAt s xs j) (noteAt s xs j .kind)))
-
-  mark-outside : (i : ℕ) (ys : List ℕ) (t : Found) → targetTo s xs i n ≡ t → Outside xs ys → Outside xs (withMark ys t)
-  mark-outside i ys (At k) e o =
-      let r = target-found s xs i n k e in
-      outside-set xs ys (byKindFrom + k) 1 o (omega arith) (omega (arith, r .0, small))
-  mark-outside i ys Nothing e o = o
 
 -- ---- the fault of a name, by its place
 
@@ -225,51 +191,44 @@ module _ (s xs : List ℕ) (number n i : ℕ) where
   told-here : i < n → toldAt s xs number n i ≡ toldOf number (noteAt s xs i .line)
   told-here h = cond-yes _ _ (lt-ltb i n h) ∙ ap (toldOf number) (sym (note-line s xs i))
 
-  -- in a store that differs only by marks
-  told-faulty : (ys : List ℕ) → Outside xs ys → n ≤ namesHeld → i < n → toldAt s xs number n i ≡ Faulty (record { number = number; line = notedLine s ys i })
+  told-faulty : i < n → toldAt s xs number n i ≡ Faulty (record { number = number; line = notedLine s xs i })
   unfolding toldOf
-  told-faulty ys o small h =
-      cond-yes _ _ (lt-ltb i n h)
-      ∙ cond-no _ _ (ne-eqb (notedLine s xs i) 0 (line-some s _))
-      ∙ ap (λ (k : ℕ). Faulty (record { number = number; line = k })) (sym (line-outside s xs ys o i (omega (arith, h, small))))
+  told-faulty h = cond-yes _ _ (lt-ltb i n h) ∙ cond-no _ _ (ne-eqb (notedLine s xs i) 0 (line-some s _))
 
 -- ---- the marks from the last name up to place i, and the first of these names that names nothing
 
-pub record Marking (s xs : List ℕ) (n i first : ℕ) (ys : List ℕ) : Type 0 where
+pub record Marking (s xs : List ℕ) (n i first : ℕ) (marks : List ℕ) : Type 0 where
   pub told : toldAt s xs 15 n first ≡ toldOf 15 (firstFailing (found (entriesFrom s xs 0 n)) (entriesFrom s xs i (n - i)))
-  pub outside : Outside xs ys
-  pub marks : Marks s xs (entriesFrom s xs i (n - i)) n ys
+  pub room : n ≤ length marks
+  pub says : Marks s xs (entriesFrom s xs i (n - i)) n marks
 
-pub marking-none : (s xs : List ℕ) (n : ℕ) → Clear xs n → Marking s xs n n n xs
+pub marking-none : (s xs marks : List ℕ) (n : ℕ) → Clear marks n → Marking s xs n n n marks
 unfolding firstFailing toldOf
-marking-none s xs n h =
+marking-none s xs marks n h =
     record {
       told = told-none s xs 15 n n (omega arith) ∙ rw (from-none s xs n) refl;
-      outside = outside-refl xs;
-      marks = rw (from-none s xs n) (λ j g. rw (h j g) (marked-none (entryAt s xs j) (noteAt s xs j .kind)));
+      room = h .0;
+      says = rw (from-none s xs n) (λ j g. rw (h .1 j g) (marked-none (entryAt s xs j) (noteAt s xs j .kind)));
     }
 
-pub marking-turn : (s xs : List ℕ) (n i first : ℕ) (ys : List ℕ) → n ≤ namesHeld → storeLength ≤ length xs → clash (entriesTo s xs n) ≡ none → Marking s xs n i first ys
-    → 0 < i → i ≤ n → (r : ℕ) (zs : List ℕ) → r ≡ missing s ys (i - 1) first (targetTo s ys (i - 1) n) → zs ≡ withMark ys (targetTo s ys (i - 1) n)
+pub marking-turn : (s xs : List ℕ) (n i first : ℕ) (ys : List ℕ) → clash (entriesTo s xs n) ≡ none → Marking s xs n i first ys
+    → 0 < i → i ≤ n → (r : ℕ) (zs : List ℕ) → r ≡ missing s xs (i - 1) first (targetTo s xs (i - 1) n) → zs ≡ withMark ys (targetTo s xs (i - 1) n)
     → Marking s xs n (i - 1) r zs
 unfolding firstFailing
-marking-turn s xs n i first ys small long unique m h g r zs e f =
+marking-turn s xs n i first ys unique m h g r zs e f =
     let k = i - 1 in
-    let b : k ≤ namesHeld = omega (arith, g, small) in
-    let t : targetTo s ys k n ≡ targetTo s xs k n = target-outside s xs ys (m .outside) k n b small in
-    let z : zs ≡ withMark ys (targetTo s xs k n) = f ∙ ap (withMark ys) t in
     let is : Bool = found (entriesFrom s xs 0 n) (entryAt s xs k) in
     let others : ℕ = firstFailing (found (entriesFrom s xs 0 n)) (entriesFrom s xs i (n - i)) in
     record {
       told =
-          ap (λ (j : ℕ). toldAt s xs 15 n j) (e ∙ ap (missing s ys k first) t ∙ missing-outside s xs ys (m .outside) k first (targetTo s xs k n) b ∙ sym (found-told s xs k n first))
+          ap (λ (j : ℕ). toldAt s xs 15 n j) (e ∙ sym (found-told s xs k n first))
           ∙ cond-map (λ (j : ℕ). toldAt s xs 15 n j) is first k
           ∙ ap (λ (l : Last). cond is l (toldAt s xs 15 n k)) (m .told)
           ∙ ap (cond is (toldOf 15 others)) (told-here s xs 15 n k (omega (arith, h, g)))
           ∙ sym (cond-map (toldOf 15) is others (noteAt s xs k .line))
           ∙ ap (λ (es : List Entry). toldOf 15 (firstFailing (found (entriesFrom s xs 0 n)) es)) (sym (from-turn s xs i n h g));
-      outside = rw z (mark-outside s xs n unique small k ys (targetTo s xs k n) refl (m .outside));
-      marks = rw z rw (from-turn s xs i n h g) (mark-turn s xs n unique small k (entriesFrom s xs i (n - i)) ys (omega (arith, m .outside .long, long)) (m .marks));
+      room = omega (arith, ap length f, mark-length ys (targetTo s xs k n), m .room);
+      says = rw f rw (from-turn s xs i n h g) (mark-turn s xs n unique k (entriesFrom s xs i (n - i)) ys (m .room) (m .says));
     }
 
 pub marking-end : (s xs : List ℕ) (n i first : ℕ) (ys : List ℕ) → Marking s xs n i first ys → i ≤ 0 → Marked s xs ys n first
@@ -277,7 +236,7 @@ marking-end s xs n i first ys m h =
     let z : i ≡ 0 = omega (arith, h) in
     let d : n - 0 ≡ n = omega arith in
     let e : entriesFrom s xs i (n - i) ≡ entriesFrom s xs 0 n = rw z rw d refl in
-    record { first = m .told ∙ ap (λ (es : List Entry). toldOf 15 (firstFailing (found (entriesFrom s xs 0 n)) es)) e; outside = m .outside; marks = rw (← e) (m .marks) }
+    record { first = m .told ∙ ap (λ (es : List Entry). toldOf 15 (firstFailing (found (entriesFrom s xs 0 n)) es)) e; says = rw (← e) (m .says) }
 
 -- ---- what nobody lists
 
@@ -289,21 +248,21 @@ listed-kind es f OfSelector later own = refl
 listed-kind es f OfChoice later own = refl
 listed-kind es f OfModel later own = refl
 
-module _ (s xs ys : List ℕ) (n : ℕ) (es : List Entry) (small : n ≤ namesHeld) (o : Outside xs ys) (marks : Marks s xs es n ys) where
-  unlisted-told : (j later : ℕ) → j < n → unmarked ys j later ≡ cond (listedIn es (entryAt s xs j)) later j
+module _ (s xs ys : List ℕ) (n : ℕ) (es : List Entry) (marks : Marks s xs es n ys) where
+  unlisted-told : (j later : ℕ) → j < n → unmarked xs ys j later ≡ cond (listedIn es (entryAt s xs j)) later j
   unfolding unmarked
   unlisted-told j later h =
-      rw (outside-place xs ys j o (omega (arith, h, small))) rw (marks j h)
+      rw (marks j h)
       rw (← (note-kind s xs j)) (listed-kind es (entryAt s xs j) (noteAt s xs j .kind) later j)
 
-  unlisted-from : (j m : ℕ) → j + m ≡ n → toldAt s xs 16 n (unmarkedFrom ys j m) ≡ toldOf 16 (firstFailing (listedIn es) (entriesFrom s xs j m))
+  unlisted-from : (j m : ℕ) → j + m ≡ n → toldAt s xs 16 n (unmarkedFrom xs ys j m) ≡ toldOf 16 (firstFailing (listedIn es) (entriesFrom s xs j m))
   unfolding unmarkedFrom entriesFrom firstFailing toldOf
   unlisted-from j zero h = told-none s xs 16 n j (omega (arith, h))
   unlisted-from j (suc m) h =
       let is : Bool = listedIn es (entryAt s xs j) in
       let others : ℕ = firstFailing (listedIn es) (entriesFrom s xs (j + 1) m) in
-      ap (λ (u : ℕ). toldAt s xs 16 n u) (unlisted-told j (unmarkedFrom ys (j + 1) m) (omega (arith, h)))
-      ∙ cond-map (λ (u : ℕ). toldAt s xs 16 n u) is (unmarkedFrom ys (j + 1) m) j
+      ap (λ (u : ℕ). toldAt s xs 16 n u) (unlisted-told j (unmarkedFrom xs ys (j + 1) m) (omega (arith, h)))
+      ∙ cond-map (λ (u : ℕ). toldAt s xs 16 n u) is (unmarkedFrom xs ys (j + 1) m) j
       ∙ ap (λ (l : Last). cond is l (toldAt s xs 16 n j)) (unlisted-from (j + 1) m (omega (arith, h)))
       ∙ ap (cond is (toldOf 16 others)) (told-here s xs 16 n j (omega (arith, h)))
       ∙ sym (cond-map (toldOf 16) is others (noteAt s xs j .line))
@@ -329,36 +288,24 @@ module _ (a b : ℕ) (d : Outcome) where
       (λ t. rw t (by-test (eqb b 0) (λ u. rw u refl) (λ u. rw u refl)))
       (λ t. let z : Faulty (record { number = 15; line = a }) ≡ Fine = sym (cond-no _ _ t) ∙ h in impossible (cc))
 
-module _ (s xs ys : List ℕ) (n r : ℕ) (small : n ≤ namesHeld) (m : Marked s xs ys n r) where
-  pub concludes-missing : r < n → (v : Last) → v ≡ Faulty (record { number = 15; line = notedLine s ys r }) → Concludes (entriesTo s xs n) v
+module _ (s xs ys : List ℕ) (n r : ℕ) (m : Marked s xs ys n r) where
+  pub concludes-missing : r < n → (v : Last) → v ≡ Faulty (record { number = 15; line = notedLine s xs r }) → Concludes (entriesTo s xs n) v
   unfolding lastChecks
   concludes-missing h v q d =
       rw (file-order s xs n)
-      (first-told _ (firstFailing (listedIn (entriesFrom s xs 0 n)) (entriesFrom s xs 0 n)) d _ (sym (m .first) ∙ told-faulty s xs 15 n r ys (m .outside) small h)
+      (first-told _ (firstFailing (listedIn (entriesFrom s xs 0 n)) (entriesFrom s xs 0 n)) d _ (sym (m .first) ∙ told-faulty s xs 15 n r h)
       ∙ ap (lastIs d) (sym q))
 
-  module _ (u : ℕ) (e : u ≡ unmarkedFrom ys 0 n) (h : n ≤ r) where
+  module _ (u : ℕ) (e : u ≡ unmarkedFrom xs ys 0 n) (h : n ≤ r) where
     listed-told : (v : Last) → toldAt s xs 16 n u ≡ v → Concludes (entriesTo s xs n) v
     unfolding lastChecks
     listed-told v q d =
         rw (file-order s xs n)
         (second-told _ _ d (sym (m .first) ∙ told-none s xs 15 n r h)
-        ∙ ap (lastIs d) (sym (ap (λ (w : ℕ). toldAt s xs 16 n w) e ∙ unlisted-from s xs ys n (entriesFrom s xs 0 n) small (m .outside) (m .marks) 0 n (omega arith)) ∙ q))
+        ∙ ap (lastIs d) (sym (ap (λ (w : ℕ). toldAt s xs 16 n w) e ∙ unlisted-from s xs ys n (entriesFrom s xs 0 n) (m .says) 0 n (omega arith)) ∙ q))
 
-    pub concludes-unlisted : u < n → (v : Last) → v ≡ Faulty (record { number = 16; line = notedLine s ys u }) → Concludes (entriesTo s xs n) v
-    concludes-unlisted g v q = listed-told v (told-faulty s xs 16 n u ys (m .outside) small g ∙ sym q)
+    pub concludes-unlisted : u < n → (v : Last) → v ≡ Faulty (record { number = 16; line = notedLine s xs u }) → Concludes (entriesTo s xs n) v
+    concludes-unlisted g v q = listed-told v (told-faulty s xs 16 n u g ∙ sym q)
 
     pub concludes-fine : n ≤ u → Concludes (entriesTo s xs n) Fine
     concludes-fine g = listed-told Fine (told-none s xs 16 n u g)
-
--- the store with the marks cleared says the same of the names
-module _ (s xs zs : List ℕ) (n : ℕ) (small : n ≤ namesHeld) (e : zs ≡ clearedTo xs n) where
-  clean : Outside xs zs
-  clean = rw e (cleared-outside xs n small)
-
-  pub cleared-ready : storeLength ≤ length xs → clash (entriesTo s xs n) ≡ none → ((n ≤ namesHeld) × (storeLength ≤ length zs)) × ((clash (entriesTo s zs n) ≡ none) × Clear zs n)
-  cleared-ready h u =
-      ((small, omega (arith, clean .long, h)), (rw (entries-outside s xs zs n clean small) u, rw e (cleared-clear xs n small h)))
-
-  pub cleared-said : (r : Last) (ys : List ℕ) → Concludes (entriesTo s zs n) r → Outside zs ys → Concludes (entriesTo s xs n) r × Outside xs ys
-  cleared-said r ys h o = (rw (← (entries-outside s xs zs n clean small)) h, outside-then xs zs ys clean o)

@@ -1,36 +1,22 @@
 -- The number of a kind; a part of the file moved into it.
-use Prim.Native.Nat.{ℕ, zero, suc, _-_, _≤_, _<_}
+use Prim.Native.Nat.{ℕ, _-_, _≤_, _<_}
 use mathlib.Core.Path.{_≡_, refl, sym, ap, _∙_}
 use mathlib.Core.List.{List, []}
 use mathlib.Core.Bool.{false}
 use native.Mathlib.Omega.{arith}
 use lib.ListN.{length, drop, drop-of-length-le, length-drop}
 use lib.Seq.{take-all}
-use borrow.Author.Tests.{ne-eqb, lt-ltb, le-ltb, le-leb, lt-leb}
+use borrow.Author.Tests.{lt-ltb, le-ltb, le-leb, lt-leb}
 use Rattle.laws.specs.Lists.{part, eqs}
 use Rattle.laws.proofs.Lists.{part-length}
 use Rattle.laws.proofs.Same.{eqs-apart}
 use Rattle.words.specs.declared.Word.{Word}
 use Rattle.rules.specs.Outline.{place}
-use Rattle.note_words.specs.Store.{kindOf, partStart, partEnd, nameAt, noteAt}
+use Rattle.note_words.specs.Store.{notedAt, partStart, partEnd, nameAt, noteAt}
 use Rattle.note_words.proofs.Laws as stored
 use Rattle.name_checks.specs.Lookup.{placeAt, modelAt, partSaid, movedIn, Within}
 
 -- ---- the number of a kind
-
-pub place-below : (w : ℕ) → w < 4 → place (kindOf w) ≡ w
-unfolding kindOf
-place-below zero h = refl
-place-below (suc zero) h = refl
-place-below (suc (suc zero)) h = refl
-place-below (suc (suc (suc zero))) h = refl
-place-below (suc (suc (suc (suc w)))) h = absurd (omega (arith, h))
-
-pub place-above : (w : ℕ) → 4 ≤ w → place (kindOf w) ≡ 4
-unfolding kindOf
-place-above w h =
-    rw (ne-eqb w 0 (λ e. omega (arith, h, e))) rw (ne-eqb w 1 (λ e. omega (arith, h, e))) rw (ne-eqb w 2 (λ e. omega (arith, h, e)))
-    rw (ne-eqb w 3 (λ e. omega (arith, h, e))) refl
 
 pub note-kind : (s xs : List ℕ) (i : ℕ) → place (noteAt s xs i .kind) ≡ placeAt xs i
 unfolding placeAt
@@ -85,12 +71,12 @@ module _ (s : List ℕ) (w v x y : Word) (p : Within s (w .start) (w .end) x) (q
   within-same = rw (p .same) rw (q .same) refl
 
 -- the part that a note says, by word j
-said : (s xs : List ℕ) (w : Word) (i j : ℕ) → w ≡ partSaid xs i j → part (w .start) (w .end) s ≡ part (partStart xs i j) (partEnd xs i j) s
+said : (s xs : List ℕ) (w : Word) (i j : ℕ) → w ≡ partSaid xs i j → part (w .start) (w .end) s ≡ part (partStart xs (notedAt xs i) j) (partEnd xs (notedAt xs i) j) s
 said s xs w i j q = ap (λ (z : Word). part (z .start) (z .end) s) q
 
 module _ (s xs : List ℕ) (w : Word) (i : ℕ) where
-  pub name-said : w ≡ partSaid xs i 2 → part (w .start) (w .end) s ≡ nameAt s xs i
-  name-said q = said s xs w i 2 q
+  pub name-said : w ≡ partSaid xs i 1 → part (w .start) (w .end) s ≡ nameAt s xs i
+  name-said q = said s xs w i 1 q
 
-  pub model-said : w ≡ partSaid xs i 3 → part (w .start) (w .end) s ≡ modelAt s xs i
-  model-said q = said s xs w i 3 q
+  pub model-said : w ≡ partSaid xs i 2 → part (w .start) (w .end) s ≡ modelAt s xs i
+  model-said q = said s xs w i 2 q

@@ -18,16 +18,15 @@ use Rattle.rules.specs.Last.{found}
 use Rattle.records.specs.declared.Kind.{Kind}
 use Rattle.records.specs.declared.Kind.the-variants.{OfComponent, OfPin, OfSelector, OfChoice, OfModel}
 use Rattle.notes.specs.Noted.{orUsed, clash}
-use Rattle.note_words.specs.Store.{namesHeld, kindAt, nameAt, noteOf, noteAt, notesTo}
+use Rattle.note_words.specs.Store.{notedAt, kindAt, nameAt, noteOf, noteAt, notesTo}
 use Rattle.note_words.proofs.Laws.{note-name}
-use Rattle.name_checks.specs.Lookup.{placeAt, modelAt, entryAt, entriesTo, entriesFrom, Outside, modelOrSelector, enclosed, reaches, reachesAt, targetTo, excused, missing, withMark}
+use Rattle.name_checks.specs.Lookup.{placeAt, modelAt, entryAt, entriesTo, entriesFrom, modelOrSelector, enclosed, reaches, reachesAt, targetTo, excused, missing, withMark}
 use Rattle.name_checks.proofs.NoteLaws.{note-kind}
 use Rattle.name_checks.proofs.ClashLaws.{either-is, usedAt}
-use Rattle.name_checks.proofs.OutsideLaws.{outside-place, name-outside, model-outside}
 
 -- ---- a pin or a selector row names another entry
 
-row-names : (s xs : List ℕ) (i : ℕ) (k : Kind) → enclosed (place k) ≡ true → noteOf s xs i k .names ≡ modelAt s xs i
+row-names : (s xs : List ℕ) (i : ℕ) (k : Kind) → enclosed (place k) ≡ true → noteOf s xs (notedAt xs i) k .names ≡ modelAt s xs i
 unfolding enclosed
 row-names s xs i OfComponent h = impossible (cc)
 row-names s xs i OfPin h = refl
@@ -232,9 +231,9 @@ module _ (s xs : List ℕ) (i j k l : ℕ) (kindI : k ≡ placeAt xs i) (kindJ :
 
 module _ (s xs : List ℕ) (i k : ℕ) (kind : k ≡ placeAt xs i) where
   -- a section marks nothing
-  pub section-marks : (later : ℕ) (n : ℕ) → enclosed k ≡ false → (later ≡ missing s xs i later (targetTo s xs i n)) × (xs ≡ withMark xs (targetTo s xs i n))
+  pub section-marks : (marks : List ℕ) (later n : ℕ) → enclosed k ≡ false → (later ≡ missing s xs i later (targetTo s xs i n)) × (marks ≡ withMark marks (targetTo s xs i n))
   unfolding excused enclosed
-  section-marks later n h =
+  section-marks marks later n h =
       let g : enclosed (placeAt xs i) ≡ false = rw (← kind) h in
       rw (target-never s xs i g n)
       (rw (← kind) rw (or-left (eqb k 1) (eqb k 3) h) rw (or-right (eqb k 1) (eqb k 3) h) refl, refl)
@@ -256,30 +255,11 @@ module _ (s xs : List ℕ) (i : ℕ) (later : ℕ) (t : Bool) (e : t ≡ excused
   missing-told h = sym (cond-no later i (sym e ∙ h))
 
 -- what the search says, said of what is marked and told
-pub target-marks : (s xs : List ℕ) (i n : ℕ) (later v : ℕ) (t x : Found) → t ≡ targetTo s xs i n → t ≡ x → v ≡ missing s xs i later x
-    → (v ≡ missing s xs i later (targetTo s xs i n)) × (withMark xs x ≡ withMark xs (targetTo s xs i n))
-target-marks s xs i n later v t x e f g =
+pub target-marks : (s xs marks : List ℕ) (i n : ℕ) (later v : ℕ) (t x : Found) → t ≡ targetTo s xs i n → t ≡ x → v ≡ missing s xs i later x
+    → (v ≡ missing s xs i later (targetTo s xs i n)) × (withMark marks x ≡ withMark marks (targetTo s xs i n))
+target-marks s xs marks i n later v t x e f g =
     let z : targetTo s xs i n ≡ x = sym e ∙ f in
     rw z (g, refl)
-
--- ---- in a store that differs only by marks
-
-module _ (s xs ys : List ℕ) (o : Outside xs ys) where
-  reach-outside : (i j : ℕ) → i ≤ namesHeld → j ≤ namesHeld → reachesAt s ys i j ≡ reachesAt s xs i j
-  unfolding reachesAt
-  reach-outside i j h g =
-      rw (outside-place xs ys i o h) rw (outside-place xs ys j o g) rw (model-outside s xs ys o i h) rw (name-outside s xs ys o j g) refl
-
-  pub target-outside : (i n : ℕ) → i ≤ namesHeld → n ≤ namesHeld → targetTo s ys i n ≡ targetTo s xs i n
-  unfolding targetTo
-  target-outside i zero h g = refl
-  target-outside i (suc n) h g =
-      rw (reach-outside i n h (omega (arith, g))) rw (target-outside i n h (omega (arith, g))) refl
-
-  pub missing-outside : (i : ℕ) (later : ℕ) (t : Found) → i ≤ namesHeld → missing s ys i later t ≡ missing s xs i later t
-  missing-outside i later (At j) h = refl
-  missing-outside i later Nothing h =
-      rw (outside-place xs ys i o h) rw (model-outside s xs ys o i h) refl
 
 -- ---- models and selectors have names of their own
 

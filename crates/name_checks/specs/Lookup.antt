@@ -1,4 +1,4 @@
--- What is looked up among the noted names, by the words of the store: which two meet, which one is named, which are of a kind.
+-- What is looked up among the noted names, by the words of the store: which two meet, and which one is named.
 use Prim.Native.Nat.{ℕ, zero, suc, _+_, _*_, _/_, _%_, _≤_, _<_}
 use mathlib.Core.Path.{_≡_}
 use mathlib.Core.List.{List, [], _∷_, map, reverse}
@@ -16,12 +16,10 @@ use Rattle.given.specs.declared.Given.{Given}
 use Rattle.rules.specs.Outline.{Entry, place, is, lists, firstFailing}
 use Rattle.rules.specs.Whole.{Outcome, refused, lastChecks}
 use Rattle.rules.specs.Last.{found}
-use Rattle.records.specs.Bounds.{most}
 use Rattle.records.specs.declared.Kind.{Kind}
 use Rattle.records.specs.declared.Kind.the-variants.{OfComponent, OfPin, OfSelector, OfChoice, OfModel}
-use Rattle.notes.specs.Noted.{Note, entryOf}
-use Rattle.note_words.specs.Store.{byKindFrom, listFrom, wavesFrom, storeLength, kindOf, kindAt, notedLine, partStart, partEnd, nameAt, rowAt, noteAt, notesTo}
-use Rattle.layout_by_notes.specs.Lies.{pick, isOf}
+use Rattle.notes.specs.Noted.{entryOf}
+use Rattle.note_words.specs.Store.{notedAt, kindAt, notedLine, partStart, partEnd, nameAt, rowAt, noteAt, notesTo}
 use Rattle.name_checks.specs.declared.Clash.{Clash}
 use Rattle.name_checks.specs.declared.Clash.the-variants.{At, NoClash}
 use Rattle.name_checks.specs.declared.Meeting.{Meeting}
@@ -37,7 +35,7 @@ placeAt xs i = place (kindAt xs i)
 
 -- of a pin or a selector row, the model it names
 abbrev pub modelAt : List ℕ → List ℕ → ℕ → List ℕ
-modelAt s xs i = part (rowAt xs i .model) (rowAt xs i .«model_end») s
+modelAt s xs i = part (rowAt xs (notedAt xs i) .model) (rowAt xs (notedAt xs i) .«model_end») s
 
 abbrev pub entryAt : List ℕ → List ℕ → ℕ → Entry
 entryAt s xs i = entryOf (noteAt s xs i)
@@ -53,7 +51,7 @@ entriesFrom s xs i (suc n) = entryAt s xs i ∷ entriesFrom s xs (i + 1) n
 
 -- the part of the file that word j of a note says
 abbrev pub partSaid : List ℕ → ℕ → ℕ → Word
-partSaid xs i j = record { start = partStart xs i j; end = partEnd xs i j }
+partSaid xs i j = record { start = partStart xs (notedAt xs i) j; end = partEnd xs (notedAt xs i) j }
 
 -- a part from a to e, in a file of n bytes: cut at its end, and empty where it begins past it or ends before it begins
 unfoldable pub movedIn : ℕ → ℕ → ℕ → Word
@@ -68,12 +66,6 @@ pub record Within (s : List ℕ) (a e : ℕ) (w : Word) : Type 0 where
   pub order : w .start ≤ w .end
   pub inside : w .end ≤ length s
   pub same : part (w .start) (w .end) s ≡ part a e s
-
--- a store that differs at most in the region of the names by kind
-pub record Outside (xs ys : List ℕ) : Type 0 where
-  pub long : length ys ≡ length xs
-  pub below : (k : ℕ) → 0 ≤ k → k < byKindFrom → getD ys k 0 ≡ getD xs k 0
-  pub behind : (k : ℕ) → wavesFrom ≤ k → k < storeLength → getD ys k 0 ≡ getD xs k 0
 
 -- ---- names used twice, by the numbers of their kinds
 
@@ -201,22 +193,18 @@ abbrev pub missing : List ℕ → List ℕ → ℕ → ℕ → Found → ℕ
 missing s xs i later (answer.At j) = later
 missing s xs i later answer.Nothing = cond (excused (placeAt xs i) (modelAt s xs i)) later i
 
--- ---- marks of what is listed: a word a name, where later the names lie by kind
+-- ---- marks of what is listed: a number a name
 
 abbrev pub isMarked : List ℕ → ℕ → Bool
-isMarked xs j = eqb (getD xs (byKindFrom + j) 0) 1
+isMarked marks j = eqb (getD marks j 0) 1
 
-unfoldable pub clearedTo : List ℕ → ℕ → List ℕ
-clearedTo xs zero = xs
-clearedTo xs (suc n) = set (clearedTo xs n) (byKindFrom + n) 0
-
--- no name is marked
+-- there is a number for each of n names, and none is marked
 abbrev pub Clear : List ℕ → ℕ → Type 0
-Clear xs n = (j : ℕ) → j < n → getD xs (byKindFrom + j) 0 ≡ 0
+Clear marks n = (n ≤ length marks) × ((j : ℕ) → j < n → getD marks j 0 ≡ 0)
 
 abbrev pub withMark : List ℕ → Found → List ℕ
-withMark xs (answer.At j) = set xs (byKindFrom + j) 1
-withMark xs answer.Nothing = xs
+withMark marks (answer.At j) = set marks j 1
+withMark marks answer.Nothing = marks
 
 -- the name is marked if some of these entries names it
 abbrev pub marked : List Entry → Entry → Kind → Bool
@@ -226,24 +214,23 @@ marked es f OfSelector = lists (is OfPin) (f .name) es
 marked es f OfChoice = false
 marked es f OfModel = lists (is OfPin) (f .name) es || lists (is OfChoice) (f .name) es
 
--- the marks in ys say which of the first n names in xs these entries name
+-- the marks say which of the first n names these entries name
 abbrev pub Marks : List ℕ → List ℕ → List Entry → ℕ → List ℕ → Type 0
-Marks s xs es n ys = (j : ℕ) → j < n → isMarked ys j ≡ marked es (entryAt s xs j) (noteAt s xs j .kind)
+Marks s xs es n marks = (j : ℕ) → j < n → isMarked marks j ≡ marked es (entryAt s xs j) (noteAt s xs j .kind)
 
 -- all pins and selector rows have marked what they name, and r is the place of the first that names nothing
-pub record Marked (s xs ys : List ℕ) (n r : ℕ) : Type 0 where
+pub record Marked (s xs marks : List ℕ) (n r : ℕ) : Type 0 where
   pub first : toldAt s xs 15 n r ≡ toldOf 15 (firstFailing (found (entriesFrom s xs 0 n)) (entriesFrom s xs 0 n))
-  pub outside : Outside xs ys
-  pub marks : Marks s xs (entriesFrom s xs 0 n) n ys
+  pub says : Marks s xs (entriesFrom s xs 0 n) n marks
 
 -- place j where the name there is a model's or a selector's and not marked, else that of the later ones
-unfoldable pub unmarked : List ℕ → ℕ → ℕ → ℕ
-unmarked xs j later = cond (modelOrSelector (placeAt xs j)) (cond (isMarked xs j) later j) later
+unfoldable pub unmarked : List ℕ → List ℕ → ℕ → ℕ → ℕ
+unmarked xs marks j later = cond (modelOrSelector (placeAt xs j)) (cond (isMarked marks j) later j) later
 
 -- the first such place of n names from place j on; the place behind them if there is none
-unfoldable pub unmarkedFrom : List ℕ → ℕ → ℕ → ℕ
-unmarkedFrom xs j zero = j
-unmarkedFrom xs j (suc n) = unmarked xs j (unmarkedFrom xs (j + 1) n)
+unfoldable pub unmarkedFrom : List ℕ → List ℕ → ℕ → ℕ → ℕ
+unmarkedFrom xs marks j zero = j
+unmarkedFrom xs marks j (suc n) = unmarked xs marks j (unmarkedFrom xs marks (j + 1) n)
 
 abbrev pub lastIs : Outcome → Last → Outcome
 lastIs done Fine = done
@@ -252,34 +239,3 @@ lastIs done (Faulty f) = refused (f .number) (f .line)
 -- the last checks of entries that are given the latest first
 abbrev pub Concludes : List Entry → Last → Type 0
 Concludes es r = (d : Outcome) → lastChecks (reverse es) d ≡ lastIs d r
-
--- ---- the names by kind
-
--- how many of the first n names are of the kind with this number
-unfoldable pub howMany : List ℕ → ℕ → ℕ → ℕ
-howMany xs k zero = 0
-howMany xs k (suc n) = cond (eqb k (placeAt xs n)) (howMany xs k n + 1) (howMany xs k n)
-
--- where the names of the kind with this number lie, and how many there is room for
-unfoldable pub kindFrom : ℕ → ℕ
-kindFrom k = listFrom (kindOf k)
-
-unfoldable pub kindRoom : ℕ → ℕ
-kindRoom k = most (kindOf k)
-
--- the store, with the places of the first n names written by kind
-unfoldable pub sortedTo : List ℕ → ℕ → List ℕ
-sortedTo xs zero = xs
-sortedTo xs (suc n) = set (sortedTo xs n) (kindFrom (placeAt xs n) + howMany xs (placeAt xs n) n) n
-
--- no kind has more names than there is room for
-abbrev pub Roomy : List ℕ → ℕ → Type 0
-Roomy xs n = (x : Kind) → howMany xs (place x) n ≤ kindRoom (place x)
-
--- what the names by kind say: the j-th note of a kind, in file order, is the one at the j-th place that is written for the kind
-pub record Sorted (xs ys : List ℕ) (n : ℕ) : Type 0 where
-  pub outside : Outside xs ys
-  pub many : (s : List ℕ) (x : Kind) → length (pick (isOf x) (notesTo s xs n)) ≡ howMany xs (place x) n
-  pub before : (x : Kind) (j : ℕ) → j < howMany xs (place x) n → getD ys (kindFrom (place x) + j) 0 < n
-  pub each : (s : List ℕ) (x : Kind) (j : ℕ) (d : Note) → j < howMany xs (place x) n
-      → getD (reverse (pick (isOf x) (notesTo s xs n))) j d ≡ noteAt s ys (getD ys (kindFrom (place x) + j) 0)

@@ -9,6 +9,10 @@ use crate::Clash;
 use crate::Meeting;
 use crate::keys::key_of;
 use crate::keys::section_behind;
+use crate::places::OF_CHOICE;
+use crate::places::OF_MODEL;
+use crate::places::OF_PIN;
+use crate::places::OF_SELECTOR;
 use crate::places::kind_at;
 use crate::places::line_at;
 use crate::places::part_at;
@@ -17,10 +21,6 @@ use crate::seen::SEEN_WORDS;
 use crate::seen::see;
 use crate::seen::to_meet;
 use note_words::NAME;
-use note_words::OF_CHOICE;
-use note_words::OF_MODEL;
-use note_words::OF_PIN;
-use note_words::OF_SELECTOR;
 use words::Word;
 
 pub fn model_or_selector(k: usize) -> bool

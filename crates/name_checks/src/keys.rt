@@ -5,8 +5,8 @@ ghost use Rattle.laws.specs.Lists.{part};
 ghost use Rattle.name_checks.specs.Lookup.{startOf, sectionBehind, keyFrom};
 use crate::clashes::is_enclosed;
 use crate::clashes::model_or_selector;
+use crate::places::OF_MODEL;
 use crate::places::within;
-use note_words::OF_MODEL;
 use words::Word;
 
 // The same name in two sections seldom meets in one bit.

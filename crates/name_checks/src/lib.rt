@@ -1,16 +1,14 @@
-// The last questions about the noted names: names used twice (14), names not found (15), what nobody lists (16); and the names by kind.
+// The last questions about the noted names: names used twice (14), names not found (15), what nobody lists (16).
 pub mod places; // places.rt: a note's words
 pub mod keys; // keys.rt: a name's key
 pub mod seen; // seen.rt: the keys that were seen
 pub mod clashes; // clashes.rt: names used twice
-pub mod sorting; // sorting.rt: the names by kind
 pub mod listing; // listing.rt: models and selectors by their keys
 pub mod marking; // marking.rt: names not found, and what nobody lists
 
 pub use clashes::first_clash;
 pub use marking::last_fault;
 use records::Fault;
-pub use sorting::sort_by_kind;
 
 // The line of the first name that is used twice.
 pub enum Clash {

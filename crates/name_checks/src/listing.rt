@@ -6,12 +6,12 @@ ghost use Rattle.note_words.specs.Store.{namesHeld};
 ghost use Rattle.name_checks.specs.Lookup.{targetKey, withKey, withSlot, keysTo, slotsTo};
 use crate::clashes::model_or_selector;
 use crate::keys::key_of;
+use crate::places::OF_MODEL;
 use crate::places::kind_at;
 use crate::places::part_at;
 use crate::seen::SEEN_WORDS;
 use crate::seen::see;
 use note_words::NAME;
-use note_words::OF_MODEL;
 use words::Word;
 
 // A slot for each remainder of a key, with the place of a name that has such a key: 64 names seldom meet in one.

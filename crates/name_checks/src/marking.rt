@@ -3,19 +3,22 @@ ghost use mathlib.Core.Path.{_≡_};
 ghost use mathlib.Core.Bool.{_&&_};
 ghost use mathlib.Core.Option.{none};
 ghost use Prim.Native.Nat.{_≤_, _<_};
-ghost use lib.ListN.{length};
 ghost use lib.Dec.{ltb};
 ghost use Rattle.name_table.specs.declared.Found.the-variants.{Nothing};
 ghost use Rattle.notes.specs.Noted.{clash};
-ghost use Rattle.note_words.specs.Store.{namesHeld, storeLength, notedLine};
+ghost use Rattle.note_words.specs.Store.{namesHeld, notedLine};
 ghost use Rattle.name_checks.specs.declared.Last.the-variants.{Faulty};
-ghost use Rattle.name_checks.specs.Lookup.{reaches, reachesAt, targetTo, excused, modelAt, placeAt, missing, clearedTo, Clear, withMark, entriesTo, Listed, Outside, Marked, unmarked, unmarkedFrom, Concludes};
+ghost use Rattle.name_checks.specs.Lookup.{reaches, reachesAt, targetTo, excused, modelAt, placeAt, missing, Clear, withMark, entriesTo, Listed, Marked, unmarked, unmarkedFrom, Concludes};
 use crate::Last;
 use crate::clashes::is_enclosed;
 use crate::clashes::model_or_selector;
 use crate::listing::SLOTS;
 use crate::listing::list_names;
 use crate::listing::target_key;
+use crate::places::OF_CHOICE;
+use crate::places::OF_MODEL;
+use crate::places::OF_PIN;
+use crate::places::OF_SELECTOR;
 use crate::places::kind_at;
 use crate::places::line_at;
 use crate::places::part_at;
@@ -24,12 +27,8 @@ use crate::places::within;
 use crate::seen::SEEN_WORDS;
 use crate::seen::is_seen;
 use name_table::Found;
-use note_words::BY_KIND_FROM;
+use note_words::MOST_NAMES;
 use note_words::NAME;
-use note_words::OF_CHOICE;
-use note_words::OF_MODEL;
-use note_words::OF_PIN;
-use note_words::OF_SELECTOR;
 use note_words::ROW_MODEL;
 use records::Fault;
 
@@ -146,17 +145,18 @@ fn is_excused(src: &[u8], notes: &[u16], i: usize) -> bool
 // Marks what the name at place i names. The place of the first from there on that names nothing, given that of the later ones.
 fn mark_target(
     src: &[u8],
-    notes: &mut [u16],
+    notes: &[u16],
     n: usize,
     i: usize,
     seen: &[u64; SEEN_WORDS],
     slots: &[u16; SLOTS],
+    marks: &mut [u8; MOST_NAMES],
     later: usize,
 ) -> usize
-    requires { ⌜ (n ≤ namesHeld) × (i < n) × (storeLength ≤ length (now notes)) ⌝ }
+    requires { ⌜ (n ≤ namesHeld) × (i < n) ⌝ }
     requires { ⌜ (clash (entriesTo (now src) (now notes) n) ≡ none) × Listed (now src) (now notes) n (now seen) ⌝ }
     ensures { λ r. ⌜ r ≡ missing (now (src .entry)) (now (notes .entry)) i later (targetTo (now (src .entry)) (now (notes .entry)) i n) ⌝ }
-    ensures { λ r. ⌜ now (notes .exit) ≡ withMark (now (notes .entry)) (targetTo (now (src .entry)) (now (notes .entry)) i n) ⌝ }
+    ensures { λ r. ⌜ now (marks .exit) ≡ withMark (now (marks .entry)) (targetTo (now (src .entry)) (now (notes .entry)) i n) ⌝ }
 {
     if !is_enclosed(kind_at(notes, i)) {
         return later;
@@ -168,27 +168,16 @@ fn mark_target(
         }
         return i;
     };
-    notes[BY_KIND_FROM + j] = 1;
+    marks[j] = 1;
     later
 }
 
-fn clear_marks(notes: &mut [u16], n: usize)
-    requires { ⌜ (n ≤ namesHeld) × (storeLength ≤ length (now notes)) ⌝ }
-    ensures { λ _. ⌜ now (notes .exit) ≡ clearedTo (now (notes .entry)) n ⌝ }
-{
-    let mut i = 0;
-    while i < n {
-        notes[BY_KIND_FROM + i] = 0;
-        i += 1;
-    }
-}
-
 // From the last name up to the first: each marks what it names. The place of the first that names nothing; n if there is none.
-fn mark_targets(src: &[u8], notes: &mut [u16], n: usize) -> usize
-    requires { ⌜ (n ≤ namesHeld) × (storeLength ≤ length (now notes)) ⌝ }
+fn mark_targets(src: &[u8], notes: &[u16], n: usize, marks: &mut [u8; MOST_NAMES]) -> usize
+    requires { ⌜ n ≤ namesHeld ⌝ }
     requires { ⌜ clash (entriesTo (now src) (now notes) n) ≡ none ⌝ }
-    requires { ⌜ Clear (now notes) n ⌝ }
-    ensures { λ r. ⌜ Marked (now (src .entry)) (now (notes .entry)) (now (notes .exit)) n r ⌝ }
+    requires { ⌜ Clear (now marks) n ⌝ }
+    ensures { λ r. ⌜ Marked (now (src .entry)) (now (notes .entry)) (now (marks .exit)) n r ⌝ }
 {
     let mut seen = [0u64; SEEN_WORDS];
     let mut slots = [0u16; SLOTS];
@@ -197,18 +186,18 @@ fn mark_targets(src: &[u8], notes: &mut [u16], n: usize) -> usize
     let mut i = n;
     while 0 < i {
         i -= 1;
-        first = mark_target(src, notes, n, i, &seen, &slots, first);
+        first = mark_target(src, notes, n, i, &seen, &slots, marks, first);
     }
     first
 }
 
 // Place j where the name there is a model's or a selector's and not marked, else that of the later ones.
-fn unlisted_at(notes: &[u16], j: usize, later: usize) -> usize
+fn unlisted_at(notes: &[u16], marks: &[u8; MOST_NAMES], j: usize, later: usize) -> usize
     requires { ⌜ j ≤ namesHeld ⌝ }
-    ensures { λ r. ⌜ r ≡ unmarked (now (notes .entry)) j later ⌝ }
+    ensures { λ r. ⌜ r ≡ unmarked (now (notes .entry)) (now (marks .entry)) j later ⌝ }
 {
     if model_or_selector(kind_at(notes, j)) {
-        if note_words::word(notes, BY_KIND_FROM + j) == 1 {
+        if marks[j] == 1 {
             return later;
         }
         return j;
@@ -217,32 +206,31 @@ fn unlisted_at(notes: &[u16], j: usize, later: usize) -> usize
 }
 
 // The place of the first model or selector that is not marked; n if there is none.
-fn first_unlisted(notes: &[u16], n: usize) -> usize
+fn first_unlisted(notes: &[u16], marks: &[u8; MOST_NAMES], n: usize) -> usize
     requires { ⌜ n ≤ namesHeld ⌝ }
-    ensures { λ r. ⌜ r ≡ unmarkedFrom (now (notes .entry)) 0 n ⌝ }
+    ensures { λ r. ⌜ r ≡ unmarkedFrom (now (notes .entry)) (now (marks .entry)) 0 n ⌝ }
 {
     let mut first = n;
     let mut j = n;
     while 0 < j {
         j -= 1;
-        first = unlisted_at(notes, j, first);
+        first = unlisted_at(notes, marks, j, first);
     }
     first
 }
 
-// The first name that is not found; where all are, the first section that nobody lists. The marks lie where later the names lie by kind.
-pub fn last_fault(src: &[u8], notes: &mut [u16], n: usize) -> Last
-    requires { ⌜ (n ≤ namesHeld) × (storeLength ≤ length (now notes)) ⌝ }
+// The first name that is not found; where all are, the first section that nobody lists.
+pub fn last_fault(src: &[u8], notes: &[u16], n: usize) -> Last
+    requires { ⌜ n ≤ namesHeld ⌝ }
     requires { ⌜ clash (entriesTo (now src) (now notes) n) ≡ none ⌝ }
     ensures { λ r. ⌜ Concludes (entriesTo (now (src .entry)) (now (notes .entry)) n) r ⌝ }
-    ensures { λ r. ⌜ Outside (now (notes .entry)) (now (notes .exit)) ⌝ }
 {
-    clear_marks(notes, n);
-    let missing = mark_targets(src, notes, n);
+    let mut marks = [0u8; MOST_NAMES];
+    let missing = mark_targets(src, notes, n, &mut marks);
     if missing < n {
         return faulty(src, notes, 15, missing);
     }
-    let unlisted = first_unlisted(notes, n);
+    let unlisted = first_unlisted(notes, &marks, n);
     if unlisted < n {
         return faulty(src, notes, 16, unlisted);
     }

@@ -2,24 +2,53 @@
 ghost use mathlib.Core.Path.{_≡_};
 ghost use Prim.Native.Nat.{_≤_, _<_};
 ghost use Rattle.laws.specs.Lists.{part, eqs};
-ghost use Rattle.note_words.specs.Store.{namesHeld, wordsPerName, notedLine};
+ghost use Rattle.rules.specs.Outline.{place};
+ghost use Rattle.note_words.specs.Store.{namesHeld, wordsPerSection, kindBy, notedLine};
 ghost use Rattle.name_checks.specs.Lookup.{placeAt, partSaid, Within};
 use note_words::AT;
-use note_words::KIND;
-use note_words::OF_MODEL;
+use note_words::CHOICES_FROM;
+use note_words::MODELS_FROM;
+use note_words::ORDER_FROM;
 use note_words::PAIR;
-use note_words::WORDS_PER_NAME;
+use note_words::PINS_FROM;
+use note_words::SELECTORS_FROM;
 use words::Word;
+
+// Kinds are numbered as they are listed.
+pub const OF_COMPONENT: usize = 0;
+
+pub const OF_PIN: usize = 1;
+
+pub const OF_SELECTOR: usize = 2;
+
+pub const OF_CHOICE: usize = 3;
+
+pub const OF_MODEL: usize = 4;
+
+// The kind in whose area a note lies.
+fn kind_by(a: usize) -> usize
+    ensures { λ r. ⌜ r ≡ place (kindBy a) ⌝ }
+{
+    if a < PINS_FROM {
+        return OF_COMPONENT;
+    }
+    if a < SELECTORS_FROM {
+        return OF_PIN;
+    }
+    if a < CHOICES_FROM {
+        return OF_SELECTOR;
+    }
+    if a < MODELS_FROM {
+        return OF_CHOICE;
+    }
+    OF_MODEL
+}
 
 pub fn kind_at(notes: &[u16], i: usize) -> usize
     requires { ⌜ i ≤ namesHeld ⌝ }
     ensures { λ r. ⌜ r ≡ placeAt (now (notes .entry)) i ⌝ }
 {
-    let k = note_words::word(notes, WORDS_PER_NAME * i + KIND) / PAIR;
-    if k < OF_MODEL {
-        return k;
-    }
-    OF_MODEL
+    kind_by(note_words::word(notes, ORDER_FROM + i))
 }
 
 // The number of the line that the name at place i stands on: lines are counted for it, so it is asked for once.
@@ -27,17 +56,19 @@ pub fn line_at(src: &[u8], notes: &[u16], i: usize) -> u64
     requires { ⌜ i ≤ namesHeld ⌝ }
     ensures { λ r. ⌜ r ≡ notedLine (now (src .entry)) (now (notes .entry)) i ⌝ }
 {
-    let at = note_words::word(notes, WORDS_PER_NAME * i + AT);
+    let a = note_words::word(notes, ORDER_FROM + i);
+    let at = note_words::word(notes, a + AT);
     lines::line_number(src, at)
 }
 
 // The part of the file that word j of the name at place i says, as it stands.
 pub fn part_at(notes: &[u16], i: usize, j: usize) -> Word
-    requires { ⌜ (i ≤ namesHeld) × (j < wordsPerName) ⌝ }
+    requires { ⌜ (i ≤ namesHeld) × (j < wordsPerSection) ⌝ }
     ensures { λ r. ⌜ r ≡ partSaid (now (notes .entry)) i j ⌝ }
 {
-    let at = note_words::word(notes, WORDS_PER_NAME * i + AT);
-    let w = note_words::word(notes, WORDS_PER_NAME * i + j);
+    let a = note_words::word(notes, ORDER_FROM + i);
+    let at = note_words::word(notes, a + AT);
+    let w = note_words::word(notes, a + j);
     let start = at + w / PAIR;
     Word {
         start: start,

@@ -1,9 +1,12 @@
--- The store: six words a name, then the names by kind, then three words a waveform. A word is of two bytes.
+-- The store: an area of notes for each kind, then the names in file order, a word each that says where its note lies, then three words a waveform. A word is
+-- of two bytes.
 use Prim.Native.Nat.{ℕ, zero, suc, _+_, _-_, _*_, _/_, _%_, _≤_, _<_}
+use mathlib.Core.Path.{_≡_}
 use mathlib.Core.List.{List, [], _∷_}
 use mathlib.Core.Bool.{Bool, true, false, cond}
-use lib.ListN.{drop, getD}
-use lib.Dec.{eqb}
+use lib.ListN.{drop, getD, set}
+use lib.Seq.{sets}
+use lib.Dec.{eqb, ltb}
 use Rattle.laws.specs.Lists.{part}
 use Rattle.lines.specs.Places.{lineAt}
 use Rattle.cut_lines.specs.Cursors.{rest}
@@ -12,7 +15,8 @@ use Rattle.records.specs.Bounds.{most, mostWaveforms}
 use Rattle.records.specs.declared.Kind.{Kind}
 use Rattle.records.specs.declared.Kind.the-variants.{OfComponent, OfPin, OfSelector, OfChoice, OfModel}
 use Rattle.records.specs.declared.Counts.{Counts}
-use Rattle.notes.specs.Noted.{Note, Wave, Log}
+use Rattle.rules.specs.Outline.{place}
+use Rattle.notes.specs.Noted.{used, Note, Wave, Log}
 use Rattle.note_words.specs.declared.SectionNote.{SectionNote}
 use Rattle.note_words.specs.declared.RowNote.{RowNote}
 
@@ -26,25 +30,55 @@ namesHeld = most OfComponent + most OfPin + most OfSelector + most OfChoice + mo
 abbrev pub mostNames : ℕ
 mostNames = namesHeld + 1
 
-abbrev pub wordsPerName : ℕ
-wordsPerName = 6
+abbrev pub wordsPerSection : ℕ
+wordsPerSection = 5
+
+abbrev pub wordsPerRow : ℕ
+wordsPerRow = 4
 
 abbrev pub wordsPerWave : ℕ
 wordsPerWave = 3
 
-abbrev pub byKindFrom : ℕ
-byKindFrom = wordsPerName * mostNames
+-- the other kinds are those of rows
+abbrev pub isSection : Kind → Bool
+isSection OfComponent = true
+isSection OfPin = false
+isSection OfSelector = true
+isSection OfChoice = false
+isSection OfModel = true
 
--- the list of each kind
-abbrev pub listFrom : Kind → ℕ
-listFrom OfComponent = byKindFrom
-listFrom OfPin = byKindFrom + most OfComponent
-listFrom OfSelector = byKindFrom + most OfComponent + most OfPin
-listFrom OfChoice = byKindFrom + most OfComponent + most OfPin + most OfSelector
-listFrom OfModel = byKindFrom + most OfComponent + most OfPin + most OfSelector + most OfChoice
+abbrev pub wordsPer : Kind → ℕ
+wordsPer k = cond (isSection k) wordsPerSection wordsPerRow
+
+-- the words of a kind's area: one note more than its table holds
+abbrev pub areaOf : Kind → ℕ
+areaOf k = wordsPer k * (most k + 1)
+
+abbrev pub areaFrom : Kind → ℕ
+areaFrom OfComponent = 0
+areaFrom OfPin = areaOf OfComponent
+areaFrom OfSelector = areaOf OfComponent + areaOf OfPin
+areaFrom OfChoice = areaOf OfComponent + areaOf OfPin + areaOf OfSelector
+areaFrom OfModel = areaOf OfComponent + areaOf OfPin + areaOf OfSelector + areaOf OfChoice
+
+-- where note j of a kind lies
+abbrev pub liesAt : Kind → ℕ → ℕ
+liesAt k j = areaFrom k + wordsPer k * j
+
+-- the kind in whose area a note lies
+unfoldable pub kindBy : ℕ → Kind
+kindBy a =
+    cond (ltb a (areaFrom OfPin)) OfComponent
+    (cond (ltb a (areaFrom OfSelector)) OfPin
+    (cond (ltb a (areaFrom OfChoice)) OfSelector
+    (cond (ltb a (areaFrom OfModel)) OfChoice OfModel)))
+
+-- the names in file order
+abbrev pub orderFrom : ℕ
+orderFrom = areaFrom OfModel + areaOf OfModel
 
 abbrev pub wavesFrom : ℕ
-wavesFrom = byKindFrom + namesHeld
+wavesFrom = orderFrom + mostNames
 
 abbrev pub storeLength : ℕ
 storeLength = wavesFrom + wordsPerWave * mostWaveforms
@@ -59,19 +93,18 @@ paired high low = high * 256 + low
 
 abbrev pub wordsOfSection : SectionNote → List ℕ
 wordsOfSection x =
-    x .at ∷ paired (x .kind) (x .comment) ∷ paired (x .name - x .at) (x .«name_end» - x .name) ∷ x .start ∷ x .row ∷ x .section ∷ []
+    x .at ∷ paired (x .name - x .at) (x .«name_end» - x .name) ∷ paired (x .comment) (x .section) ∷ x .start ∷ x .row ∷ []
 
 -- it can be noted
 pub record SectionFits (x : SectionNote) : Type 0 where
   pub at : x .at < 65536
-  pub kind : x .kind < 256
   pub comment : x .comment < 256
   pub from : x .at ≤ x .name
   pub order : x .name ≤ x .«name_end»
   pub short : x .«name_end» < x .at + 256
   pub start : x .start < 65536
   pub row : x .row < 65536
-  pub section : x .section < 65536
+  pub section : x .section < 256
 
 -- at the line that begins at a place, under a comment character
 abbrev pub cursorAt : List ℕ → ℕ → ℕ → Cursor
@@ -81,15 +114,14 @@ abbrev pub sectionFrom : List ℕ → Kind → SectionNote → Note
 sectionFrom s k x =
     record { kind = k; line = lineAt s (x .at); name = part (x .name) (x .«name_end») s; names = []; text = []; behind = drop 1 (rest s (cursorAt s (x .at) (x .comment))); section = x .section; start = x .start; row = x .row }
 
--- ---- a row's words, of which the last two say nothing, and its note: its text begins at its place
+-- ---- a row's words, and its note: its text begins at its place
 
 abbrev pub wordsOfRow : RowNote → List ℕ
 wordsOfRow x =
-    x .at ∷ paired (x .kind) (x .«text_end» - x .at) ∷ paired (x .name - x .at) (x .«name_end» - x .name) ∷ paired (x .model - x .at) (x .«model_end» - x .model) ∷ 0 ∷ 0 ∷ []
+    x .at ∷ paired (x .name - x .at) (x .«name_end» - x .name) ∷ paired (x .model - x .at) (x .«model_end» - x .model) ∷ (x .«text_end» - x .at) ∷ []
 
 pub record RowFits (x : RowNote) : Type 0 where
   pub at : x .at < 65536
-  pub kind : x .kind < 256
   pub text : x .at ≤ x .«text_end»
   pub short : x .«text_end» < x .at + 256
   pub from : x .at ≤ x .name
@@ -103,53 +135,65 @@ abbrev pub rowFrom : List ℕ → Kind → RowNote → Note
 rowFrom s k x =
     record { kind = k; line = lineAt s (x .at); name = part (x .name) (x .«name_end») s; names = part (x .model) (x .«model_end») s; text = part (x .at) (x .«text_end») s; behind = []; section = 0; start = 0; row = 0 }
 
--- ---- read back, name i; kinds are numbered as they are listed
+-- ---- read back: the note that lies at a
 
-unfoldable pub kindOf : ℕ → Kind
-kindOf n = cond (eqb n 0) OfComponent (cond (eqb n 1) OfPin (cond (eqb n 2) OfSelector (cond (eqb n 3) OfChoice OfModel)))
-
--- word j of its six
-abbrev pub nameWord : List ℕ → ℕ → ℕ → ℕ
-nameWord xs i j = getD xs (wordsPerName * i + j) 0
-
-abbrev pub kindAt : List ℕ → ℕ → Kind
-kindAt xs i = kindOf (nameWord xs i 1 / 256)
-
-abbrev pub notedLine : List ℕ → List ℕ → ℕ → ℕ
-notedLine s xs i = lineAt s (nameWord xs i 0)
+-- word j of it
+abbrev pub wordOf : List ℕ → ℕ → ℕ → ℕ
+wordOf xs a j = getD xs (a + j) 0
 
 -- where the part lies that word j says
 abbrev pub partStart : List ℕ → ℕ → ℕ → ℕ
-partStart xs i j = nameWord xs i 0 + nameWord xs i j / 256
+partStart xs a j = wordOf xs a 0 + wordOf xs a j / 256
 
 abbrev pub partEnd : List ℕ → ℕ → ℕ → ℕ
-partEnd xs i j = nameWord xs i 0 + nameWord xs i j / 256 + nameWord xs i j % 256
+partEnd xs a j = wordOf xs a 0 + wordOf xs a j / 256 + wordOf xs a j % 256
 
-abbrev pub nameAt : List ℕ → List ℕ → ℕ → List ℕ
-nameAt s xs i = part (partStart xs i 2) (partEnd xs i 2) s
+abbrev pub nameOf : List ℕ → List ℕ → ℕ → List ℕ
+nameOf s xs a = part (partStart xs a 1) (partEnd xs a 1) s
 
 abbrev pub sectionAt : List ℕ → ℕ → SectionNote
-sectionAt xs i =
-    record { kind = nameWord xs i 1 / 256; at = nameWord xs i 0; name = partStart xs i 2; «name_end» = partEnd xs i 2; start = nameWord xs i 3; row = nameWord xs i 4; comment = nameWord xs i 1 % 256; section = nameWord xs i 5 }
+sectionAt xs a =
+    record { at = wordOf xs a 0; name = partStart xs a 1; «name_end» = partEnd xs a 1; start = wordOf xs a 3; row = wordOf xs a 4; comment = wordOf xs a 2 / 256; section = wordOf xs a 2 % 256 }
 
 abbrev pub rowAt : List ℕ → ℕ → RowNote
-rowAt xs i =
-    record { kind = nameWord xs i 1 / 256; at = nameWord xs i 0; name = partStart xs i 2; «name_end» = partEnd xs i 2; model = partStart xs i 3; «model_end» = partEnd xs i 3; «text_end» = nameWord xs i 0 + nameWord xs i 1 % 256 }
-
--- the other kinds are those of rows
-abbrev pub isSection : Kind → Bool
-isSection OfComponent = true
-isSection OfPin = false
-isSection OfSelector = true
-isSection OfChoice = false
-isSection OfModel = true
+rowAt xs a =
+    record { at = wordOf xs a 0; name = partStart xs a 1; «name_end» = partEnd xs a 1; model = partStart xs a 2; «model_end» = partEnd xs a 2; «text_end» = wordOf xs a 0 + wordOf xs a 3 }
 
 -- as one of this kind
 abbrev pub noteOf : List ℕ → List ℕ → ℕ → Kind → Note
-noteOf s xs i k = cond (isSection k) (sectionFrom s k (sectionAt xs i)) (rowFrom s k (rowAt xs i))
+noteOf s xs a k = cond (isSection k) (sectionFrom s k (sectionAt xs a)) (rowFrom s k (rowAt xs a))
+
+-- ---- name i in file order
+
+-- where its note lies
+abbrev pub notedAt : List ℕ → ℕ → ℕ
+notedAt xs i = getD xs (orderFrom + i) 0
+
+abbrev pub kindAt : List ℕ → ℕ → Kind
+kindAt xs i = kindBy (notedAt xs i)
+
+abbrev pub notedLine : List ℕ → List ℕ → ℕ → ℕ
+notedLine s xs i = lineAt s (wordOf xs (notedAt xs i) 0)
+
+abbrev pub nameAt : List ℕ → List ℕ → ℕ → List ℕ
+nameAt s xs i = nameOf s xs (notedAt xs i)
 
 unfoldable pub noteAt : List ℕ → List ℕ → ℕ → Note
-noteAt s xs i = noteOf s xs i (kindAt xs i)
+noteAt s xs i = noteOf s xs (notedAt xs i) (kindAt xs i)
+
+-- the store with these words at a as the note of name i
+abbrev pub withName : List ℕ → ℕ → ℕ → List ℕ → List ℕ
+withName xs i a ws = set (sets xs a ws) (orderFrom + i) a
+
+-- how many of the first n names are of a kind
+unfoldable pub howMany : List ℕ → Kind → ℕ → ℕ
+howMany xs k zero = 0
+howMany xs k (suc n) = cond (eqb (place k) (place (kindAt xs n))) (howMany xs k n + 1) (howMany xs k n)
+
+-- the notes of a kind lie one behind the other in its area, in file order, and are as many as are counted
+pub record Filed (xs : List ℕ) (n : ℕ) (c : Counts) : Type 0 where
+  pub lies : (i : ℕ) → i < n → notedAt xs i ≡ liesAt (kindAt xs i) (howMany xs (kindAt xs i) i)
+  pub counted : (k : Kind) → howMany xs k n ≡ used c k
 
 -- ---- a waveform's note: its texts from its place on
 

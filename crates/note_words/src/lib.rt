@@ -1,10 +1,10 @@
-// The store of what is noted of a file, in words of two bytes: six a name, then the names by kind, then three a waveform. No line's number is noted:
-// it is counted from the place where the line begins.
+// The store of what is noted of a file, in words of two bytes: an area of notes for each kind, then the names in file order, then three words a waveform. No
+// line's number is noted: it is counted from the place where the line begins.
 ghost use mathlib.Core.Path.{_≡_};
 ghost use Prim.Native.Nat.{_+_, _*_, _≤_, _<_};
 ghost use lib.ListN.{length, getD};
 ghost use lib.Seq.{sets};
-ghost use Rattle.note_words.specs.Store.{paired, wordsOfSection, SectionFits, wordsOfRow, RowFits, waveWords, wordsPerName, wordsPerWave, wavesFrom};
+ghost use Rattle.note_words.specs.Store.{namesHeld, wordsPerSection, wordsPerRow, orderFrom, storeLength, paired, wordsOfSection, SectionFits, wordsOfRow, RowFits, withName, waveWords, wordsPerWave, wavesFrom};
 use records::MOST_CHOICES;
 use records::MOST_COMPONENTS;
 use records::MOST_MODELS;
@@ -24,22 +24,25 @@ pub const NAMES_HELD: usize = MOST_COMPONENTS
 // And one more: a name is noted before its table is found full, for it may be used twice.
 pub const MOST_NAMES: usize = NAMES_HELD + 1;
 
-pub const WORDS_PER_NAME: usize = 6;
+pub const WORDS_PER_SECTION: usize = 5;
 
-// The names by kind: the place of each, in the list of its kind. Before that, marks of what is listed.
-pub const BY_KIND_FROM: usize = WORDS_PER_NAME * MOST_NAMES;
+pub const WORDS_PER_ROW: usize = 4;
 
-pub const COMPONENTS_FROM: usize = BY_KIND_FROM;
+// An area for each kind, its notes in file order: one more than its table holds.
+pub const COMPONENTS_FROM: usize = 0;
 
-pub const PINS_FROM: usize = COMPONENTS_FROM + MOST_COMPONENTS;
+pub const PINS_FROM: usize = COMPONENTS_FROM + WORDS_PER_SECTION * (MOST_COMPONENTS + 1);
 
-pub const SELECTORS_FROM: usize = PINS_FROM + MOST_PINS;
+pub const SELECTORS_FROM: usize = PINS_FROM + WORDS_PER_ROW * (MOST_PINS + 1);
 
-pub const CHOICES_FROM: usize = SELECTORS_FROM + MOST_SELECTORS;
+pub const CHOICES_FROM: usize = SELECTORS_FROM + WORDS_PER_SECTION * (MOST_SELECTORS + 1);
 
-pub const MODELS_FROM: usize = CHOICES_FROM + MOST_CHOICES;
+pub const MODELS_FROM: usize = CHOICES_FROM + WORDS_PER_ROW * (MOST_CHOICES + 1);
 
-pub const WAVES_FROM: usize = MODELS_FROM + MOST_MODELS;
+// The names in file order: where the note of each lies.
+pub const ORDER_FROM: usize = MODELS_FROM + WORDS_PER_SECTION * (MOST_MODELS + 1);
+
+pub const WAVES_FROM: usize = ORDER_FROM + MOST_NAMES;
 
 pub const WORDS_PER_WAVE: usize = 3;
 
@@ -50,39 +53,24 @@ pub const STORE_LENGTH: usize = WAVES_FROM + WORDS_PER_WAVE * MOST_WAVEFORMS;
 // Two numbers below this one share a word: the first is the upper.
 pub const PAIR: usize = 256;
 
-// Kinds are numbered as they are listed.
-pub const OF_COMPONENT: usize = 0;
-
-pub const OF_PIN: usize = 1;
-
-pub const OF_SELECTOR: usize = 2;
-
-pub const OF_CHOICE: usize = 3;
-
-pub const OF_MODEL: usize = 4;
-
-pub const KINDS: usize = 5;
-
 // Of every name: where its line begins.
 pub const AT: usize = 0;
 
-// The kind; and of a section the comment character at its line, of a row the length of its text, which begins where the line does.
-pub const KIND: usize = 1;
-
 // How far behind the line's beginning the name lies, and its length.
-pub const NAME: usize = 2;
+pub const NAME: usize = 1;
 
-// Of a section.
+// Of a section: the comment character at its line, and its place among the sections.
+pub const SECTION_PLACE: usize = 2;
+
 pub const SECTION_START: usize = 3;
 
 pub const SECTION_ROW: usize = 4;
 
-pub const SECTION_PLACE: usize = 5;
-
 // Of a pin or a selector row: the model that it names, like the name.
-pub const ROW_MODEL: usize = 3;
+pub const ROW_MODEL: usize = 2;
 
-const UNUSED: u16 = 0;
+// The length of its text, which begins where the line does.
+pub const ROW_TEXT: usize = 3;
 
 // Of a waveform.
 pub const WAVE_AT: usize = 0;
@@ -128,7 +116,6 @@ pub fn put_words(notes: &mut [u16], at: usize, words: &[u16])
 // What is noted of a section: where its line begins and its name lies; the places of its first pin, row or waveform, and of its first table row; the
 // comment character at its line; its place among the sections.
 pub struct SectionNote {
-    pub kind: usize,
     pub at: usize,
     pub name: usize,
     pub name_end: usize,
@@ -140,7 +127,6 @@ pub struct SectionNote {
 
 // What is noted of a pin or a selector row: where its line begins, and with that its text; where its name and the model it names lie, and its text ends.
 pub struct RowNote {
-    pub kind: usize,
     pub at: usize,
     pub name: usize,
     pub name_end: usize,
@@ -149,36 +135,30 @@ pub struct RowNote {
     pub text_end: usize,
 }
 
-// Notes a section as the name at place i.
-pub fn put_section(notes: &mut [u16], i: usize, x: SectionNote)
-    requires { ⌜ wordsPerName * i + wordsPerName ≤ length (now notes) ⌝ }
+// Notes a section as name i in file order, its words from a on.
+pub fn put_section(notes: &mut [u16], i: usize, a: usize, x: SectionNote)
+    requires { ⌜ (i ≤ namesHeld) × (a + wordsPerSection ≤ orderFrom) × (storeLength ≤ length (now notes)) ⌝ }
     requires { ⌜ SectionFits x ⌝ }
-    ensures { λ _. ⌜ now (notes .exit) ≡ sets (now (notes .entry)) (wordsPerName * i) (wordsOfSection x) ⌝ }
+    ensures { λ _. ⌜ now (notes .exit) ≡ withName (now (notes .entry)) i a (wordsOfSection x) ⌝ }
 {
-    let kind = pair(x.kind, x.comment);
     let name = pair(x.name - x.at, x.name_end - x.name);
-    let words = [
-        x.at as u16,
-        kind,
-        name,
-        x.start as u16,
-        x.row as u16,
-        x.section as u16,
-    ];
-    put_words(notes, WORDS_PER_NAME * i, &words);
+    let place = pair(x.comment, x.section);
+    let words = [x.at as u16, name, place, x.start as u16, x.row as u16];
+    put_words(notes, a, &words);
+    notes[ORDER_FROM + i] = a as u16;
 }
 
-// Notes a row as the name at place i; its last words say nothing.
-pub fn put_row(notes: &mut [u16], i: usize, x: RowNote)
-    requires { ⌜ wordsPerName * i + wordsPerName ≤ length (now notes) ⌝ }
+// Notes a row as name i in file order, its words from a on.
+pub fn put_row(notes: &mut [u16], i: usize, a: usize, x: RowNote)
+    requires { ⌜ (i ≤ namesHeld) × (a + wordsPerRow ≤ orderFrom) × (storeLength ≤ length (now notes)) ⌝ }
     requires { ⌜ RowFits x ⌝ }
-    ensures { λ _. ⌜ now (notes .exit) ≡ sets (now (notes .entry)) (wordsPerName * i) (wordsOfRow x) ⌝ }
+    ensures { λ _. ⌜ now (notes .exit) ≡ withName (now (notes .entry)) i a (wordsOfRow x) ⌝ }
 {
-    let kind = pair(x.kind, x.text_end - x.at);
     let name = pair(x.name - x.at, x.name_end - x.name);
     let model = pair(x.model - x.at, x.model_end - x.model);
-    let words = [x.at as u16, kind, name, model, UNUSED, UNUSED];
-    put_words(notes, WORDS_PER_NAME * i, &words);
+    let words = [x.at as u16, name, model, (x.text_end - x.at) as u16];
+    put_words(notes, a, &words);
+    notes[ORDER_FROM + i] = a as u16;
 }
 
 // Notes the waveform at place j: where its keyword line begins, the comment character there, its first row's place.

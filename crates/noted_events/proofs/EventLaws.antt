@@ -7,7 +7,7 @@ use native.Mathlib.Omega.{arith}
 use lib.ListN.{length, drop}
 use lib.Seq.{sets, getD-drop}
 use lib.Dec.{leb}
-use borrow.Author.Tests.{le-leb, lt-leb, eq-eqb, ne-eqb}
+use borrow.Author.Tests.{le-leb, lt-leb, leb-false, eq-eqb, ne-eqb}
 use Rattle.laws.specs.Lists.{part}
 use Rattle.laws.proofs.Tests.{by-test, cond-yes, cond-no}
 use Rattle.words.specs.Words.{word, words}
@@ -23,13 +23,13 @@ use Rattle.records.specs.declared.Kind.the-variants.{OfComponent, OfPin, OfSele
 use Rattle.rules.specs.declared.Event.the-variants.{WaveformOpened, TableRow, Ended}
 use Rattle.records.specs.declared.Lengths.{Lengths}
 use Rattle.notes.specs.Noted.{Note, used, oneMore, moreWaveforms, moreRows, sections, rowNote, going, full, withNote}
-use Rattle.notes.proofs.Settles.{more-waveforms}
-use Rattle.note_words.specs.Store.{namesHeld, wordsPerName, wordsPerWave, wavesFrom, wordsOfSection, SectionFits, cursorAt, sectionFrom, wordsOfRow, RowFits, rowFrom, kindOf, isSection, noteAt, waveWords, logIn}
+use Rattle.notes.proofs.Settles.{more-waveforms, more-rows}
+use Rattle.note_words.specs.Store.{namesHeld, wordsPerSection, wordsPerRow, wordsPerWave, isSection, wordsPer, liesAt, wavesFrom, wordsOfSection, SectionFits, cursorAt, sectionFrom, wordsOfRow, RowFits, rowFrom, noteAt, withName, waveWords, logIn}
 use Rattle.note_words.specs.declared.SectionNote.{SectionNote}
 use Rattle.note_words.specs.declared.RowNote.{RowNote}
-use Rattle.note_words.proofs.Laws.{section-said, row-said, log-note, log-wave}
+use Rattle.note_words.proofs.Laws.{used-other, filed-other, section-said, row-said, filed-more, log-note, filed-wave, log-wave}
 use Rattle.noted_events.specs.Places.{FirstIn}
-use Rattle.noted_events.specs.Events.{logOf, toldIs, loggedAt, sectionIn, rowIn, counted, Within, KeptCounts, Ready}
+use Rattle.noted_events.specs.Events.{logOf, toldIs, loggedAt, sectionIn, rowIn, counted, Within, KeptCounts, KeptBy, Ready}
 use Rattle.noted_events.specs.declared.Spot.{Spot}
 use Rattle.noted_events.specs.declared.Tally.{Tally}
 use Rattle.noted_events.specs.declared.Told.{Told}
@@ -40,12 +40,19 @@ use Rattle.noted_events.specs.declared.Told.the-variants.{Going, Full}
 pub names-small : (t : Tally) → Within t → t .names ≤ namesHeld
 names-small t w = omega (arith, w .names, w .components, w .pins, w .selectors, w .choices, w .models)
 
-pub used-small : (t : Tally) (k : Kind) → Within t → used (t .counts) k ≤ most OfPin
-used-small t OfComponent w = omega (arith, w .components)
-used-small t OfPin w = w .pins
-used-small t OfSelector w = omega (arith, w .selectors)
-used-small t OfChoice w = omega (arith, w .choices)
-used-small t OfModel w = omega (arith, w .models)
+pub used-most : (t : Tally) → Within t → (k : Kind) → used (t .counts) k ≤ most k
+used-most t w OfComponent = w .components
+used-most t w OfPin = w .pins
+used-most t w OfSelector = w .selectors
+used-most t w OfChoice = w .choices
+used-most t w OfModel = w .models
+
+pub most-small : (k : Kind) → most k ≤ most OfPin
+most-small OfComponent = omega arith
+most-small OfPin = omega arith
+most-small OfSelector = omega arith
+most-small OfChoice = omega arith
+most-small OfModel = omega arith
 
 module _ (l : Lengths) (t : Tally) (k : Kind) where
   pub counted-full : bound l k ≤ used (t .counts) k → Full 17 (record { names = t .names + 1; counts = t .counts }) ≡ counted l t k
@@ -56,31 +63,48 @@ module _ (l : Lengths) (t : Tally) (k : Kind) where
   unfolding counted
   counted-going h = sym (cond-no _ _ (lt-leb (bound l k) (used (t .counts) k) h))
 
--- the words that are written for a name say its note
-name-told : (s xs ws : List ℕ) (l : Lengths) (t : Tally) (n : Note) → Within t → length ws ≡ wordsPerName → noteAt s (sets xs (wordsPerName * t .names) ws) (t .names) ≡ n
-    → withNote l (logOf s xs t) n ≡ toldIs s (sets xs (wordsPerName * t .names) ws) (n .line) (counted l t (n .kind))
-unfolding withNote logIn counted
-name-told s xs ws l t n within six says =
-    let held = names-small t within in
-    by-test (leb (bound l (n .kind)) (used (t .counts) (n .kind)))
-    (λ h. rw h rw (log-note s xs (t .names) ws n (t .counts) held six says) refl)
-    (λ h. rw h rw (log-note s xs (t .names) ws n (oneMore (t .counts) (n .kind)) held six says) rw (more-waveforms (t .counts) (n .kind)) refl)
-
 -- ---- the bounds
 
-pub kept-more : (l : Lengths) (t : Tally) (k : Kind) → Within t → used (t .counts) k < bound l k → KeptCounts t (record { names = t .names + 1; counts = oneMore (t .counts) k })
-kept-more l t OfComponent w h = record { within = record { names = omega (arith, w .names); components = omega (arith, h); pins = w .pins; selectors = w .selectors; choices = w .choices; models = w .models; waveforms = w .waveforms }; rows = omega arith }
-kept-more l t OfPin w h = record { within = record { names = omega (arith, w .names); components = w .components; pins = omega (arith, h); selectors = w .selectors; choices = w .choices; models = w .models; waveforms = w .waveforms }; rows = omega arith }
-kept-more l t OfSelector w h = record { within = record { names = omega (arith, w .names); components = w .components; pins = w .pins; selectors = omega (arith, h); choices = w .choices; models = w .models; waveforms = w .waveforms }; rows = omega arith }
-kept-more l t OfChoice w h = record { within = record { names = omega (arith, w .names); components = w .components; pins = w .pins; selectors = w .selectors; choices = omega (arith, h); models = w .models; waveforms = w .waveforms }; rows = omega arith }
-kept-more l t OfModel w h = record { within = record { names = omega (arith, w .names); components = w .components; pins = w .pins; selectors = w .selectors; choices = w .choices; models = omega (arith, h); waveforms = w .waveforms }; rows = omega arith }
+kept-more : (l : Lengths) (t : Tally) (k : Kind) → Within t → used (t .counts) k < bound l k → Within (record { names = t .names + 1; counts = oneMore (t .counts) k })
+kept-more l t OfComponent w h = record { names = omega (arith, w .names); components = omega (arith, h); pins = w .pins; selectors = w .selectors; choices = w .choices; models = w .models; waveforms = w .waveforms }
+kept-more l t OfPin w h = record { names = omega (arith, w .names); components = w .components; pins = omega (arith, h); selectors = w .selectors; choices = w .choices; models = w .models; waveforms = w .waveforms }
+kept-more l t OfSelector w h = record { names = omega (arith, w .names); components = w .components; pins = w .pins; selectors = omega (arith, h); choices = w .choices; models = w .models; waveforms = w .waveforms }
+kept-more l t OfChoice w h = record { names = omega (arith, w .names); components = w .components; pins = w .pins; selectors = w .selectors; choices = omega (arith, h); models = w .models; waveforms = w .waveforms }
+kept-more l t OfModel w h = record { names = omega (arith, w .names); components = w .components; pins = w .pins; selectors = w .selectors; choices = w .choices; models = omega (arith, h); waveforms = w .waveforms }
+
+-- ---- the words that are written for a name behind those of its kind
+
+module _ (s xs ws : List ℕ) (l : Lengths) (t : Tally) (p : Spot) (n : Note) (ready : Ready s xs t p) (size : length ws ≡ wordsPer (n .kind)) where
+  abbrev k : Kind
+  k = n .kind
+
+  abbrev more : List ℕ
+  more = withName xs (t .names) (liesAt k (used (t .counts) k)) ws
+
+  -- they say its note
+  name-told : noteAt s more (t .names) ≡ n → withNote l (logOf s xs t) n ≡ toldIs s more (n .line) (counted l t k)
+  unfolding withNote logIn counted
+  name-told says =
+      let log = log-note xs (t .names) (t .counts) (ready .filed) (used-most t (ready .within)) (names-small t (ready .within)) (ready .store) k ws size s n in
+      by-test (leb (bound l k) (used (t .counts) k))
+      (λ h. rw h rw (log (t .counts) says) refl)
+      (λ h. rw h rw (log (oneMore (t .counts) k) says) rw (more-waveforms (t .counts) k) refl)
+
+  name-kept : KeptBy more t (counted l t k)
+  unfolding counted
+  name-kept =
+      by-test (leb (bound l k) (used (t .counts) k))
+      (λ h. rw h (omega (arith, names-small t (ready .within))))
+      (λ h. rw h
+      (record {
+        within = kept-more l t k (ready .within) (leb-false (bound l k) (used (t .counts) k) h);
+        filed = filed-more xs (t .names) (t .counts) (ready .filed) (used-most t (ready .within)) (names-small t (ready .within)) (ready .store) k ws size;
+        rows = omega (arith, more-rows (t .counts) k);
+      }))
 
 -- ---- sections and rows
 
 module _ (s xs : List ℕ) (l : Lengths) (t : Tally) (p : Spot) (ready : Ready s xs t p) where
-  pub name-fits : wordsPerName * t .names + wordsPerName ≤ length xs
-  name-fits = omega (arith, names-small t (ready .within), ready .store)
-
   -- a text is short, and so lies within two bytes
   pub text-ends : (p .end ≤ p .start + 120) × (p .end ≤ 65536)
   text-ends = (ready .text .short (ready .clean), omega (arith, ready .text .fits, ready .small))
@@ -92,12 +116,11 @@ module _ (s xs : List ℕ) (l : Lengths) (t : Tally) (p : Spot) (ready : Ready s
   pub here-at : rest s (cursorAt s (p .start) (p .next .comment)) ≡ plain (p .line) (part (p .start) (p .end) s) ∷ rest s (p .next)
   here-at = ap (λ (k : ℕ). rest s (record { at = p .start; line = k; comment = p .next .comment })) (sym line-at) ∙ ready .text .here
 
-  pub section-fits : (n a e start row : ℕ) → n < 256 → p .start ≤ a → a ≤ e → e ≤ p .end → start < 65536 → row < 65536 → p .next .comment < 256 → SectionFits (sectionIn n p a e (t .counts) start row)
-  section-fits n a e start row kind from order ends first rows comment =
+  pub section-fits : (a e start row : ℕ) → p .start ≤ a → a ≤ e → e ≤ p .end → start < 65536 → row < 65536 → p .next .comment < 256 → SectionFits (sectionIn p a e (t .counts) start row)
+  section-fits a e start row from order ends first rows comment =
       let w = ready .within in
       record {
         at = omega (arith, ready .text .starts, text-ends .1);
-        kind = kind;
         comment = comment;
         from = from;
         order = order;
@@ -107,12 +130,11 @@ module _ (s xs : List ℕ) (l : Lengths) (t : Tally) (p : Spot) (ready : Ready s
         section = omega (arith, w .components, w .selectors, w .models);
       }
 
-  pub row-fits : (n : ℕ) (name model : Word) → n < 256 → p .start ≤ name .start → name .start ≤ name .end → name .end ≤ p .end → p .start ≤ model .start → model .start ≤ model .end → model .end ≤ p .end
-      → RowFits (rowIn n p name model)
-  row-fits n name model kind from order ends model-from model-order model-ends =
+  pub row-fits : (name model : Word) → p .start ≤ name .start → name .start ≤ name .end → name .end ≤ p .end → p .start ≤ model .start → model .start ≤ model .end → model .end ≤ p .end
+      → RowFits (rowIn p name model)
+  row-fits name model from order ends model-from model-order model-ends =
       record {
         at = omega (arith, ready .text .starts, text-ends .1);
-        kind = kind;
         text = omega (arith, ready .text .starts);
         short = omega (arith, text-ends .0);
         from = from;
@@ -123,24 +145,32 @@ module _ (s xs : List ℕ) (l : Lengths) (t : Tally) (p : Spot) (ready : Ready s
         model-ends = model-ends;
       }
 
-  pub told-section : (k : Kind) (n a e start row : ℕ) (w : List ℕ) {x : SectionNote} {ys : List ℕ} {r : Told} → x ≡ sectionIn n p a e (t .counts) start row → SectionFits x → kindOf n ≡ k → isSection k ≡ true → part a e s ≡ w
-      → ys ≡ sets xs (wordsPerName * t .names) (wordsOfSection x) → r ≡ counted l t k
-      → withNote l (logOf s xs t) (record { kind = k; line = p .line; name = w; names = []; text = []; behind = rest s (p .next); section = sections (t .counts); start = start; row = row }) ≡ toldIs s ys (p .line) r
+  pub told-section : (k : Kind) (a e start row : ℕ) (w : List ℕ) {at : ℕ} {x : SectionNote} {ys : List ℕ} {r : Told} → at ≡ liesAt k (used (t .counts) k) → x ≡ sectionIn p a e (t .counts) start row → SectionFits x → isSection k ≡ true → part a e s ≡ w
+      → ys ≡ withName xs (t .names) at (wordsOfSection x) → r ≡ counted l t k
+      → (withNote l (logOf s xs t) (record { kind = k; line = p .line; name = w; names = []; text = []; behind = rest s (p .next); section = sections (t .counts); start = start; row = row }) ≡ toldIs s ys (p .line) r) × KeptBy ys t r
   unfolding sections
-  told-section k n a e start row w is fits of kinds text written counts =
-      let y = sectionIn n p a e (t .counts) start row in
+  told-section k a e start row w lies is fits kinds text written counts =
+      let y = sectionIn p a e (t .counts) start row in
       let behind : drop 1 (rest s (cursorAt s (p .start) (p .next .comment))) ≡ rest s (p .next) = ap (drop 1) here-at in
-      rw (written, counts, is, sym text, sym behind, line-at)
-      (name-told s xs (wordsOfSection y) l t (sectionFrom s k y) (ready .within) refl (section-said s xs (t .names) name-fits k y (subst SectionFits is fits) of kinds))
+      let size : wordsPerSection ≡ wordsPer k = sym (cond-yes _ _ kinds) in
+      rw (written, counts, lies, is, sym text, sym behind, line-at) (
+        name-told s xs (wordsOfSection y) l t p (sectionFrom s k y) ready size
+            (section-said s xs (t .names) (used (t .counts) k) k (used-most t (ready .within) k) (names-small t (ready .within)) (ready .store) y (subst SectionFits is fits) kinds),
+        name-kept s xs (wordsOfSection y) l t p (sectionFrom s k y) ready size,
+      )
 
-  pub told-row : (k : Kind) (n : ℕ) (name model : Word) (m : ℕ) {x : RowNote} {ys : List ℕ} {r : Told} → x ≡ rowIn n p name model → RowFits x → kindOf n ≡ k → isSection k ≡ false
+  pub told-row : (k : Kind) (name model : Word) (m : ℕ) {at : ℕ} {x : RowNote} {ys : List ℕ} {r : Told} → at ≡ liesAt k (used (t .counts) k) → x ≡ rowIn p name model → RowFits x → isSection k ≡ false
       → part (name .start) (name .end) s ≡ word 0 (words (part (p .start) (p .end) s)) → part (model .start) (model .end) s ≡ word m (words (part (p .start) (p .end) s))
-      → ys ≡ sets xs (wordsPerName * t .names) (wordsOfRow x) → r ≡ counted l t k
-      → withNote l (logOf s xs t) (rowNote k (p .line) m (part (p .start) (p .end) s)) ≡ toldIs s ys (p .line) r
-  told-row k n name model m is fits of kinds named says written counts =
-      let y = rowIn n p name model in
-      rw (written, counts, is, sym named, sym says, line-at)
-      (name-told s xs (wordsOfRow y) l t (rowFrom s k y) (ready .within) refl (row-said s xs (t .names) name-fits k y (subst RowFits is fits) of kinds))
+      → ys ≡ withName xs (t .names) at (wordsOfRow x) → r ≡ counted l t k
+      → (withNote l (logOf s xs t) (rowNote k (p .line) m (part (p .start) (p .end) s)) ≡ toldIs s ys (p .line) r) × KeptBy ys t r
+  told-row k name model m lies is fits kinds named says written counts =
+      let y = rowIn p name model in
+      let size : wordsPerRow ≡ wordsPer k = sym (cond-no _ _ kinds) in
+      rw (written, counts, lies, is, sym named, sym says, line-at) (
+        name-told s xs (wordsOfRow y) l t p (rowFrom s k y) ready size
+            (row-said s xs (t .names) (used (t .counts) k) k (used-most t (ready .within) k) (names-small t (ready .within)) (ready .store) y (subst RowFits is fits) kinds),
+        name-kept s xs (wordsOfRow y) l t p (rowFrom s k y) ready size,
+      )
 
 pub third-in : (s : List ℕ) (a e : ℕ) (x y z : Word) → FirstIn s a e x → FirstIn s (x .end) e y → FirstIn s (y .end) e z → part (z .start) (z .end) s ≡ word 2 (words (part a e s))
 unfolding word
@@ -160,15 +190,19 @@ module _ (s xs : List ℕ) (l : Lengths) (t : Tally) (p : Spot) (ready : Ready s
       ≡ going (logOf s (sets xs (wavesFrom + wordsPerWave * t .counts .waveforms) (waveWords (p .start) (p .next .comment) (t .counts .rows))) (record { names = t .names; counts = moreWaveforms (t .counts) }))
   unfolding logIn
   waveform-going h =
-      let n : t .names ≤ namesHeld = names-small t (ready .within) in
       rw (lt-leb (min mostWaveforms (l .waveforms)) (t .counts .waveforms) h)
-      rw (log-wave s xs (t .names) (t .counts .waveforms) (p .start) (p .next .comment) (t .counts .rows) (moreWaveforms (t .counts)) (omega (arith, n)) (omega (arith, h, ready .store)) refl)
+      rw (log-wave s xs (t .names) (t .counts .waveforms) (p .start) (p .next .comment) (t .counts .rows) (t .counts) (moreWaveforms (t .counts)) (ready .filed) (used-most t (ready .within)) (names-small t (ready .within)) (omega (arith, h, ready .store)) refl)
       rw (here-at s xs l t p ready) refl
 
-  pub kept-waveform : t .counts .waveforms < min mostWaveforms (l .waveforms) → KeptCounts t (record { names = t .names; counts = moreWaveforms (t .counts) })
+  pub kept-waveform : t .counts .waveforms < min mostWaveforms (l .waveforms)
+      → KeptCounts (sets xs (wavesFrom + wordsPerWave * t .counts .waveforms) (waveWords (p .start) (p .next .comment) (t .counts .rows))) t (record { names = t .names; counts = moreWaveforms (t .counts) })
   kept-waveform h =
       let w : Within t = ready .within in
-      record { within = record { names = w .names; components = w .components; pins = w .pins; selectors = w .selectors; choices = w .choices; models = w .models; waveforms = omega (arith, h) }; rows = omega arith }
+      record {
+        within = record { names = w .names; components = w .components; pins = w .pins; selectors = w .selectors; choices = w .choices; models = w .models; waveforms = omega (arith, h) };
+        filed = filed-wave s xs (t .names) (t .counts .waveforms) (p .start) (p .next .comment) (t .counts .rows) (t .counts) (moreWaveforms (t .counts)) (ready .filed) (used-most t (ready .within)) (names-small t (ready .within)) (omega (arith, h, ready .store)) refl (used-other (t .counts) (t .counts .waveforms + 1) (t .counts .rows));
+        rows = omega arith;
+      }
 
   -- ---- table rows and the end
 
@@ -180,13 +214,17 @@ module _ (s xs : List ℕ) (l : Lengths) (t : Tally) (p : Spot) (ready : Ready s
   unfolding logIn
   rows-going h = rw (lt-leb (l .rows) (t .counts .rows) h) refl
 
-  pub kept-row : KeptCounts t (record { names = t .names; counts = moreRows (t .counts) })
+  pub kept-row : KeptCounts xs t (record { names = t .names; counts = moreRows (t .counts) })
   kept-row =
       let w : Within t = ready .within in
-      record { within = record { names = w .names; components = w .components; pins = w .pins; selectors = w .selectors; choices = w .choices; models = w .models; waveforms = w .waveforms }; rows = omega arith }
+      record {
+        within = record { names = w .names; components = w .components; pins = w .pins; selectors = w .selectors; choices = w .choices; models = w .models; waveforms = w .waveforms };
+        filed = filed-other xs (t .names) (t .counts) (t .counts .waveforms) (t .counts .rows + 1) (ready .filed);
+        rows = omega arith;
+      }
 
-  pub kept-same : KeptCounts t t
-  kept-same = record { within = ready .within; rows = omega arith }
+  pub kept-same : KeptCounts xs t t
+  kept-same = record { within = ready .within; filed = ready .filed; rows = omega arith }
 
   pub end-none : (alone : Bool) → t .counts .components ≡ 0 → loggedAt l s xs t p (Ended alone) ≡ full 9 (p .line) (logOf s xs t)
   unfolding logIn

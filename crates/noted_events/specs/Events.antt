@@ -18,7 +18,7 @@ use Rattle.records.specs.declared.Kind.the-variants.{OfComponent, OfPin, OfSele
 use Rattle.records.specs.declared.Counts.{Counts}
 use Rattle.records.specs.declared.Lengths.{Lengths}
 use Rattle.notes.specs.Noted.{Log, Logged, going, full, used, oneMore, logged}
-use Rattle.note_words.specs.Store.{mostNames, logIn, storeLength}
+use Rattle.note_words.specs.Store.{mostNames, Filed, logIn, storeLength}
 use Rattle.note_words.specs.declared.SectionNote.{SectionNote}
 use Rattle.note_words.specs.declared.RowNote.{RowNote}
 use Rattle.noted_events.specs.declared.Spot.{Spot}
@@ -37,14 +37,14 @@ toldIs s xs k (Full n t) = full n k (logOf s xs t)
 abbrev pub loggedAt : Lengths → List ℕ → List ℕ → Tally → Spot → Event → Logged
 loggedAt l s xs t p e = logged l (logOf s xs t) (plain (p .line) (part (p .start) (p .end) s)) (rest s (p .next)) e
 
--- the note of a section whose name lies from a to e, and that of a row; kind is its number
-abbrev pub sectionIn : ℕ → Spot → ℕ → ℕ → Counts → ℕ → ℕ → SectionNote
-sectionIn kind p a e c start row =
-    record { kind = kind; at = p .start; name = a; «name_end» = e; start = start; row = row; comment = p .next .comment; section = c .components + c .selectors + c .models }
+-- the note of a section whose name lies from a to e, and that of a row
+abbrev pub sectionIn : Spot → ℕ → ℕ → Counts → ℕ → ℕ → SectionNote
+sectionIn p a e c start row =
+    record { at = p .start; name = a; «name_end» = e; start = start; row = row; comment = p .next .comment; section = c .components + c .selectors + c .models }
 
-abbrev pub rowIn : ℕ → Spot → Word → Word → RowNote
-rowIn kind p name model =
-    record { kind = kind; at = p .start; name = name .start; «name_end» = name .end; model = model .start; «model_end» = model .end; «text_end» = p .end }
+abbrev pub rowIn : Spot → Word → Word → RowNote
+rowIn p name model =
+    record { at = p .start; name = name .start; «name_end» = name .end; model = model .start; «model_end» = model .end; «text_end» = p .end }
 
 -- a name that is noted is counted, or its table is full
 unfoldable pub counted : Lengths → Tally → Kind → Told
@@ -62,14 +62,19 @@ pub record Within (t : Tally) : Type 0 where
   pub models : t .counts .models ≤ most OfModel
   pub waveforms : t .counts .waveforms ≤ mostWaveforms
 
--- at most one row more
-pub record KeptCounts (t u : Tally) : Type 0 where
+-- the notes in the store lie by kind, as they are counted
+abbrev pub FiledBy : List ℕ → Tally → Type 0
+FiledBy xs t = Filed xs (t .names) (t .counts)
+
+-- what is noted lies by kind, and there is at most one row more
+pub record KeptCounts (xs : List ℕ) (t u : Tally) : Type 0 where
   pub within : Within u
+  pub filed : FiledBy xs u
   pub rows : u .counts .rows ≤ t .counts .rows + 1
 
-abbrev pub KeptBy : Tally → Told → Type 0
-KeptBy t (Going u) = KeptCounts t u
-KeptBy t (Full n u) = u .names ≤ mostNames
+abbrev pub KeptBy : List ℕ → Tally → Told → Type 0
+KeptBy xs t (Going u) = KeptCounts xs t u
+KeptBy xs t (Full n u) = u .names ≤ mostNames
 
 -- a text of a file without faulty bytes, its lines counted from the first, with room in the store for what it adds
 pub record Ready (s xs : List ℕ) (t : Tally) (p : Spot) : Type 0 where
@@ -80,4 +85,5 @@ pub record Ready (s xs : List ℕ) (t : Tally) (p : Spot) : Type 0 where
   pub small : length s ≤ 65536
   pub store : storeLength ≤ length xs
   pub within : Within t
+  pub filed : FiledBy xs t
   pub rows : t .counts .rows ≤ p .start

@@ -14,13 +14,15 @@ use crate::room::one_more;
 use crate::room::used_of;
 use crate::room::waveform_bound;
 use keywords::Section;
-use note_words::OF_CHOICE;
-use note_words::OF_COMPONENT;
-use note_words::OF_MODEL;
-use note_words::OF_PIN;
-use note_words::OF_SELECTOR;
+use note_words::CHOICES_FROM;
+use note_words::COMPONENTS_FROM;
+use note_words::MODELS_FROM;
+use note_words::PINS_FROM;
 use note_words::RowNote;
+use note_words::SELECTORS_FROM;
 use note_words::SectionNote;
+use note_words::WORDS_PER_ROW;
+use note_words::WORDS_PER_SECTION;
 use note_words::put_row;
 use note_words::put_section;
 use note_words::put_wave;
@@ -34,7 +36,6 @@ use words::Word;
 fn count_name(l: Lengths, t: Tally, k: Kind) -> Told
     requires { ⌜ Within t ⌝ }
     ensures { λ r. ⌜ r ≡ counted l t k ⌝ }
-    ensures { λ r. ⌜ KeptBy t r ⌝ }
 {
     let counts = t.counts;
     let names = t.names;
@@ -54,22 +55,13 @@ fn count_name(l: Lengths, t: Tally, k: Kind) -> Told
 }
 
 // The note of a section whose name lies from a to e; start and row are the places of what is its own in other tables.
-fn section_note(
-    kind: usize,
-    p: Spot,
-    a: usize,
-    e: usize,
-    c: Counts,
-    start: usize,
-    row: usize,
-) -> SectionNote
+fn section_note(p: Spot, a: usize, e: usize, c: Counts, start: usize, row: usize) -> SectionNote
     requires { ⌜ c .components + c .selectors + c .models < 2 ^ 32 ⌝ }
-    requires { ⌜ (p .next .comment < 256 → SectionFits (sectionIn kind p a e c start row)) ⌝ }
-    ensures { λ r. ⌜ (r ≡ sectionIn kind p a e c start row) × SectionFits r ⌝ }
+    requires { ⌜ (p .next .comment < 256 → SectionFits (sectionIn p a e c start row)) ⌝ }
+    ensures { λ r. ⌜ (r ≡ sectionIn p a e c start row) × SectionFits r ⌝ }
 {
     let next = p.next;
     SectionNote {
-        kind: kind,
         at: p.start,
         name: a,
         name_end: e,
@@ -81,12 +73,11 @@ fn section_note(
 }
 
 // The note of a row with its name and the model it names.
-fn row_note(kind: usize, p: Spot, name: Word, model: Word) -> RowNote
-    requires { ⌜ RowFits (rowIn kind p name model) ⌝ }
-    ensures { λ r. ⌜ (r ≡ rowIn kind p name model) × RowFits r ⌝ }
+fn row_note(p: Spot, name: Word, model: Word) -> RowNote
+    requires { ⌜ RowFits (rowIn p name model) ⌝ }
+    ensures { λ r. ⌜ (r ≡ rowIn p name model) × RowFits r ⌝ }
 {
     RowNote {
-        kind: kind,
         at: p.start,
         name: name.start,
         name_end: name.end,
@@ -100,7 +91,7 @@ fn row_note(kind: usize, p: Spot, name: Word, model: Word) -> RowNote
 fn note_section(notes: &mut [u16], src: &[u8], l: Lengths, t: Tally, p: Spot, o: Section) -> Told
     requires { ⌜ Ready (now src) (now notes) t p ⌝ }
     ensures { λ r. ⌜ loggedAt l (now (src .entry)) (now (notes .entry)) t p (Opened o) ≡ toldIs (now (src .entry)) (now (notes .exit)) (p .line) r ⌝ }
-    ensures { λ r. ⌜ KeptBy t r ⌝ }
+    ensures { λ r. ⌜ KeptBy (now (notes .exit)) t r ⌝ }
 {
     let c = t.counts;
     let i = t.names;
@@ -108,18 +99,21 @@ fn note_section(notes: &mut [u16], src: &[u8], l: Lengths, t: Tally, p: Spot, o:
     let w = first_in(src, a, p.end);
     match o {
         Section::Component => {
-            let x = section_note(OF_COMPONENT, p, a, p.end, c, c.pins, 0);
-            put_section(notes, i, x);
+            let x = section_note(p, a, p.end, c, c.pins, 0);
+            let at = COMPONENTS_FROM + WORDS_PER_SECTION * c.components;
+            put_section(notes, i, at, x);
             count_name(l, t, Kind::OfComponent)
         }
         Section::Selector => {
-            let x = section_note(OF_SELECTOR, p, w.start, w.end, c, c.choices, 0);
-            put_section(notes, i, x);
+            let x = section_note(p, w.start, w.end, c, c.choices, 0);
+            let at = SELECTORS_FROM + WORDS_PER_SECTION * c.selectors;
+            put_section(notes, i, at, x);
             count_name(l, t, Kind::OfSelector)
         }
         Section::Model => {
-            let x = section_note(OF_MODEL, p, w.start, w.end, c, c.waveforms, c.rows);
-            put_section(notes, i, x);
+            let x = section_note(p, w.start, w.end, c, c.waveforms, c.rows);
+            let at = MODELS_FROM + WORDS_PER_SECTION * c.models;
+            put_section(notes, i, at, x);
             count_name(l, t, Kind::OfModel)
         }
     }
@@ -129,13 +123,14 @@ fn note_section(notes: &mut [u16], src: &[u8], l: Lengths, t: Tally, p: Spot, o:
 pub fn note_pin(notes: &mut [u16], src: &[u8], l: Lengths, t: Tally, p: Spot) -> Told
     requires { ⌜ Ready (now src) (now notes) t p ⌝ }
     ensures { λ r. ⌜ loggedAt l (now (src .entry)) (now (notes .entry)) t p PinRow ≡ toldIs (now (src .entry)) (now (notes .exit)) (p .line) r ⌝ }
-    ensures { λ r. ⌜ KeptBy t r ⌝ }
+    ensures { λ r. ⌜ KeptBy (now (notes .exit)) t r ⌝ }
 {
     let name = first_in(src, p.start, p.end);
     let signal = first_in(src, name.end, p.end);
     let model = first_in(src, signal.end, p.end);
-    let x = row_note(OF_PIN, p, name, model);
-    put_row(notes, t.names, x);
+    let x = row_note(p, name, model);
+    let at = PINS_FROM + WORDS_PER_ROW * t.counts.pins;
+    put_row(notes, t.names, at, x);
     count_name(l, t, Kind::OfPin)
 }
 
@@ -143,18 +138,19 @@ pub fn note_pin(notes: &mut [u16], src: &[u8], l: Lengths, t: Tally, p: Spot) ->
 fn note_choice(notes: &mut [u16], src: &[u8], l: Lengths, t: Tally, p: Spot) -> Told
     requires { ⌜ Ready (now src) (now notes) t p ⌝ }
     ensures { λ r. ⌜ loggedAt l (now (src .entry)) (now (notes .entry)) t p ChoiceRow ≡ toldIs (now (src .entry)) (now (notes .exit)) (p .line) r ⌝ }
-    ensures { λ r. ⌜ KeptBy t r ⌝ }
+    ensures { λ r. ⌜ KeptBy (now (notes .exit)) t r ⌝ }
 {
     let name = first_in(src, p.start, p.end);
-    let x = row_note(OF_CHOICE, p, name, name);
-    put_row(notes, t.names, x);
+    let x = row_note(p, name, name);
+    let at = CHOICES_FROM + WORDS_PER_ROW * t.counts.choices;
+    put_row(notes, t.names, at, x);
     count_name(l, t, Kind::OfChoice)
 }
 
 fn note_waveform(notes: &mut [u16], src: &[u8], l: Lengths, t: Tally, p: Spot) -> Told
     requires { ⌜ Ready (now src) (now notes) t p ⌝ }
     ensures { λ r. ⌜ loggedAt l (now (src .entry)) (now (notes .entry)) t p WaveformOpened ≡ toldIs (now (src .entry)) (now (notes .exit)) (p .line) r ⌝ }
-    ensures { λ r. ⌜ KeptBy t r ⌝ }
+    ensures { λ r. ⌜ KeptBy (now (notes .exit)) t r ⌝ }
 {
     let c = t.counts;
     let j = c.waveforms;
@@ -174,7 +170,7 @@ fn note_waveform(notes: &mut [u16], src: &[u8], l: Lengths, t: Tally, p: Spot) -
 fn count_row(src: &[u8], notes: &[u16], l: Lengths, t: Tally, p: Spot) -> Told
     requires { ⌜ Ready (now src) (now notes) t p ⌝ }
     ensures { λ r. ⌜ loggedAt l (now (src .entry)) (now (notes .entry)) t p TableRow ≡ toldIs (now (src .entry)) (now (notes .entry)) (p .line) r ⌝ }
-    ensures { λ r. ⌜ KeptBy t r ⌝ }
+    ensures { λ r. ⌜ KeptBy (now (notes .entry)) t r ⌝ }
 {
     let c = t.counts;
     if l.rows <= c.rows {
@@ -192,7 +188,7 @@ fn count_row(src: &[u8], notes: &[u16], l: Lengths, t: Tally, p: Spot) -> Told
 fn end_file(src: &[u8], notes: &[u16], l: Lengths, t: Tally, p: Spot, alone: bool) -> Told
     requires { ⌜ Ready (now src) (now notes) t p ⌝ }
     ensures { λ r. ⌜ loggedAt l (now (src .entry)) (now (notes .entry)) t p (Ended alone) ≡ toldIs (now (src .entry)) (now (notes .entry)) (p .line) r ⌝ }
-    ensures { λ r. ⌜ KeptBy t r ⌝ }
+    ensures { λ r. ⌜ KeptBy (now (notes .entry)) t r ⌝ }
 {
     let c = t.counts;
     if c.components == 0 {
@@ -208,7 +204,7 @@ fn end_file(src: &[u8], notes: &[u16], l: Lengths, t: Tally, p: Spot, alone: boo
 pub fn note_event(notes: &mut [u16], src: &[u8], l: Lengths, t: Tally, p: Spot, e: Event) -> Told
     requires { ⌜ Ready (now src) (now notes) t p ⌝ }
     ensures { λ r. ⌜ loggedAt l (now (src .entry)) (now (notes .entry)) t p e ≡ toldIs (now (src .entry)) (now (notes .exit)) (p .line) r ⌝ }
-    ensures { λ r. ⌜ KeptBy t r ⌝ }
+    ensures { λ r. ⌜ KeptBy (now (notes .exit)) t r ⌝ }
 {
     match e {
         Event::Quiet => Told::Going(t),

@@ -31,7 +31,7 @@ abbrev pub Counted : Log → Type 0
 Counted g = (k : Kind) → used (g .counts) k ≡ count (is k) (entries g)
 
 -- one more of a kind is one more of that kind alone
-one-more : (c : Counts) (x k : Kind) → used (oneMore c x) k ≡ cond (eqb (place k) (place x)) (used c k + 1) (used c k)
+pub one-more : (c : Counts) (x k : Kind) → used (oneMore c x) k ≡ cond (eqb (place k) (place x)) (used c k + 1) (used c k)
 one-more c OfComponent OfComponent = refl
 one-more c OfComponent OfPin = refl
 one-more c OfComponent OfSelector = refl

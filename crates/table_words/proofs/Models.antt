@@ -4,7 +4,7 @@ use mathlib.Core.Path.{_≡_, refl, sym, ap, _∙_, subst}
 use mathlib.Core.List.{List, _++_, flatMap}
 use native.Mathlib.Omega.{arith}
 use native.Mathlib.Numerals.{add-one}
-use lib.ListN.{length, getD, length-append}
+use lib.ListN.{length, length-append}
 use borrow.Rule.Slice.PartMut.{putMid, midOf}
 use Rattle.laws.proofs.Tests.{by-order}
 use Rattle.cut_lines.specs.Cursors.{rest}
@@ -13,7 +13,7 @@ use Rattle.rules.specs.Reading.{TableIs}
 use Rattle.layout.specs.Laid.{rowsOf, waveformsLaid}
 use Rattle.records.specs.Stored.{stored, over}
 use Rattle.records.specs.declared.Kind.the-variants.{OfModel}
-use Rattle.note_words.specs.Store.{listFrom, sectionAt, noteOf}
+use Rattle.note_words.specs.Store.{liesAt, sectionAt}
 use Rattle.layout_by_notes.specs.Lies.{waveformsNoted, rowsNoted}
 use Rattle.table_rows.specs.Rows.{Lies}
 use Rattle.table_rows.proofs.Stores.{over-none, over-length, over-rest, stored-append}
@@ -85,18 +85,14 @@ module _ (s ns : List ℕ) where
 
 -- ---- a model behind whose keyword line a cursor stands
 
-module _ (s ns : List ℕ) (i n : ℕ) (e : n ≡ getD ns (listFrom OfModel + i) 0) {c : Cursor} (h : StandsBehind s ns n c) where
-  pub waveforms-noted : waveformsBehind (sectionAt ns n .row) (rest s c) ≡ waveformWordsAt s ns i
+module _ (s ns : List ℕ) (i : ℕ) {c : Cursor} (h : StandsBehind s ns (liesAt OfModel i) c) where
+  pub waveforms-noted : waveformsBehind (sectionAt ns (liesAt OfModel i) .row) (rest s c) ≡ waveformWordsAt s ns i
   unfolding waveformsNoted
-  waveforms-noted =
-      ap (λ (ts : List TableIs). flatMap waveformWords (waveformsLaid ts (sectionAt ns n .row))) (tables-noted s ns n h)
-      ∙ ap (λ (k : ℕ). flatMap waveformWords (waveformsNoted (noteOf s ns k OfModel))) e
+  waveforms-noted = ap (λ (ts : List TableIs). flatMap waveformWords (waveformsLaid ts (sectionAt ns (liesAt OfModel i) .row))) (tables-noted s ns (liesAt OfModel i) h)
 
   pub rows-noted : rowsBehind (rest s c) ≡ rowWordsAt s ns i
   unfolding rowsNoted
-  rows-noted =
-      ap (λ (ts : List TableIs). stored (flatMap rowsOf ts)) (tables-noted s ns n h)
-      ∙ ap (λ (k : ℕ). stored (rowsNoted (noteOf s ns k OfModel))) e
+  rows-noted = ap (λ (ts : List TableIs). stored (flatMap rowsOf ts)) (tables-noted s ns (liesAt OfModel i) h)
 
 -- ---- the rows of the first models
 

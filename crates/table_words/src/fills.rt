@@ -7,11 +7,10 @@ ghost use Rattle.from_notes.specs.Made.{componentAt, pinAt, selectorAt, choiceA
 ghost use Rattle.record_words.specs.Records.{componentWords, pinWords, selectorWords, choiceWords, componentSize, pinSize, selectorSize, choiceSize, modelSize};
 ghost use Rattle.table_words.specs.Packed.{wordsTo, modelWordsAt, waveformWordsAt, rowWordsAt};
 use from_notes::places::name_noted;
-use from_notes::places::name_word;
+use from_notes::places::place_noted;
 use from_notes::places::section_noted;
-use from_notes::places::word_behind;
+use from_notes::places::section_word;
 use note_words::MODELS_FROM;
-use note_words::SECTION_PLACE;
 use note_words::SECTION_ROW;
 use note_words::SECTION_START;
 use record_words::CHOICE_WORDS;
@@ -95,18 +94,17 @@ fn fill_model(
     ensures { λ _. ⌜ now (rows .exit) ≡ over (now (rows .entry)) (rowWordsAt (now (src .entry)) (now (notes .entry)) i) ⌝ }
     ensures { λ r. ⌜ r ≡ record { waveforms = length (waveformWordsAt (now (src .entry)) (now (notes .entry)) i); rows = length (rowWordsAt (now (src .entry)) (now (notes .entry)) i) } ⌝ }
 {
-    let n = word_behind(notes, MODELS_FROM, i);
-    let section = name_word(notes, n, SECTION_PLACE);
-    let row = name_word(notes, n, SECTION_ROW);
-    let start = name_word(notes, n, SECTION_START);
-    let c = section_noted(src, notes, n);
+    let section = place_noted(notes, MODELS_FROM, i);
+    let row = section_word(notes, MODELS_FROM, i, SECTION_ROW);
+    let start = section_word(notes, MODELS_FROM, i, SECTION_START);
+    let c = section_noted(src, notes, MODELS_FROM, i);
     section_words::fill_model(
         model,
         waveforms,
         rows,
         src,
         c,
-        name_noted(src, notes, n),
+        name_noted(src, notes, MODELS_FROM, i),
         section,
         row,
         start,

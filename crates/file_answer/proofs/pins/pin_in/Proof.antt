@@ -58,7 +58,7 @@ returns-4 c =
       unbracketed = sym (c .before .before .before .before .before .before .before .before .before .before .before .before .before .bracketed .ensures) ∙ c .before .before .before .before .before .before .before .before .before .before .before .before .if1 .left;
       pin = sym (c .before .before .before .before .before .before .before .before .before .before .before .pin-fault .ensures) ∙ c .before .before .before .before .before .before .before .before .before .before .if2 .left;
       noted = noted .ensures .0 ∙ ap (toldIs (now (a .src)) (noted .last .0) (a .p .line)) (c .before .more .given .1);
-      kept = subst (KeptBy (a .t)) (c .before .more .given .1) (noted .ensures .1);
+      kept = subst (KeptBy (noted .last .0) (a .t)) (c .before .more .given .1) (noted .ensures .1);
       behind = refl;
     }
 

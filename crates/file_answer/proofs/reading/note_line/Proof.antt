@@ -1,5 +1,5 @@
 -- A line that adds nothing leaves all as it is; of any other the event is noted, and a fault has a number.
-use mathlib.Core.Path.{refl, sym, ap, _∙_, subst}
+use mathlib.Core.Path.{refl, ap, _∙_, subst}
 use borrow.Author.Needs.{needs}
 use denote.Ref.{now}
 use Rattle.noted_events.specs.Events.{toldIs, KeptBy}
@@ -32,7 +32,7 @@ returns-2 : tie.Need-returns-2
 returns-2 c =
     let a = c .before .before .before .before .before .before .before .before .before .before .args in
     let n = c .before .before .before .before .before .note-event in
-    (n .ensures .0 ∙ ap (toldIs (now (a .src)) (n .last .0) (a .p .line)) (c .before .more .given .1), subst (KeptBy (a .t)) (c .before .more .given .1) (n .ensures .1))
+    (n .ensures .0 ∙ ap (toldIs (now (a .src)) (n .last .0) (a .p .line)) (c .before .more .given .1), subst (KeptBy (n .last .0) (a .t)) (c .before .more .given .1) (n .ensures .1))
 
 same-length-2 : tie.Need-same-length-2
 same-length-2 c = search needs
@@ -43,7 +43,7 @@ returns-3 c =
     let n = c .before .before .before .before .before .note-event in
     let h = n .ensures .0 ∙ ap (toldIs (now (a .src)) (n .last .0) (a .p .line)) (c .before .number .given .1) in
     let e = full-told (a .l) (now (a .src)) (now (a .notes)) (n .last .0) (a .t) (a .p) (a .e) _ _ h in
-    (h ∙ ap (toldIs (now (a .src)) (n .last .0) (a .p .line)) e, subst (KeptBy (a .t)) (c .before .number .given .1 ∙ e) (n .ensures .1))
+    (h ∙ ap (toldIs (now (a .src)) (n .last .0) (a .p .line)) e, subst (KeptBy (n .last .0) (a .t)) (c .before .number .given .1 ∙ e) (n .ensures .1))
 
 pub note-line-spec : {M : Type 1} → statement M
 note-line-spec =

@@ -79,7 +79,7 @@ returns c =
     let i = c .before .before .before .before .before .before .before .before .before .before .before .before .before .before .before .before .before .before .loop in
     let n = c .before .before .before .before .before .before .note-line in
     let h = subst (NextIs s (i .cursor)) (c .before .before .before .before .before .before .before .before .before .before .before .before .before .before .before .line .given .1) (c .before .before .before .before .before .before .before .before .before .before .before .before .before .before .before .before .before .next-text .ensures) in
-    (first-run (a .l) s (now (a .notes)) _ _ (c .before .before .before .before .before .before .before .before .before .before .before .before .before .before .before .before .before .before .before .before .first .ensures) (c .before .before .before .before .before .before .before .before .before .before .before .before .before .before .before .before .before .before .before .nothing .ensures) ∙ i .inv .2 ∙ (rw (c .broken-at .ensures) (noted-full (a .l) s (i .notes) (n .last .0) (i .stage) (i .cursor) (i .tally) _ (c .before .before .before .before .before .before .before .before .spot-at .result) (c .before .before .before .before .before .before .before .before .spot-at .ensures) h (n .result) _ (n .ensures .0) _ (sym (c .before .before .before .before .before .before .before .before .before .before .before .before .on-plain .ensures) ∙ c .before .before .before .before .before .before .before .before .before .before .u .given .1) (c .before .if1 .taken))), (rw (c .broken-at .ensures) (noted-names (i .tally) (n .result) (n .ensures .1) (c .before .if1 .taken)), rw (c .broken-at .ensures) tt))
+    (first-run (a .l) s (now (a .notes)) _ _ (c .before .before .before .before .before .before .before .before .before .before .before .before .before .before .before .before .before .before .before .before .first .ensures) (c .before .before .before .before .before .before .before .before .before .before .before .before .before .before .before .before .before .before .before .nothing .ensures) ∙ i .inv .2 ∙ (rw (c .broken-at .ensures) (noted-full (a .l) s (i .notes) (n .last .0) (i .stage) (i .cursor) (i .tally) _ (c .before .before .before .before .before .before .before .before .spot-at .result) (c .before .before .before .before .before .before .before .before .spot-at .ensures) h (n .result) _ (n .ensures .0) _ (sym (c .before .before .before .before .before .before .before .before .before .before .before .before .on-plain .ensures) ∙ c .before .before .before .before .before .before .before .before .before .before .u .given .1) (c .before .if1 .taken))), (rw (c .broken-at .ensures) (noted-names (n .last .0) (i .tally) (n .result) (n .ensures .1) (c .before .if1 .taken)), rw (c .broken-at .ensures) tt))
 
 comes-in-numbers-requires : tie.Need-comes-in-numbers-requires Inv-loop μ-loop
 comes-in-numbers-requires c κs = tt
@@ -197,7 +197,7 @@ returns-4 c =
     let s = now (a .src) in
     let i = c .before .before .before .before .before .loop in
     let h = subst (NextIs s (i .cursor)) (c .before .before .line3 .given .1) (c .before .before .before .before .next-text .ensures) in
-    (first-run (a .l) s (now (a .notes)) _ _ (c .before .before .before .before .before .before .before .first .ensures) (c .before .before .before .before .before .before .nothing .ensures) ∙ i .inv .2 ∙ run-out (a .l) s (i .notes) (standing (i .stage) (i .cursor) (i .tally)) _ h ∙ c .out-of-lines .ensures .0 s (i .notes), (rw (c .out-of-lines .ensures .1 .0) (omega (arith, names-small (i .tally) (i .inv .0 .within))), c .out-of-lines .ensures .1 .1 (i .inv .0 .within)))
+    (first-run (a .l) s (now (a .notes)) _ _ (c .before .before .before .before .before .before .before .first .ensures) (c .before .before .before .before .before .before .nothing .ensures) ∙ i .inv .2 ∙ run-out (a .l) s (i .notes) (standing (i .stage) (i .cursor) (i .tally)) _ h ∙ c .out-of-lines .ensures .0 s (i .notes), (rw (c .out-of-lines .ensures .1 .0) (omega (arith, names-small (i .tally) (i .inv .0 .within))), c .out-of-lines .ensures .1 .1 (i .notes) (i .inv .0 .within, i .inv .0 .filed)))
 
 pub scan-spec : {M : Type 1} → statement M
 scan-spec =

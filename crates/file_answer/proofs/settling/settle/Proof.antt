@@ -1,6 +1,5 @@
 -- By whether a name is used twice, and how far the lines are read.
 use mathlib.Core.Path.{sym, _∙_}
-use native.Mathlib.Omega.{arith}
 use borrow.Author.Needs.{needs}
 use denote.Ref.{now}
 use Rattle.name_checks.proofs.ClashLaws.{found-clash, no-clash}
@@ -33,7 +32,7 @@ enum-told-2 c = search needs
 last-checks-requires : tie.Need-last-checks-requires
 last-checks-requires c κs =
     let a = c .before .before .before .before .before .before .before .before .before .before .before .before .before .before .args in
-    all-read (a .l) (now (a .src)) (c .before .before .before .before .before .before .before .before .before .before .scan .last .0) (c .before .before .before .before .before .before .before .before .before .before .scan .result) (c .before .before .before .before .before .before .before .before .before .before .before .before .before .before .pre .0) (c .before .before .before .before .before .before .before .before .before .before .scan .ensures .0) (no-clash _ (sym (c .before .before .before .enum-told .given .1) ∙ c .before .before .before .before .before .first-clash .ensures)) (c .before .enum-told2 .given .1) (c .before .before .before .before .before .before .before .before .before .before .scan .ensures .1 .1) (omega (arith, c .before .before .before .before .before .before .before .before .before .notes .given, c .before .before .before .before .before .before .before .before .before .before .before .before .before .before .pre .1))
+    all-read (a .l) (now (a .src)) (c .before .before .before .before .before .before .before .before .before .before .scan .last .0) (c .before .before .before .before .before .before .before .before .before .before .scan .result) (c .before .before .before .before .before .before .before .before .before .before .before .before .before .before .pre .0) (c .before .before .before .before .before .before .before .before .before .before .scan .ensures .0) (no-clash _ (sym (c .before .before .before .enum-told .given .1) ∙ c .before .before .before .before .before .first-clash .ensures)) (c .before .enum-told2 .given .1) (c .before .before .before .before .before .before .before .before .before .before .scan .ensures .1 .1)
 
 enum-known-ending : tie.Need-enum-known-ending
 enum-known-ending c = search needs
@@ -54,7 +53,7 @@ same-length-2 : tie.Need-same-length-2
 same-length-2 c = search needs
 
 returns-2 : tie.Need-returns-2
-returns-2 c = c .before .before .last-checks .ensures
+returns-2 c = c .last-checks .ensures
 
 same-length-3 : tie.Need-same-length-3
 same-length-3 c = search needs

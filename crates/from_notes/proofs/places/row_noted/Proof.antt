@@ -1,26 +1,24 @@
 -- By the two words.
-use Prim.Native.Nat.{_+_, _*_}
 use mathlib.Core.Path.{refl}
-use native.Mathlib.Omega.{arith}
-use Rattle.note_words.specs.Store.{wordsPerName}
+use borrow.Author.Needs.{needs}
 use Rattle.from_notes.proofs.places.row_noted.Statement.{statement}
 use Rattle.from_notes.proofs.places.row_noted.Tie as tie
 
-name-word-requires : tie.Need-name-word-requires
-name-word-requires c κs = tt
+row-word-requires : tie.Need-row-word-requires
+row-word-requires c κs = search needs
 
-name-word-requires-2 : tie.Need-name-word-requires-2
-name-word-requires-2 c κs = tt
+row-word-requires-2 : tie.Need-row-word-requires-2
+row-word-requires-2 c κs = search needs
 
 add-part-of : tie.Need-add-part-of
-add-part-of c = omega (arith, c .before .name-word .ensures, c .before .before .shared-slice-known2 .given (wordsPerName * c .before .before .before .before .args .n + 0))
+add-part-of c = search needs
 
 part-of-requires : tie.Need-part-of-requires
-part-of-requires c κs = tt
+part-of-requires c κs = search needs
 
 returns : tie.Need-returns
-returns c = rw (c .part-of .ensures, c .before .name-word2 .ensures, c .before .before .name-word .ensures) refl
+returns c = rw (c .part-of .ensures, c .before .row-word2 .ensures .0, c .before .before .row-word .ensures .0) refl
 
 pub row-noted-spec : {M : Type 1} → statement M
 row-noted-spec =
-    tie.close (tie.spec name-word-requires name-word-requires-2 add-part-of part-of-requires returns)
+    tie.close (tie.spec row-word-requires row-word-requires-2 add-part-of part-of-requires returns)

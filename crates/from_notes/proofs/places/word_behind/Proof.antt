@@ -8,13 +8,13 @@ use Rattle.from_notes.proofs.places.word_behind.Statement.{statement}
 use Rattle.from_notes.proofs.places.word_behind.Tie as tie
 
 returns : tie.Need-returns
-returns c = word-past (now (c .before .before .args .notes)) (c .before .before .args .from + c .before .before .args .i) (omega arith)
+returns c = (word-past (now (c .before .before .args .notes)) (c .before .before .args .from + c .before .before .args .i) (omega arith), omega arith)
 
 sub-if2 : tie.Need-sub-if2
 sub-if2 c = search needs
 
 returns-2 : tie.Need-returns-2
-returns-2 c = word-past (now (c .before .before .before .args .notes)) (c .before .before .before .args .from + c .before .before .before .args .i) (omega arith)
+returns-2 c = (word-past (now (c .before .before .before .args .notes)) (c .before .before .before .args .from + c .before .before .before .args .i) (omega arith), omega arith)
 
 add-word : tie.Need-add-word
 add-word c = search needs

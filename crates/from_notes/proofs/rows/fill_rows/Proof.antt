@@ -17,37 +17,34 @@ abbrev μ-loop : tie.MeasureT-loop
 loop-holds : tie.Need-loop-holds Inv-loop μ-loop
 loop-holds c = (omega arith, written-start _ _ _)
 
-word-behind-requires : tie.Need-word-behind-requires Inv-loop μ-loop
-word-behind-requires c κs = tt
-
 section-noted-requires : tie.Need-section-noted-requires Inv-loop μ-loop
-section-noted-requires c κs = tt
+section-noted-requires c κs = search needs
 
 mul-fill-model : tie.Need-mul-fill-model Inv-loop μ-loop
 mul-fill-model c =
-    let f = written-fit (c .before .before .before .loop .inv .1) (c .before .before .before .before .before .before .before .args .n) (c .before .before .before .before .before .before .before .pre) (c .before .before .loop-test .taken) (c .before .word-behind .ensures) (c .section-noted .ensures) in
-    omega (arith, f, written-length (c .before .before .before .loop .inv .1) (c .before .before .before .before .before .before .before .args .n) (c .before .before .before .before .before .before .before .pre) (c .before .before .before .loop .inv .0), c .before .before .before .before .before .before .before .good)
+    let f = written-fit (c .before .before .loop .inv .1) (c .before .before .before .before .before .before .args .n) (c .before .before .before .before .before .before .pre) (c .before .loop-test .taken) (c .section-noted .ensures) in
+    omega (arith, f, written-length (c .before .before .loop .inv .1) (c .before .before .before .before .before .before .args .n) (c .before .before .before .before .before .before .pre) (c .before .before .loop .inv .0), c .before .before .before .before .before .before .good)
 
 sub-fill-model : tie.Need-sub-fill-model Inv-loop μ-loop
 sub-fill-model c =
-    let f = written-fit (c .before .before .before .loop .inv .1) (c .before .before .before .before .before .before .before .args .n) (c .before .before .before .before .before .before .before .pre) (c .before .before .loop-test .taken) (c .before .word-behind .ensures) (c .section-noted .ensures) in
+    let f = written-fit (c .before .before .loop .inv .1) (c .before .before .before .before .before .before .args .n) (c .before .before .before .before .before .before .pre) (c .before .loop-test .taken) (c .section-noted .ensures) in
     omega (arith, f)
 
 part-fill-model-start : tie.Need-part-fill-model-start Inv-loop μ-loop
 part-fill-model-start c =
-    let f = written-fit (c .before .before .before .loop .inv .1) (c .before .before .before .before .before .before .before .args .n) (c .before .before .before .before .before .before .before .pre) (c .before .before .loop-test .taken) (c .before .word-behind .ensures) (c .section-noted .ensures) in
+    let f = written-fit (c .before .before .loop .inv .1) (c .before .before .before .before .before .before .args .n) (c .before .before .before .before .before .before .pre) (c .before .loop-test .taken) (c .section-noted .ensures) in
     omega (arith, f)
 
 part-fill-model-end : tie.Need-part-fill-model-end Inv-loop μ-loop
 part-fill-model-end c = search needs
 
 fill-model-requires : tie.Need-fill-model-requires Inv-loop μ-loop
-fill-model-requires c κs = (c .before .section-noted .ensures .placed, rest-room (c .before .before .before .before .loop .rows) (c .before .before .before .before .loop .used) _ (written-fit (c .before .before .before .before .loop .inv .1) (c .before .before .before .before .before .before .before .before .args .n) (c .before .before .before .before .before .before .before .before .pre) (c .before .before .before .loop-test .taken) (c .before .before .word-behind .ensures) (c .before .section-noted .ensures)))
+fill-model-requires c κs = (c .before .section-noted .ensures .placed, rest-room (c .before .before .before .loop .rows) (c .before .before .before .loop .used) _ (written-fit (c .before .before .before .loop .inv .1) (c .before .before .before .before .before .before .before .args .n) (c .before .before .before .before .before .before .before .pre) (c .before .before .loop-test .taken) (c .before .section-noted .ensures)))
 
 add-used : tie.Need-add-used Inv-loop μ-loop
 add-used c =
-    let f = written-fit (c .before .before .before .before .before .before .before .loop .inv .1) (c .before .before .before .before .before .before .before .before .before .before .before .args .n) (c .before .before .before .before .before .before .before .before .before .before .before .pre) (c .before .before .before .before .before .before .loop-test .taken) (c .before .before .before .before .before .word-behind .ensures) (c .before .before .before .before .section-noted .ensures) in
-    omega (arith, f, c .before .before .fill-model .ensures .0, written-length (c .before .before .before .before .before .before .before .loop .inv .1) (c .before .before .before .before .before .before .before .before .before .before .before .args .n) (c .before .before .before .before .before .before .before .before .before .before .before .pre) (c .before .before .before .before .before .before .before .loop .inv .0), c .before .before .before .before .before .before .before .before .before .before .before .good)
+    let f = written-fit (c .before .before .before .before .before .before .loop .inv .1) (c .before .before .before .before .before .before .before .before .before .before .args .n) (c .before .before .before .before .before .before .before .before .before .before .pre) (c .before .before .before .before .before .loop-test .taken) (c .before .before .before .before .section-noted .ensures) in
+    omega (arith, f, c .before .before .fill-model .ensures .0, written-length (c .before .before .before .before .before .before .loop .inv .1) (c .before .before .before .before .before .before .before .before .before .before .args .n) (c .before .before .before .before .before .before .before .before .before .before .pre) (c .before .before .before .before .before .before .loop .inv .0), c .before .before .before .before .before .before .before .before .before .before .good)
 
 add-i : tie.Need-add-i Inv-loop μ-loop
 add-i c = search needs
@@ -56,7 +53,7 @@ loop-less : tie.Need-loop-less Inv-loop μ-loop
 loop-less c = omega arith
 
 loop-again : tie.Need-loop-again Inv-loop μ-loop
-loop-again c = (omega (arith, c .before .before .before .before .before .before .loop-test .taken), written-model (c .before .before .before .before .before .before .before .loop .inv .1) (c .before .before .before .before .before .before .before .before .before .before .before .args .n) (c .before .before .before .before .before .before .before .before .before .before .before .pre) (c .before .before .before .before .before .before .loop-test .taken) (c .before .before .before .before .before .word-behind .ensures) (c .before .before .before .before .section-noted .ensures) (c .before .before .fill-model .ensures .0) (c .before .before .fill-model .ensures .1))
+loop-again c = (omega (arith, c .before .before .before .before .before .loop-test .taken), written-model (c .before .before .before .before .before .before .loop .inv .1) (c .before .before .before .before .before .before .before .before .before .before .args .n) (c .before .before .before .before .before .before .before .before .before .before .pre) (c .before .before .before .before .before .loop-test .taken) (c .before .before .before .before .section-noted .ensures) (c .before .before .fill-model .ensures .0) (c .before .before .fill-model .ensures .1))
 
 same-length : tie.Need-same-length Inv-loop μ-loop
 same-length c = written-length (c .before .loop .inv .1) (c .before .before .before .before .before .args .n) (c .before .before .before .before .before .pre) (c .before .loop .inv .0)
@@ -73,7 +70,6 @@ fill-rows-spec =
     Inv-loop
     μ-loop
     loop-holds
-    word-behind-requires
     section-noted-requires
     mul-fill-model
     sub-fill-model

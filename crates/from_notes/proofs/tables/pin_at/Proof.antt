@@ -2,21 +2,19 @@
 use mathlib.Core.Path.{refl}
 use Rattle.layout_by_notes.specs.Lies.{pinNoted}
 use Rattle.from_notes.specs.Made.{pinAt}
+use borrow.Author.Needs.{needs}
 use Rattle.from_notes.proofs.tables.pin_at.Statement.{statement}
 use Rattle.from_notes.proofs.tables.pin_at.Tie as tie
 
-word-behind-requires : tie.Need-word-behind-requires
-word-behind-requires c κs = tt
-
 row-noted-requires : tie.Need-row-noted-requires
-row-noted-requires c κs = tt
+row-noted-requires c κs = search needs
 
 pin-of-requires : tie.Need-pin-of-requires
-pin-of-requires c κs = tt
+pin-of-requires c κs = search needs
 
 returns : tie.Need-returns
 unfolding pinAt pinNoted
-returns c = rw (c .pin-of .ensures, c .before .row-noted .ensures, c .before .before .word-behind .ensures) refl
+returns c = rw (c .pin-of .ensures, c .before .row-noted .ensures) refl
 
 pub pin-at-spec : {M : Type 1} → statement M
-pin-at-spec = tie.close (tie.spec word-behind-requires row-noted-requires pin-of-requires returns)
+pin-at-spec = tie.close (tie.spec row-noted-requires pin-of-requires returns)

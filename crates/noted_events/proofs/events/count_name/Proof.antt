@@ -3,7 +3,7 @@ use Prim.Native.Nat.{_≤_, _<_}
 use native.Mathlib.Omega.{arith}
 use Rattle.rules.specs.Whole.{bound}
 use Rattle.notes.specs.Noted.{used}
-use Rattle.noted_events.proofs.EventLaws.{counted-full, counted-going, names-small, used-small, kept-more}
+use Rattle.noted_events.proofs.EventLaws.{counted-full, counted-going, names-small, used-most, most-small}
 use Rattle.noted_events.proofs.events.count_name.Statement.{statement}
 use Rattle.noted_events.proofs.events.count_name.Tie as tie
 
@@ -20,19 +20,21 @@ returns : tie.Need-returns
 returns c =
     let a = c .before .before .before .before .args in
     let h : bound (a .l) (a .k) ≤ used (a .t .counts) (a .k) = omega (arith, c .if1 .taken, c .before .before .bound-of .ensures, c .before .used-of .ensures) in
-    (counted-full (a .l) (a .t) (a .k) h, omega (arith, names-small (a .t) (c .before .before .before .before .pre)))
+    counted-full (a .l) (a .t) (a .k) h
 
 add-t6 : tie.Need-add-t6
 add-t6 c = omega (arith, names-small (c .before .before .before .before .args .t) (c .before .before .before .before .pre))
 
 one-more-requires : tie.Need-one-more-requires
-one-more-requires c κs = omega (arith, used-small (c .before .before .before .before .args .t) (c .before .before .before .before .args .k) (c .before .before .before .before .pre))
+one-more-requires c κs =
+    let a = c .before .before .before .before .args in
+    omega (arith, used-most (a .t) (c .before .before .before .before .pre) (a .k), most-small (a .k))
 
 returns-2 : tie.Need-returns-2
 returns-2 c =
     let a = c .before .before .before .before .before .args in
     let h : used (a .t .counts) (a .k) < bound (a .l) (a .k) = omega (arith, c .before .if1 .left, c .before .before .before .bound-of .ensures, c .before .before .used-of .ensures) in
-    (rw (c .one-more .ensures) (counted-going (a .l) (a .t) (a .k) h), rw (c .one-more .ensures) (kept-more (a .l) (a .t) (a .k) (c .before .before .before .before .before .pre) h))
+    rw (c .one-more .ensures) (counted-going (a .l) (a .t) (a .k) h)
 
 pub count-name-spec : {M : Type 1} → statement M
 count-name-spec =

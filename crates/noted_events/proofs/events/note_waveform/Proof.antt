@@ -33,7 +33,8 @@ returns-2 c =
     let a = c .before .before .before .before .before .before .before .before .before .before .args in
     let r = c .before .before .before .before .before .before .before .before .before .before .pre in
     let h : a .t .counts .waveforms < min mostWaveforms (a .l .waveforms) = omega (arith, c .before .before .before .before .before .if1 .left, c .before .before .before .before .before .before .waveform-bound .ensures) in
-    (rw (c .before .before .put-wave .ensures) (waveform-going (now (a .src)) (now (a .notes)) (a .l) (a .t) (a .p) r h), kept-waveform (now (a .src)) (now (a .notes)) (a .l) (a .t) (a .p) r h)
+    rw (c .before .before .put-wave .ensures)
+    (waveform-going (now (a .src)) (now (a .notes)) (a .l) (a .t) (a .p) r h, kept-waveform (now (a .src)) (now (a .notes)) (a .l) (a .t) (a .p) r h)
 
 pub note-waveform-spec : {M : Type 1} → statement M
 note-waveform-spec =

@@ -6,14 +6,14 @@ use borrow.Author.Needs.{needs}
 use Rattle.noted_events.proofs.events.section_note.Statement.{statement}
 use Rattle.noted_events.proofs.events.section_note.Tie as tie
 
-cast-t9 : tie.Need-cast-t9
-cast-t9 c = search needs
+cast-t8 : tie.Need-cast-t8
+cast-t8 c = search needs
+
+add-t9 : tie.Need-add-t9
+add-t9 c = search needs
 
 add-t10 : tie.Need-add-t10
 add-t10 c = search needs
-
-add-t11 : tie.Need-add-t11
-add-t11 c = search needs
 
 returns : tie.Need-returns
 returns c =
@@ -21,4 +21,4 @@ returns c =
     (refl, c .before .before .before .before .pre .1 byte)
 
 pub section-note-spec : {M : Type 1} → statement M
-section-note-spec = tie.close (tie.spec cast-t9 add-t10 add-t11 returns)
+section-note-spec = tie.close (tie.spec cast-t8 add-t9 add-t10 returns)

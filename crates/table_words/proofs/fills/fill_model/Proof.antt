@@ -1,56 +1,50 @@
 -- What stands behind the noted keyword line is what is noted: `model-noted`, `waveforms-noted`, `rows-noted`; a row's place is a word.
-use Prim.Native.Nat.{ℕ, _+_, _*_}
-use mathlib.Core.Path.{_≡_, sym, ap, _∙_}
+use Prim.Native.Nat.{ℕ}
+use mathlib.Core.Path.{_≡_, ap, _∙_}
 use native.Mathlib.Omega.{arith}
 use lib.ListN.{length}
-use borrow.Author.Needs.{needs}
 use denote.Ref.{now}
 use Rattle.cut_lines.specs.Cursors.{rest}
 use Rattle.records.specs.Stored.{over}
+use Rattle.records.specs.declared.Kind.the-variants.{OfModel}
 use Rattle.records.specs.declared.Model.{Model}
-use Rattle.note_words.specs.Store.{wordsPerName}
+use Rattle.note_words.specs.Store.{liesAt}
 use Rattle.record_words.specs.Records.{modelWords}
 use Rattle.from_notes.specs.Made.{modelAt}
 use Rattle.from_notes.proofs.Sections.{model-noted}
 use Rattle.section_words.specs.Models.{modelBehind, waveformsBehind}
 use Rattle.table_words.specs.Packed.{waveformWordsAt}
 use Rattle.table_words.proofs.Models.{waveforms-noted, rows-noted}
+use borrow.Author.Needs.{needs}
 use Rattle.table_words.proofs.fills.fill_model.Statement.{statement}
 use Rattle.table_words.proofs.fills.fill_model.Tie as tie
-use Rattle.table_words.proofs.fills.fill_model.Reads as reads
-use Rattle.table_words.proofs.fills.fill_model.Lts as lts
-use Rattle.from_notes.proofs.places.name_noted.Reads as name-noted-reads
-use Rattle.from_notes.proofs.places.name_word.Reads as name-word-reads
-use Rattle.from_notes.proofs.places.section_noted.Reads as section-noted-reads
-use Rattle.from_notes.proofs.places.word_behind.Reads as word-behind-reads
-use Rattle.section_words.proofs.fill_model.Reads as fill-model-reads
 
-word-behind-requires : tie.Need-word-behind-requires
-word-behind-requires c κs = tt
+place-noted-requires : tie.Need-place-noted-requires
+place-noted-requires c κs = search needs
 
-name-word-requires : tie.Need-name-word-requires
-name-word-requires c κs = tt
+section-word-requires : tie.Need-section-word-requires
+section-word-requires c κs = search needs
 
-name-word-requires-2 : tie.Need-name-word-requires-2
-name-word-requires-2 c κs = tt
-
-name-word-requires-3 : tie.Need-name-word-requires-3
-name-word-requires-3 c κs = tt
+section-word-requires-2 : tie.Need-section-word-requires-2
+section-word-requires-2 c κs = search needs
 
 section-noted-requires : tie.Need-section-noted-requires
-section-noted-requires c κs = tt
+section-noted-requires c κs = search needs
 
 name-noted-requires : tie.Need-name-noted-requires
-name-noted-requires c κs = tt
+name-noted-requires c κs = search needs
 
 fill-model-requires : tie.Need-fill-model-requires
 fill-model-requires c κs =
-    let a = c .before .before .before .before .before .before .before .before .before .before .before .before .before .before .args in
+    let f = c .before .before .before .before .before .before .before .before .before .before .before .before .before in
+    let s = now (f .args .src) in
+    let ns = now (f .args .notes) in
     let h = c .before .before .before .before .section-noted .ensures in
-    let w : waveformsBehind (c .before .before .before .before .before .before .name-word2 .result) (rest (now (a .src)) (c .before .before .before .before .section-noted .result)) ≡ waveformWordsAt (now (a .src)) (now (a .notes)) (a .i) =
-    ap (λ (r : ℕ). waveformsBehind r (rest (now (a .src)) (c .before .before .before .before .section-noted .result))) (c .before .before .before .before .before .before .name-word2 .ensures) ∙ waveforms-noted (now (a .src)) (now (a .notes)) (a .i) (c .before .before .before .before .before .before .before .before .word-behind .result) (c .before .before .before .before .before .before .before .before .word-behind .ensures) h
+    let row = c .before .before .before .before .before .before .section-word in
+    let w : waveformsBehind (row .result) (rest s (c .before .before .before .before .section-noted .result)) ≡ waveformWordsAt s ns (f .args .i) =
+    ap (λ (r : ℕ). waveformsBehind r (rest s (c .before .before .before .before .section-noted .result))) (row .ensures .0) ∙ waveforms-noted s ns (f .args .i) h
     in
-    ((h .placed, omega (arith, c .before .before .before .before .before .before .name-word2 .ensures, c .before .before .before .before .before .before .before .before .before .shared-slice-known2 .given (wordsPerName * c .before .before .before .before .before .before .before .before .word-behind .result + 4))), (c .before .before .before .before .before .before .before .before .before .before .before .before .before .before .pre .0, (rw w (c .before .before .before .before .before .before .before .before .before .before .before .before .before .before .pre .1 .0), rw (rows-noted (now (a .src)) (now (a .notes)) (a .i) (c .before .before .before .before .before .before .before .before .word-behind .result) (c .before .before .before .before .before .before .before .before .word-behind .ensures) h) (c .before .before .before .before .before .before .before .before .before .before .before .before .before .before .pre .1 .1))))
+    ((h .placed, omega (arith, row .ensures .1)), (f .pre .0, (rw w (f .pre .1 .0), rw (rows-noted s ns (f .args .i) h) (f .pre .1 .1))))
 
 same-length : tie.Need-same-length
 same-length c = search needs
@@ -64,26 +58,30 @@ same-length-3 c = search needs
 returns : tie.Need-returns
 unfolding modelAt
 returns c =
-    let a = c .before .before .before .before .before .before .before .before .before .before .before .before .before .before .before .before .before .before .before .before .before .args in
+    let a = c .before .before .before .before .before .before .before .before .before .before .before .before .before .before .before .before .before .before .before .before .args in
+    let s = now (a .src) in
+    let ns = now (a .notes) in
+    let texts = rest s (c .before .before .before .before .before .before .before .before .before .before .before .section-noted .result) in
     let h = c .before .before .before .before .before .before .before .before .before .before .before .section-noted .ensures in
     let f = c .before .before .before .before .before .before .fill-model .ensures in
-    let is : modelBehind (c .before .before .before .before .before .before .before .before .before .before .before .before .before .before .name-word .result) (c .before .before .before .before .before .before .before .before .before .before .before .before .before .name-word2 .result) (c .before .before .before .before .before .before .before .before .before .before .before .before .name-word3 .result) (now (c .before .before .before .before .before .before .before .name-noted .result)) (rest (now (a .src)) (c .before .before .before .before .before .before .before .before .before .before .before .section-noted .result)) ≡ modelAt (now (a .src)) (now (a .notes)) (a .i) =
-    rw (c .before .before .before .before .before .before .before .name-noted .ensures, c .before .before .before .before .before .before .before .before .before .before .before .before .name-word3 .ensures, c .before .before .before .before .before .before .before .before .before .before .before .before .before .name-word2 .ensures, c .before .before .before .before .before .before .before .before .before .before .before .before .before .before .name-word .ensures, sym (c .before .before .before .before .before .before .before .before .before .before .before .before .before .before .before .word-behind .ensures)) (model-noted (now (a .src)) (now (a .notes)) (c .before .before .before .before .before .before .before .before .before .before .before .before .before .before .before .word-behind .result) h)
+    let start = c .before .before .before .before .before .before .before .before .before .before .before .before .section-word2 in
+    let row = c .before .before .before .before .before .before .before .before .before .before .before .before .before .section-word in
+    let section = c .before .before .before .before .before .before .before .before .before .before .before .before .before .before .place-noted in
+    let name = c .before .before .before .before .before .before .before .name-noted in
+    let is : modelBehind (section .result) (row .result) (start .result) (now (name .result)) texts ≡ modelAt s ns (a .i) =
+    rw (name .ensures, start .ensures .0, row .ensures .0, section .ensures) (model-noted s ns (liesAt OfModel (a .i)) h)
     in
-    let w : waveformsBehind (c .before .before .before .before .before .before .before .before .before .before .before .before .before .name-word2 .result) (rest (now (a .src)) (c .before .before .before .before .before .before .before .before .before .before .before .section-noted .result)) ≡ waveformWordsAt (now (a .src)) (now (a .notes)) (a .i) =
-    ap (λ (r : ℕ). waveformsBehind r (rest (now (a .src)) (c .before .before .before .before .before .before .before .before .before .before .before .section-noted .result))) (c .before .before .before .before .before .before .before .before .before .before .before .before .before .name-word2 .ensures) ∙ waveforms-noted (now (a .src)) (now (a .notes)) (a .i) (c .before .before .before .before .before .before .before .before .before .before .before .before .before .before .before .word-behind .result) (c .before .before .before .before .before .before .before .before .before .before .before .before .before .before .before .word-behind .ensures) h
-    in
-    let v = rows-noted (now (a .src)) (now (a .notes)) (a .i) (c .before .before .before .before .before .before .before .before .before .before .before .before .before .before .before .word-behind .result) (c .before .before .before .before .before .before .before .before .before .before .before .before .before .before .before .word-behind .ensures) h in
+    let w : waveformsBehind (row .result) texts ≡ waveformWordsAt s ns (a .i) = ap (λ (r : ℕ). waveformsBehind r texts) (row .ensures .0) ∙ waveforms-noted s ns (a .i) h in
+    let v = rows-noted s ns (a .i) h in
     (f .0 ∙ ap (λ (m : Model). over (now (a .model)) (modelWords m)) is, (f .1 .0 ∙ ap (over (now (a .waveforms))) w, (f .1 .1 .0 ∙ ap (over (now (a .rows))) v, f .1 .1 .1 ∙ (λ k. record { waveforms = length (w k); rows = length (v k) }))))
 
 pub fill-model-spec : {M : Type 1} → statement M
 fill-model-spec =
     tie.close
     (tie.spec
-    word-behind-requires
-    name-word-requires
-    name-word-requires-2
-    name-word-requires-3
+    place-noted-requires
+    section-word-requires
+    section-word-requires-2
     section-noted-requires
     name-noted-requires
     fill-model-requires
