@@ -1,6 +1,8 @@
 -- Parts of document 01's steps, cut as the code has them.
 use Prim.Native.Nat.{ℕ}
+use mathlib.Core.List.{List}
 use mathlib.Core.Bool.{Bool, not, _&&_}
+use Rattle.words.specs.Places.{WordAt}
 use Rattle.given.specs.Given.{has}
 use Rattle.given.specs.declared.Given.{Given}
 use Rattle.rules.specs.Going.{refuse, quietly}
@@ -9,6 +11,13 @@ use Rattle.rules.specs.declared.ComponentList.the-variants.{ComponentShut}
 use Rattle.rules.specs.declared.ComponentState.{ComponentState}
 use Rattle.rules.specs.declared.Stage.the-variants.{InComponent}
 use Rattle.rules.specs.declared.Went.{Went}
+use Rattle.component_steps.specs.declared.PinNames.{PinNames}
+
+-- the three names of a pin row: the first words of its text
+pub record NamesLie (w : List ℕ) (r : PinNames) : Type 0 where
+  pub pin : WordAt w 0 (r .pin)
+  pub signal : WordAt w (r .pin .end) (r .signal)
+  pub model : WordAt w (r .signal .end) (r .model)
 
 abbrev pub allThree : Given → Bool
 allThree g = has g 0 && (has g 1 && has g 2)

@@ -9,7 +9,7 @@ ghost use Rattle.rules.specs.Component.{withList, pinFault, componentLine, comp
 ghost use Rattle.rules.specs.Selector.{selectorLine, selectorShut};
 ghost use Rattle.rules.specs.declared.ComponentList.the-variants.{ComponentFirst, PackageLines, PinRows};
 ghost use Rattle.line_cells.specs.Threes.{bytesOf, Within};
-ghost use Rattle.component_steps.specs.Steps.{allThree, shutIf};
+ghost use Rattle.component_steps.specs.Steps.{NamesLie, allThree, shutIf};
 use given::Given;
 use keywords::ComponentPart;
 use line_cells::HeadingRead;
@@ -21,6 +21,13 @@ use rules::SelectorState;
 use rules::Stage;
 use rules::Went;
 use words::Word;
+
+// Where the names of a pin row lie: the pin, its signal and its model.
+pub struct PinNames {
+    pub pin: Word,
+    pub signal: Word,
+    pub model: Word,
+}
 
 // [Component] at line k.
 pub fn new_component(k: u64) -> ComponentState
@@ -58,13 +65,28 @@ fn names_pass(w: &[u8], pin: Word, signal: Word, model: Word) -> bool
     named_lines::pin_model(&w[model_start..model_end])
 }
 
-// Three names; cells behind them stand under the long heading alone.
-pub fn pin_fault(w: &[u8], long: bool) -> u8
-    ensures { λ r. ⌜ r ≡ pinFault long (words (now (w .entry))) ⌝ }
+// Where a row's three names lie.
+pub fn pin_names(w: &[u8]) -> PinNames
+    ensures { λ r. ⌜ NamesLie (now (w .entry)) r ⌝ }
 {
     let pin = words::word_at(w, 0);
     let signal = words::word_at(w, pin.end);
     let model = words::word_at(w, signal.end);
+    PinNames {
+        pin: pin,
+        signal: signal,
+        model: model,
+    }
+}
+
+// Three names, which lie here; cells behind them stand under the long heading alone.
+pub fn row_fault(w: &[u8], names: PinNames, long: bool) -> u8
+    requires { ⌜ NamesLie (now w) names ⌝ }
+    ensures { λ r. ⌜ r ≡ pinFault long (words (now (w .entry))) ⌝ }
+{
+    let pin = names.pin;
+    let signal = names.signal;
+    let model = names.model;
     if w.len() <= model.start {
         return 10;
     }
@@ -147,7 +169,7 @@ fn package_line(c: ComponentState, o: u64, g: Given, k: u64, w: &[u8]) -> Went
 fn rows_line(c: ComponentState, o: u64, long: bool, k: u64, w: &[u8]) -> Went
     ensures { λ r. ⌜ r ≡ componentLine c k (now (w .entry)) (PinRows o long true) ⌝ }
 {
-    let fault = pin_fault(w, long);
+    let fault = row_fault(w, pin_names(w), long);
     if fault != 0 {
         return rules::stopped(fault, k);
     }

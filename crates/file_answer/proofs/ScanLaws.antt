@@ -146,7 +146,7 @@ module _ (l : Lengths) (s xs : List ℕ) (x : Standing) where
 -- ---- from a place on, behind the text that stands there
 
 module _ (l : Lengths) (s xs ys : List ℕ) (g : Stage) (c : Cursor) (t : Tally) (p : Spot) (text : TextIs s c (p .line) (p .start) (p .end) (p .next)) where
-  text-going : (u : Stage) (e : Event) (v : Tally) → onPlain g (p .line) (part (p .start) (p .end) s) ≡ On u e → loggedAt l s xs t p e ≡ going (logOf s ys v)
+  pub text-going : (u : Stage) (e : Event) (v : Tally) → onPlain g (p .line) (part (p .start) (p .end) s) ≡ On u e → loggedAt l s xs t p e ≡ going (logOf s ys v)
       → runFrom l s xs (standing g c t) ≡ runFrom l s ys (standing u (p .next) v)
   text-going u e v h k =
       run-text l s xs (standing g c t) p text

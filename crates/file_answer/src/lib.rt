@@ -20,12 +20,6 @@ pub struct Passed {
     pub count: usize,
 }
 
-// A row of [Pin], noted and counted, and the cursor behind it.
-pub enum NextPin {
-    Pin { tally: Tally, next: Cursor },
-    NoPin,
-}
-
 // Behind rows of [Pin]: where the reading stands, and what is noted and counted up to there.
 pub struct PinsPassed {
     pub cursor: Cursor,

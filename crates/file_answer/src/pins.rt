@@ -1,76 +1,94 @@
 // The rows of [Pin], in a loop of their own: behind the first one, each is noted and counted and leaves the stage as it is. What is no pin row, or
 // has no room, is left to the line's own step.
-ghost use Rattle.noted_events.specs.Events.{Ready};
+ghost use mathlib.Core.Path.{_≡_};
+ghost use Prim.Native.Nat.{_+_, _≤_, _<_};
+ghost use lib.ListN.{length};
+ghost use Rattle.records.specs.Bounds.{most};
+ghost use Rattle.records.specs.declared.Kind.the-variants.{OfPin};
+ghost use Rattle.component_steps.specs.Steps.{NamesLie};
+ghost use Rattle.laws.specs.Lists.{part};
+ghost use Rattle.note_words.specs.Store.{namesHeld, storeLength, RowFits};
 ghost use Rattle.file_answer.specs.Scans.{Ground, Sound, ListPassed};
-ghost use Rattle.file_answer.specs.Pins.{PinIn, NextPinIs, PinsAre};
-use crate::NextPin;
+ghost use Rattle.file_answer.specs.Pins.{pinNote, PinNoted, withPins, PinsAre};
 use crate::PinsPassed;
 use crate::Standing;
+use component_steps::PinNames;
+use component_steps::pin_names;
+use component_steps::row_fault;
 use cut_lines::Cursor;
 use cut_lines::Next;
-use noted_events::Spot;
+use note_words::PINS_FROM;
+use note_words::RowNote;
+use note_words::WORDS_PER_ROW;
+use note_words::put_row;
 use noted_events::Tally;
-use noted_events::Told;
-use noted_events::events::note_pin;
 use noted_events::room::bound_of;
 use records::Kind;
 use records::Lengths;
 use rules::ComponentList;
 use rules::Stage;
 
-// Notes the text if it is a pin row and there is room for it.
-fn pin_in(notes: &mut [u16], src: &[u8], l: Lengths, t: Tally, p: Spot, long: bool) -> NextPin
-    requires { ⌜ Ready (now src) (now notes) t p ⌝ }
-    ensures { λ r. ⌜ PinIn l (now (src .entry)) (now (notes .entry)) t p long (now (notes .exit)) r ⌝ }
+// The note of a pin row whose names lie there in its text.
+fn pin_note(start: usize, end: usize, names: PinNames) -> RowNote
+    requires { ⌜ RowFits (pinNote start end names) ⌝ }
+    ensures { λ r. ⌜ (r ≡ pinNote start end names) × RowFits r ⌝ }
 {
-    let start = p.start;
-    let end = p.end;
-    let next = p.next;
+    let pin = names.pin;
+    let model = names.model;
+    RowNote {
+        at: start,
+        name: start + pin.start,
+        name_end: start + pin.end,
+        model: start + model.start,
+        model_end: start + model.end,
+        text_end: end,
+    }
+}
+
+// Notes a text if it is a pin row, as name i in file order and pin j; whether it is one.
+fn pin_noted(
+    notes: &mut [u16],
+    src: &[u8],
+    i: usize,
+    j: usize,
+    start: usize,
+    end: usize,
+    long: bool,
+) -> bool
+    requires { ⌜ (start < end) × (end ≤ start + 120) × (end ≤ length (now src)) × (length (now src) ≤ 65536) ⌝ }
+    requires { ⌜ (i ≤ namesHeld) × (j ≤ most OfPin) × (storeLength ≤ length (now notes)) ⌝ }
+    ensures { λ r. ⌜ PinNoted (now (src .entry)) (now (notes .entry)) i j start end long (now (notes .exit)) r ⌝ }
+{
     let w = &src[start..end];
     if named_lines::bracketed(w) {
-        return NextPin::NoPin;
+        return false;
     }
-    if component_steps::pin_fault(w, long) != 0 {
-        return NextPin::NoPin;
+    let names = pin_names(w);
+    if row_fault(w, names, long) != 0 {
+        return false;
     }
-    if bound_of(l, Kind::OfPin) <= t.counts.pins {
-        return NextPin::NoPin;
-    }
-    match note_pin(notes, src, l, t, p) {
-        Told::Going(more) => NextPin::Pin {
-            tally: more,
-            next: next,
-        },
-        Told::Full(number, full) => NextPin::NoPin,
-    }
+    let x = pin_note(start, end, names);
+    put_row(notes, i, PINS_FROM + WORDS_PER_ROW * j, x);
+    true
 }
 
-// The next text, if it is a pin row.
-fn next_pin(notes: &mut [u16], src: &[u8], l: Lengths, c: Cursor, t: Tally, long: bool) -> NextPin
-    requires { ⌜ Ground (now src) (now notes) c t ⌝ }
-    ensures { λ r. ⌜ NextPinIs l (now (src .entry)) (now (notes .entry)) c t long (now (notes .exit)) r ⌝ }
+// Behind pin rows, with so many names and pins.
+fn passed(cursor: Cursor, t: Tally, names: usize, pins: usize) -> PinsPassed
+    ensures { λ r. ⌜ r ≡ record { cursor = cursor; tally = withPins t names pins } ⌝ }
 {
-    match cut_lines::next_text(src, c) {
-        Next::Text {
-            line,
-            start,
-            end,
-            next,
-        } => {
-            let p = Spot {
-                line: line,
-                start: start,
-                end: end,
-                next: next,
-            };
-            pin_in(notes, src, l, t, p, long)
-        }
-        Next::Change { line, fault, next } => NextPin::NoPin,
-        Next::Out { line } => NextPin::NoPin,
+    let mut counts = t.counts;
+    counts.pins = pins;
+    PinsPassed {
+        cursor: cursor,
+        tally: Tally {
+            names: names,
+            counts: counts,
+        },
     }
 }
 
-// Passes the pin rows from a cursor on.
+// Passes the pin rows from a cursor on, as long as there is room. How many names and pins there are stands in variables of its own: the tally would
+// be copied at every row.
 fn pass_pins(
     notes: &mut [u16],
     src: &[u8],
@@ -82,22 +100,30 @@ fn pass_pins(
     requires { ⌜ Ground (now src) (now notes) c t ⌝ }
     ensures { λ p. ⌜ PinsAre l (now (src .entry)) (now (notes .entry)) c t long (now (notes .exit)) p ⌝ }
 {
+    let bound = bound_of(l, Kind::OfPin);
     let mut cursor = c;
-    let mut tally = t;
-    loop {
-        match next_pin(notes, src, l, cursor, tally, long) {
-            NextPin::Pin { tally: more, next } => {
+    let mut names = t.names;
+    let mut pins = t.counts.pins;
+    while pins < bound {
+        match cut_lines::next_text(src, cursor) {
+            Next::Text {
+                line,
+                start,
+                end,
+                next,
+            } => {
+                if !pin_noted(notes, src, names, pins, start, end, long) {
+                    return passed(cursor, t, names, pins);
+                }
                 cursor = next;
-                tally = more;
+                names += 1;
+                pins += 1;
             }
-            NextPin::NoPin => {
-                return PinsPassed {
-                    cursor: cursor,
-                    tally: tally,
-                };
-            }
+            Next::Change { line, fault, next } => return passed(cursor, t, names, pins),
+            Next::Out { line } => return passed(cursor, t, names, pins),
         }
     }
+    passed(cursor, t, names, pins)
 }
 
 // Behind the pin rows, if one was read; else all stays.

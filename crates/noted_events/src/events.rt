@@ -120,7 +120,7 @@ fn note_section(notes: &mut [u16], src: &[u8], l: Lengths, t: Tally, p: Spot, o:
 }
 
 // Notes a pin, then asks for room in the table of pins.
-pub fn note_pin(notes: &mut [u16], src: &[u8], l: Lengths, t: Tally, p: Spot) -> Told
+fn note_pin(notes: &mut [u16], src: &[u8], l: Lengths, t: Tally, p: Spot) -> Told
     requires { ⌜ Ready (now src) (now notes) t p ⌝ }
     ensures { λ r. ⌜ loggedAt l (now (src .entry)) (now (notes .entry)) t p PinRow ≡ toldIs (now (src .entry)) (now (notes .exit)) (p .line) r ⌝ }
     ensures { λ r. ⌜ KeptBy (now (notes .exit)) t r ⌝ }

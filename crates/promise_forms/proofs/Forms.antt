@@ -7,6 +7,7 @@ use lib.ListN.{length, length-drop}
 use Rattle.laws.proofs.Lists.{part-length}
 use Rattle.words.specs.Places.{WordAt}
 use Rattle.named_lines.specs.Places.{NameIs}
+use Rattle.component_steps.specs.Steps.{NamesLie}
 use Rattle.noted_events.specs.Places.{FirstIn, ArgumentIn}
 use Rattle.name_checks.specs.Lookup.{Within}
 use Rattle.text_buffer.specs.Put.{Put}
@@ -25,6 +26,14 @@ put before text at r s x y a b = (a .stop ∙ sym (b .stop), a .written ∙ sym 
 
 pub word : (s : List ℕ) (at : ℕ) → One (WordAt s at)
 word s at r x a b = a .is ∙ sym (b .is)
+
+-- three words, each behind the one before
+pub names : (w : List ℕ) → One (NamesLie w)
+names w r x a b =
+    let pin = word w 0 (r .pin) (x .pin) (a .pin) (b .pin) in
+    let signal = word w (r .pin .end) (r .signal) (x .signal) (a .signal) (rw pin (b .signal)) in
+    let model = word w (r .signal .end) (r .model) (x .model) (a .model) (rw signal (b .model)) in
+    λ i. record { pin = pin i; signal = signal i; model = model i }
 
 pub text : (table : List ℕ) (separator place : ℕ) → One (PartAt table separator place)
 text table separator place r x a b = a .is ∙ sym (b .is)

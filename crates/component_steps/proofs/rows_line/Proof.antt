@@ -4,21 +4,24 @@ use Rattle.rules.proofs.Going.{faulted, clean}
 use Rattle.component_steps.proofs.rows_line.Statement.{statement}
 use Rattle.component_steps.proofs.rows_line.Tie as tie
 
-pin-fault-requires : tie.Need-pin-fault-requires
-pin-fault-requires c κs = tt
+pin-names-requires : tie.Need-pin-names-requires
+pin-names-requires c κs = tt
+
+row-fault-requires : tie.Need-row-fault-requires
+row-fault-requires c κs = c .pin-names .ensures
 
 stopped-requires : tie.Need-stopped-requires
 stopped-requires c κs = tt
 
 returns : tie.Need-returns
-returns c = c .stopped .ensures ∙ faulted _ _ (c .before .before .pin-fault .ensures) (c .before .if1 .taken)
+returns c = c .stopped .ensures ∙ faulted _ _ (c .before .before .row-fault .ensures) (c .before .if1 .taken)
 
 with-list-requires : tie.Need-with-list-requires
 with-list-requires c κs = tt
 
 returns-2 : tie.Need-returns-2
-returns-2 c = rw (c .with-list .ensures) (clean _ _ (c .before .before .pin-fault .ensures) (c .before .if1 .left))
+returns-2 c = rw (c .with-list .ensures) (clean _ _ (c .before .before .row-fault .ensures) (c .before .if1 .left))
 
 pub rows-line-spec : {M : Type 1} → statement M
 rows-line-spec =
-    tie.close (tie.spec pin-fault-requires stopped-requires returns with-list-requires returns-2)
+    tie.close (tie.spec pin-names-requires row-fault-requires stopped-requires returns with-list-requires returns-2)
