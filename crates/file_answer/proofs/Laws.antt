@@ -1,23 +1,19 @@
 -- Laws of `rules`' outcome, by how far the reading comes: bytes, lines, names, last checks.
 use Prim.Native.Nat.{ℕ, _+_, _≤_}
 use mathlib.Core.Path.{_≡_, refl, sym, ap, _∙_}
-use mathlib.Core.List.{List, [], _∷_, map, reverse}
-use mathlib.Core.Bool.{true, false, cond}
-use mathlib.Core.Option.{Option, none, some}
+use mathlib.Core.List.{List, reverse}
+use mathlib.Core.Option.{none, some}
 use native.Mathlib.Omega.{arith}
 use lib.ListN.{length}
-use lib.Dec.{leb}
 use borrow.Author.Tests.{le-leb, lt-leb}
 use Rattle.laws.proofs.Tests.{by-order, cond-yes, cond-no, impossible}
 use Rattle.lines.specs.Lines.{linesOf, bytesFault}
 use Rattle.records.specs.declared.Fault.{Fault}
 use Rattle.lines.specs.declared.Bytes.the-variants.{Clean, Faulty}
-use Rattle.cut_lines.specs.Texts.{textsFrom}
 use Rattle.cut_lines.specs.Cursors.{rest, past, firstCursor, CleanFrom}
 use Rattle.rules.specs.Outline.{count}
-use Rattle.rules.specs.Whole.{Outcome, passed, refused, runs, concluded, lastChecks, nothingHeld, textsOf, outcome}
+use Rattle.rules.specs.Whole.{passed, refused, runs, concluded, lastChecks, nothingHeld, textsOf, outcome}
 use Rattle.records.specs.declared.Lengths.{Lengths}
-use Rattle.records.specs.declared.Kind.{Kind}
 use Rattle.records.specs.declared.Kind.the-variants.{OfComponent, OfPin, OfSelector, OfChoice, OfModel}
 use Rattle.rules.specs.declared.Stage.the-variants.{BeforeVersion}
 use Rattle.notes.specs.Noted.{Finish, emptyLog, heldOf, runLog, clash, settled}

@@ -1,18 +1,17 @@
 -- What an accepted file's notes make is what document 01 reads: each table is as noted, and what is noted lies as document 01 says.
-use Prim.Native.Nat.{ℕ, zero, suc, _+_, _*_, _/_, _≤_}
+use Prim.Native.Nat.{ℕ, zero, suc, _*_, _/_, _≤_}
 use mathlib.Core.Path.{_≡_, refl, sym, ap, _∙_, subst}
-use mathlib.Core.List.{List, [], _∷_, _++_, map, reverse, flatMap, append-assoc, append-nil}
+use mathlib.Core.List.{List, [], _∷_, _++_, map, reverse, flatMap, append-nil}
 use native.Mathlib.Omega.{arith}
-use lib.ListN.{length, drop, length-map, length-reverse}
+use lib.ListN.{length, length-map, length-reverse}
 use Rattle.rules.specs.Reading.{fileIn}
 use Rattle.layout.specs.Laid.{Laid, laid, countsOf}
-use Rattle.records.specs.Stored.{stored, over}
-use Rattle.rules.specs.Whole.{Outcome, passed, refused, outcome, textsOf}
+use Rattle.records.specs.Stored.{stored}
+use Rattle.rules.specs.Whole.{textsOf}
 use Rattle.records.specs.declared.Lengths.{Lengths}
 use Rattle.records.specs.declared.Row.{Row}
 use Rattle.records.specs.declared.Kind.the-variants.{OfComponent, OfPin, OfSelector, OfChoice, OfModel}
 use Rattle.notes.specs.Noted.{Note}
-use Rattle.records.specs.declared.Counts.{Counts}
 use Rattle.note_words.specs.Store.{waveAt}
 use Rattle.layout_by_notes.specs.Lies.{noted, componentNoted, pinNoted, selectorNoted, choiceNoted, modelNoted, waveNoted, waveformsNoted, rowsNoted, Lies, Fits}
 use Rattle.layout_by_notes.proofs.Lists.{flat-append}

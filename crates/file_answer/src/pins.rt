@@ -5,8 +5,6 @@ ghost use Prim.Native.Nat.{_+_, _≤_, _<_};
 ghost use lib.ListN.{length};
 ghost use Rattle.records.specs.Bounds.{most};
 ghost use Rattle.records.specs.declared.Kind.the-variants.{OfPin};
-ghost use Rattle.component_steps.specs.Steps.{NamesLie};
-ghost use Rattle.laws.specs.Lists.{part};
 ghost use Rattle.note_words.specs.Store.{namesHeld, storeLength, RowFits};
 ghost use Rattle.file_answer.specs.Scans.{Ground, Sound, ListPassed};
 ghost use Rattle.file_answer.specs.Pins.{pinNote, PinNoted, withPins, PinsAre};

@@ -2,7 +2,6 @@
 use Prim.Native.Nat.{ℕ, zero, suc, _*_, _≤_}
 use mathlib.Core.List.{List, [], _∷_, _++_, flatMap}
 use lib.ListN.{length}
-use Rattle.records.specs.declared.Fault.{Fault}
 use Rattle.records.specs.declared.Counts.{Counts}
 use Rattle.records.specs.Stored.{stored, over}
 use Rattle.records.specs.declared.Kind.the-variants.{OfModel}

@@ -6,13 +6,6 @@ use Rattle.records.specs.Stored.{over}
 use Rattle.table_words.proofs.Models.{rows-words}
 use Rattle.table_words.proofs.fill_tables.Statement.{statement}
 use Rattle.table_words.proofs.fill_tables.Tie as tie
-use Rattle.table_words.proofs.fill_tables.Reads as reads
-use Rattle.table_words.proofs.fill_tables.Lts as lts
-use Rattle.table_words.proofs.fills.fill_choices.Reads as fill-choices-reads
-use Rattle.table_words.proofs.fills.fill_components.Reads as fill-components-reads
-use Rattle.table_words.proofs.fills.fill_models.Reads as fill-models-reads
-use Rattle.table_words.proofs.fills.fill_pins.Reads as fill-pins-reads
-use Rattle.table_words.proofs.fills.fill_selectors.Reads as fill-selectors-reads
 
 fill-components-requires : tie.Need-fill-components-requires
 fill-components-requires c κs = search needs

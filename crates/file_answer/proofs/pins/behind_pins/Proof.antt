@@ -1,5 +1,4 @@
 -- By the list that is open: behind the first pin row the stage stays.
-use mathlib.Core.Path.{refl}
 use borrow.Author.Needs.{needs}
 use denote.Ref.{now}
 use Rattle.file_answer.proofs.PinLaws.{pins-stay, pins-on}

@@ -1,5 +1,5 @@
 -- By the tests of the row: what is written is its note.
-use mathlib.Core.Path.{refl, sym, ap, _∙_}
+use mathlib.Core.Path.{sym, ap, _∙_}
 use borrow.Author.Needs.{needs}
 use denote.Ref.{now}
 use Rattle.note_words.specs.Store.{liesAt, wordsOfRow, withName}

@@ -1,5 +1,4 @@
 -- By the list that is open; a table's rows are passed, whatever else the model's state holds.
-use mathlib.Core.Path.{refl, sym, _∙_}
 use borrow.Author.Needs.{needs}
 use denote.Ref.{now}
 use Rattle.rules.specs.declared.ModelList.the-variants.{CurrentRows, WaveformRows}

@@ -1,6 +1,6 @@
 -- Behind the rows so far the lines say what they say from the first of them on.
 use Prim.Native.Nat.{_-_}
-use mathlib.Core.Path.{sym, subst}
+use mathlib.Core.Path.{subst}
 use lib.ListN.{length}
 use native.Mathlib.Omega.{arith}
 use borrow.Author.Needs.{needs}

@@ -1,7 +1,6 @@
 -- A row that rises by `row-taken`; all else is amiss.
 use mathlib.Core.Path.{sym, ap, _∙_}
 use native.Mathlib.Omega.{arith}
-use borrow.Author.Needs.{needs}
 use borrow.Author.Tests.{not-false}
 use denote.Ref.{now}
 use Rattle.words.specs.Words.{words}

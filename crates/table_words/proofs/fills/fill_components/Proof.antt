@@ -12,11 +12,6 @@ use Rattle.table_words.specs.Packed.{wordsTo}
 use Rattle.table_words.proofs.Laws.{words-none, words-keep, words-room, words-turn}
 use Rattle.table_words.proofs.fills.fill_components.Statement.{statement}
 use Rattle.table_words.proofs.fills.fill_components.Tie as tie
-use Rattle.table_words.proofs.fills.fill_components.Reads as reads
-use Rattle.table_words.proofs.fills.fill_components.Lts as lts
-use Rattle.section_words.proofs.put.Reads as put-reads
-use Rattle.record_words.proofs.tables.component_words.Reads as component-words-reads
-use Rattle.from_notes.proofs.component_at.Reads as component-at-reads
 
 abbrev Inv-loop : tie.InvT-loop
 Inv-loop out₀ src notes n i₀ out i = (i ≤ n) × (out ≡ over out₀ (wordsTo (λ (k : ℕ). componentWords (componentAt src notes k)) i))

@@ -12,9 +12,6 @@ use Rattle.table_words.specs.Packed.{wordsTo, modelWordsAt, waveformWord
 use Rattle.table_words.proofs.Models.{to-start, to-length, to-fit, to-turn, models-length, models-fit, models-turn}
 use Rattle.table_words.proofs.fills.fill_models.Statement.{statement}
 use Rattle.table_words.proofs.fills.fill_models.Tie as tie
-use Rattle.table_words.proofs.fills.fill_models.Reads as reads
-use Rattle.table_words.proofs.fills.fill_models.Lts as lts
-use Rattle.table_words.proofs.fills.fill_model.Reads as fill-model-reads
 
 abbrev Inv-loop : tie.InvT-loop
 Inv-loop models₀ waveforms₀ rows₀ src notes n waves₀ words₀ i₀ models waveforms rows waves words i = (i ≤ n) × Lies models₀ models (modelSize * i) (wordsTo (modelWordsAt src notes) i) × Lies waveforms₀ waveforms waves (wordsTo (waveformWordsAt src notes) i) × Lies rows₀ rows words (wordsTo (rowWordsAt src notes) i)

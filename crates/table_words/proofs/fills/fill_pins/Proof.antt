@@ -12,11 +12,6 @@ use Rattle.table_words.specs.Packed.{wordsTo}
 use Rattle.table_words.proofs.Laws.{words-none, words-keep, words-room, words-turn}
 use Rattle.table_words.proofs.fills.fill_pins.Statement.{statement}
 use Rattle.table_words.proofs.fills.fill_pins.Tie as tie
-use Rattle.table_words.proofs.fills.fill_pins.Reads as reads
-use Rattle.table_words.proofs.fills.fill_pins.Lts as lts
-use Rattle.section_words.proofs.put.Reads as put-reads
-use Rattle.record_words.proofs.tables.pin_words.Reads as pin-words-reads
-use Rattle.from_notes.proofs.pin_at.Reads as pin-at-reads
 
 abbrev Inv-loop : tie.InvT-loop
 Inv-loop out₀ src notes n i₀ out i = (i ≤ n) × (out ≡ over out₀ (wordsTo (λ (k : ℕ). pinWords (pinAt src notes k)) i))

@@ -12,11 +12,6 @@ use Rattle.table_words.specs.Packed.{wordsTo}
 use Rattle.table_words.proofs.Laws.{words-none, words-keep, words-room, words-turn}
 use Rattle.table_words.proofs.fills.fill_selectors.Statement.{statement}
 use Rattle.table_words.proofs.fills.fill_selectors.Tie as tie
-use Rattle.table_words.proofs.fills.fill_selectors.Reads as reads
-use Rattle.table_words.proofs.fills.fill_selectors.Lts as lts
-use Rattle.section_words.proofs.put.Reads as put-reads
-use Rattle.record_words.proofs.tables.selector_words.Reads as selector-words-reads
-use Rattle.from_notes.proofs.selector_at.Reads as selector-at-reads
 
 abbrev Inv-loop : tie.InvT-loop
 Inv-loop out₀ src notes n i₀ out i = (i ≤ n) × (out ≡ over out₀ (wordsTo (λ (k : ℕ). selectorWords (selectorAt src notes k)) i))
