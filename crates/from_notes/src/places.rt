@@ -4,7 +4,7 @@ ghost use Prim.Native.Nat.{_+_};
 ghost use lib.ListN.{getD};
 ghost use Rattle.laws.specs.Lists.{part};
 ghost use Rattle.cut_lines.specs.Cursors.{Placed};
-ghost use Rattle.note_words.specs.Store.{nameAt, nameWord, waveWord};
+ghost use Rattle.note_words.specs.Store.{nameAt, nameWord};
 ghost use Rattle.from_notes.specs.Made.{markOf, StandsAt, rowNoted, BehindText, StandsBehind};
 use cut_lines::Cursor;
 use cut_lines::Next;
@@ -12,9 +12,7 @@ use note_words::AT;
 use note_words::KIND;
 use note_words::NAME;
 use note_words::PAIR;
-use note_words::WAVES_FROM;
 use note_words::WORDS_PER_NAME;
-use note_words::WORDS_PER_WAVE;
 
 // The word i places behind a place; 0 past the end.
 pub fn word_behind(notes: &[u16], from: usize, i: usize) -> usize
@@ -37,16 +35,6 @@ pub fn name_word(notes: &[u16], n: usize, j: usize) -> usize
         return 0;
     }
     word_behind(notes, WORDS_PER_NAME * n, j)
-}
-
-// Word j of the waveform noted at place n.
-pub(crate) fn wave_word(notes: &[u16], n: usize, j: usize) -> usize
-    ensures { λ r. ⌜ r ≡ waveWord (now (notes .entry)) n j ⌝ }
-{
-    if notes.len() / WORDS_PER_WAVE < n {
-        return 0;
-    }
-    word_behind(notes, WAVES_FROM + WORDS_PER_WAVE * n, j)
 }
 
 // The bytes from a up to e; what is not there is left out.
@@ -76,7 +64,7 @@ fn mark_of(word: usize) -> u8
 }
 
 // A cursor at a place, or at the end. Its lines are numbered from 1: no record holds a line's number.
-pub(crate) fn cursor_at(src: &[u8], at: usize, comment: usize) -> Cursor
+fn cursor_at(src: &[u8], at: usize, comment: usize) -> Cursor
     ensures { λ r. ⌜ StandsAt (now (src .entry)) at comment r ⌝ }
 {
     let mark = mark_of(comment);

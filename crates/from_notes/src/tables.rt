@@ -1,6 +1,6 @@
 // The records of the lent tables, each by its place in its table.
 ghost use mathlib.Core.Path.{_≡_};
-ghost use Rattle.from_notes.specs.Made.{componentAt, pinAt, selectorAt, choiceAt, modelAt};
+ghost use Rattle.from_notes.specs.Made.{componentAt, pinAt, selectorAt, choiceAt};
 use crate::places::name_noted;
 use crate::places::name_word;
 use crate::places::row_noted;
@@ -8,15 +8,12 @@ use crate::places::section_noted;
 use crate::places::word_behind;
 use note_words::CHOICES_FROM;
 use note_words::COMPONENTS_FROM;
-use note_words::MODELS_FROM;
 use note_words::PINS_FROM;
 use note_words::SECTION_PLACE;
-use note_words::SECTION_ROW;
 use note_words::SECTION_START;
 use note_words::SELECTORS_FROM;
 use records::Choice;
 use records::Component;
-use records::Model;
 use records::Pin;
 use records::Selector;
 
@@ -52,15 +49,4 @@ pub fn choice_at(src: &[u8], notes: &[u16], i: usize) -> Choice
 {
     let n = word_behind(notes, CHOICES_FROM, i);
     component_records::choice_of(row_noted(src, notes, n))
-}
-
-pub fn model_at(src: &[u8], notes: &[u16], i: usize) -> Model
-    ensures { λ r. ⌜ r ≡ modelAt (now (src .entry)) (now (notes .entry)) i ⌝ }
-{
-    let n = word_behind(notes, MODELS_FROM, i);
-    let section = name_word(notes, n, SECTION_PLACE);
-    let row = name_word(notes, n, SECTION_ROW);
-    let start = name_word(notes, n, SECTION_START);
-    let lines = section_noted(src, notes, n);
-    model_record::model_of(src, lines, name_noted(src, notes, n), section, row, start)
 }

@@ -7,7 +7,7 @@ ghost use Rattle.cut_lines.specs.Cursors.{Placed};
 ghost use Rattle.line_rules.specs.Fields.{wordLine, cellsLine};
 ghost use Rattle.line_rules.specs.Tables.{polarities, enables};
 ghost use Rattle.rules.specs.Reading.{noSplit};
-ghost use Rattle.model_record.specs.Firsts.{bareMarks, bareLevels, linesOver, marksAt, groupAt, splitAt, levelsAt, defaulted, FirstReadIs};
+ghost use Rattle.model_record.specs.Firsts.{bareMarks, bareLevels, bareLines, linesOver, marksAt, groupAt, splitAt, levelsAt, defaulted, FirstReadIs};
 use crate::FirstLines;
 use crate::FirstRead;
 use crate::Levels;
@@ -190,6 +190,13 @@ fn lines_over(m: Marks, comp: Triple, split: Split, l: Levels) -> FirstLines
         rref: rref,
         vref: vref,
     }
+}
+
+// Before the first line.
+pub fn bare_lines() -> FirstLines
+    ensures { λ r. ⌜ r ≡ bareLines ⌝ }
+{
+    lines_over(no_marks(), records::no_cells(), no_split(), no_levels())
 }
 
 // The first lines of the model behind whose keyword a cursor stands. They are held in four parts: a line is copied into its own only.
