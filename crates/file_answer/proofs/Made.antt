@@ -1,23 +1,21 @@
 -- What an accepted file's notes make is what document 01 reads: each table is as noted, and what is noted lies as document 01 says.
 use Prim.Native.Nat.{ℕ, zero, suc, _*_, _/_, _≤_}
 use mathlib.Core.Path.{_≡_, refl, sym, ap, _∙_, subst}
-use mathlib.Core.List.{List, [], _∷_, _++_, map, reverse, flatMap, append-nil}
+use mathlib.Core.List.{List, [], _∷_, _++_, map, flatMap, append-nil}
 use native.Mathlib.Omega.{arith}
-use lib.ListN.{length, length-map, length-reverse}
+use lib.ListN.{length, length-map}
 use Rattle.rules.specs.Reading.{fileIn}
 use Rattle.layout.specs.Laid.{Laid, laid, countsOf}
 use Rattle.records.specs.Stored.{stored}
 use Rattle.rules.specs.Whole.{textsOf}
 use Rattle.records.specs.declared.Lengths.{Lengths}
-use Rattle.records.specs.declared.Row.{Row}
 use Rattle.records.specs.declared.Kind.the-variants.{OfComponent, OfPin, OfSelector, OfChoice, OfModel}
 use Rattle.notes.specs.Noted.{Note}
-use Rattle.note_words.specs.Store.{waveAt}
-use Rattle.layout_by_notes.specs.Lies.{noted, componentNoted, pinNoted, selectorNoted, choiceNoted, modelNoted, waveNoted, waveformsNoted, rowsNoted, Lies, Fits}
+use Rattle.layout_by_notes.specs.Lies.{noted, componentNoted, pinNoted, selectorNoted, choiceNoted, modelNoted, waveformsNoted, rowsNoted, Lies, Fits}
 use Rattle.layout_by_notes.proofs.Lists.{flat-append}
 use Rattle.layout_by_notes.proofs.Tables.{lies, fits}
 use Rattle.table_rows.proofs.Stores.{stored-length}
-use Rattle.from_notes.specs.Made.{noteBy, componentAt, pinAt, selectorAt, choiceAt, modelAt, waveformAt, rowsAt}
+use Rattle.from_notes.specs.Made.{noteBy, joinedTo, componentAt, pinAt, selectorAt, choiceAt, modelAt, waveformsAt, rowsAt}
 use Rattle.file_answer.specs.Sorted.{upTo, Sorted}
 use Rattle.file_answer.proofs.UpTo.{upTo-length, map-upTo}
 
@@ -29,15 +27,15 @@ made-upTo g f l new e h =
     let n : length new ≡ length l = ap length m ∙ upTo-length (λ (i : ℕ). g (f i)) (length l) in
     m ∙ ap (upTo (λ (i : ℕ). g (f i))) (sym n)
 
--- ---- rows
+-- ---- of the models, one after the other
 
-rows-upTo : (s ns : List ℕ) (n : ℕ) → rowsAt s ns n ≡ flatMap rowsNoted (upTo (noteBy s ns OfModel) n)
-unfolding rowsAt upTo flatMap
-rows-upTo s ns zero = refl
-rows-upTo s ns (suc n) =
-    ap (λ (l : List Row). l ++ rowsNoted (noteBy s ns OfModel n)) (rows-upTo s ns n)
-    ∙ ap (λ (l : List Row). flatMap rowsNoted (upTo (noteBy s ns OfModel) n) ++ l) (sym (append-nil (rowsNoted (noteBy s ns OfModel n))))
-    ∙ sym (flat-append rowsNoted (upTo (noteBy s ns OfModel) n) (noteBy s ns OfModel n ∷ []))
+joined-upTo : {A : Type 0} (f : Note → List A) (s ns : List ℕ) (n : ℕ) → joinedTo (λ (k : ℕ). f (noteBy s ns OfModel k)) n ≡ flatMap f (upTo (noteBy s ns OfModel) n)
+unfolding joinedTo upTo flatMap
+joined-upTo f s ns zero = refl
+joined-upTo {A} f s ns (suc n) =
+    ap (λ (l : List A). l ++ f (noteBy s ns OfModel n)) (joined-upTo f s ns n)
+    ∙ ap (λ (l : List A). flatMap f (upTo (noteBy s ns OfModel) n) ++ l) (sym (append-nil (f (noteBy s ns OfModel n))))
+    ∙ sym (flat-append f (upTo (noteBy s ns OfModel) n) (noteBy s ns OfModel n ∷ []))
 
 whole-rows : (n : ℕ) → 4 * (n / 4) ≤ n
 whole-rows n = omega arith
@@ -72,24 +70,18 @@ module _ (l : Lengths) (s ns : List ℕ) (sorted : Sorted l s ns) where
   unfolding modelAt
   models-made = made-upTo modelNoted (noteBy s ns OfModel) (noted OfModel (sorted .log)) (file .models) (lie .models) (sorted .names OfModel)
 
-  pub waveforms-made : file .waveforms ≡ upTo (waveformAt s ns) (length (file .waveforms))
-  unfolding waveformAt
-  waveforms-made =
-      made-upTo waveNoted (waveAt s ns) (reverse (sorted .log .waves)) (file .waveforms) (lie .waveforms)
-      (sorted .waves ∙ ap (upTo (waveAt s ns)) (sym (length-reverse (sorted .log .waves))))
-
   -- ---- what is noted of the models, one after the other
 
-  by-models : {A : Type 0} (f : Note → List A) → flatMap f (noted OfModel (sorted .log)) ≡ flatMap f (upTo (noteBy s ns OfModel) (length (file .models)))
+  by-models : {A : Type 0} (f : Note → List A) → flatMap f (noted OfModel (sorted .log)) ≡ joinedTo (λ (k : ℕ). f (noteBy s ns OfModel k)) (length (file .models))
   by-models f =
       let n : length (file .models) ≡ length (noted OfModel (sorted .log)) = ap length (lie .models) ∙ length-map (noted OfModel (sorted .log)) modelNoted in
-      ap (flatMap f) (sorted .names OfModel ∙ ap (upTo (noteBy s ns OfModel)) (sym n))
+      ap (flatMap f) (sorted .names OfModel ∙ ap (upTo (noteBy s ns OfModel)) (sym n)) ∙ sym (joined-upTo f s ns (length (file .models)))
 
-  pub waveforms-by-models : file .waveforms ≡ flatMap waveformsNoted (upTo (noteBy s ns OfModel) (length (file .models)))
-  waveforms-by-models = lie .waveformsByModel ∙ by-models waveformsNoted
+  pub waveforms-made : file .waveforms ≡ waveformsAt s ns (length (file .models))
+  waveforms-made = lie .waveformsByModel ∙ by-models waveformsNoted
 
   pub rows-made : file .rows ≡ rowsAt s ns (length (file .models))
-  rows-made = lie .rows ∙ by-models rowsNoted ∙ sym (rows-upTo s ns (length (file .models)))
+  rows-made = lie .rows ∙ by-models rowsNoted
 
   pub rows-fit : (rs : List ℕ) → l .rows ≡ length rs / 4 → length (stored (rowsAt s ns (length (file .models)))) ≤ length rs
   rows-fit rs e = rw (sym rows-made) (omega (arith, stored-length (file .rows), fit .rows, e, whole-rows (length rs)))

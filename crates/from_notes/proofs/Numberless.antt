@@ -5,39 +5,25 @@ use mathlib.Core.List.{List, [], _∷_, map}
 use native.Mathlib.Omega.{arith}
 use lib.ListN.{drop}
 use Rattle.lines.specs.Lines.{linesOf}
-use Rattle.cut_lines.specs.Texts.{Text, plain, change}
+use Rattle.cut_lines.specs.Texts.{Text}
 use Rattle.cut_lines.specs.Cursors.{rest}
 use Rattle.cut_lines.specs.declared.Cursor.{Cursor}
-use Rattle.rules.specs.Reading.{waveformIn}
-use Rattle.rules.specs.Keys.{keyAt}
-use Rattle.layout_by_notes.specs.Lies.{keyEdge, waveformFrom}
 use Rattle.cut_lines.proofs.Renumbered.{textAt, texts-map}
-use Rattle.rules.proofs.Numberless.{Numberless, under-numberless}
-use Rattle.from_notes.specs.Made.{StandsAt, BehindText}
+use Rattle.rules.proofs.Numberless.{Numberless}
+use Rattle.from_notes.specs.Made.{BehindText}
 
 texts-one : (s : List ℕ) (at comment k : ℕ)
     → map (textAt (λ n. n - k + 1)) (rest s (record { at = at; line = k; comment = comment })) ≡ rest s (record { at = at; line = 1; comment = comment })
 unfolding rest
 texts-one s at comment k = texts-map (λ n. n - k + 1) comment k 1 (linesOf (drop at s)) (λ i q. omega arith)
 
-pub stands : {A : Type 0} (g : List Text → A) → Numberless g → {s : List ℕ} {at comment : ℕ} {c : Cursor} → StandsAt s at comment c → (k : ℕ)
-    → g (rest s c) ≡ g (rest s (record { at = at; line = k; comment = comment }))
-stands g n {s} {at} {comment} h k =
-    ap g (h .texts ∙ sym (texts-one s at comment k)) ∙ n (λ n. n - k + 1) (rest s (record { at = at; line = k; comment = comment }))
-
 drop-one : (f : Text → Text) (ts : List Text) → drop 1 (map f ts) ≡ map f (drop 1 ts)
 drop-one f [] = refl
 drop-one f (t ∷ ts) = refl
 
--- behind the first text too
+-- behind the first text
 pub stands-behind : {A : Type 0} (g : List Text → A) → Numberless g → {s : List ℕ} {at comment : ℕ} {c : Cursor} → BehindText s (record { at = at; line = 1; comment = comment }) c → (k : ℕ)
     → g (rest s c) ≡ g (drop 1 (rest s (record { at = at; line = k; comment = comment })))
 stands-behind g n {s} {at} {comment} h k =
     let ts : List Text = rest s (record { at = at; line = k; comment = comment }) in
     ap g (h .texts ∙ ap (drop 1) (sym (texts-one s at comment k)) ∙ drop-one (textAt (λ n. n - k + 1)) ts) ∙ n (λ n. n - k + 1) (drop 1 ts)
-
-pub waveform-numberless : (row : ℕ) → Numberless (waveformFrom row)
-unfolding waveformFrom
-waveform-numberless row f [] = refl
-waveform-numberless row f (plain k w ∷ ts) = ap (waveformIn row (keyEdge (keyAt (plain k w)))) (under-numberless f ts)
-waveform-numberless row f (change k n ∷ ts) = ap (waveformIn row (keyEdge (keyAt (change k n)))) (under-numberless f ts)

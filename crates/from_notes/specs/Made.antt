@@ -1,4 +1,4 @@
--- The records that the notes in a store of words say, one by one, and the rows of its models; for any words.
+-- The records that the notes in a store of words say, one by one, and the waveforms and rows of its models; for any words.
 use Prim.Native.Nat.{ℕ, zero, suc}
 use Prim.Native.Char.{code}
 use mathlib.Core.Path.{_≡_}
@@ -19,8 +19,8 @@ use Rattle.records.specs.declared.Choice.{Choice}
 use Rattle.records.specs.declared.Model.{Model}
 use Rattle.records.specs.declared.Waveform.{Waveform}
 use Rattle.notes.specs.Noted.{Note}
-use Rattle.note_words.specs.Store.{liesAt, sectionAt, rowAt, noteOf, waveAt}
-use Rattle.layout_by_notes.specs.Lies.{componentNoted, pinNoted, selectorNoted, choiceNoted, modelNoted, rowsNoted, waveNoted}
+use Rattle.note_words.specs.Store.{liesAt, sectionAt, rowAt, noteOf}
+use Rattle.layout_by_notes.specs.Lies.{componentNoted, pinNoted, selectorNoted, choiceNoted, modelNoted, waveformsNoted, rowsNoted}
 
 -- ---- note i of a kind
 
@@ -44,13 +44,19 @@ choiceAt s ns i = choiceNoted (noteBy s ns OfChoice i)
 unfoldable pub modelAt : List ℕ → List ℕ → ℕ → Model
 modelAt s ns i = modelNoted (noteBy s ns OfModel i)
 
-unfoldable pub waveformAt : List ℕ → List ℕ → ℕ → Waveform
-waveformAt s ns i = waveNoted (waveAt s ns i)
+-- ---- one after the other
 
--- the rows of the first n models, one after the other
-unfoldable pub rowsAt : List ℕ → List ℕ → ℕ → List Row
-rowsAt s ns zero = []
-rowsAt s ns (suc n) = rowsAt s ns n ++ rowsNoted (noteBy s ns OfModel n)
+-- what f says of the first n
+unfoldable pub joinedTo : {A : Type 0} → (ℕ → List A) → ℕ → List A
+joinedTo f zero = []
+joinedTo f (suc n) = joinedTo f n ++ f n
+
+-- the waveforms and the rows of the first n models
+abbrev pub waveformsAt : List ℕ → List ℕ → ℕ → List Waveform
+waveformsAt s ns n = joinedTo (λ k. waveformsNoted (noteBy s ns OfModel k)) n
+
+abbrev pub rowsAt : List ℕ → List ℕ → ℕ → List Row
+rowsAt s ns n = joinedTo (λ k. rowsNoted (noteBy s ns OfModel k)) n
 
 -- ---- cursors from words
 

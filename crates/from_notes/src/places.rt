@@ -4,7 +4,7 @@ ghost use Prim.Native.Nat.{_+_, _*_, _≤_, _<_};
 ghost use lib.ListN.{getD};
 ghost use Rattle.laws.specs.Lists.{part};
 ghost use Rattle.cut_lines.specs.Cursors.{Placed};
-ghost use Rattle.note_words.specs.Store.{wordsPerSection, wordsPerRow, orderFrom, wordOf, nameOf, sectionAt, waveWord};
+ghost use Rattle.note_words.specs.Store.{wordsPerSection, wordsPerRow, orderFrom, wordOf, nameOf, sectionAt};
 ghost use Rattle.from_notes.specs.Made.{markOf, StandsAt, rowNoted, BehindText, StandsBehind};
 use cut_lines::Cursor;
 use cut_lines::Next;
@@ -13,10 +13,8 @@ use note_words::NAME;
 use note_words::PAIR;
 use note_words::ROW_TEXT;
 use note_words::SECTION_PLACE;
-use note_words::WAVES_FROM;
 use note_words::WORDS_PER_ROW;
 use note_words::WORDS_PER_SECTION;
-use note_words::WORDS_PER_WAVE;
 
 // The word i places behind a place; 0 past the end.
 pub fn word_behind(notes: &[u16], from: usize, i: usize) -> usize
@@ -56,18 +54,8 @@ fn row_word(notes: &[u16], from: usize, i: usize, j: usize) -> usize
     word_behind(notes, from + WORDS_PER_ROW * i, j)
 }
 
-// Word j of the waveform noted at place n.
-pub(crate) fn wave_word(notes: &[u16], n: usize, j: usize) -> usize
-    ensures { λ r. ⌜ r ≡ waveWord (now (notes .entry)) n j ⌝ }
-{
-    if notes.len() / WORDS_PER_WAVE < n {
-        return 0;
-    }
-    word_behind(notes, WAVES_FROM + WORDS_PER_WAVE * n, j)
-}
-
 // The bytes from a up to e; what is not there is left out.
-pub(crate) fn part_of(src: &[u8], a: usize, e: usize) -> &[u8]
+fn part_of(src: &[u8], a: usize, e: usize) -> &[u8]
     ensures { λ r. ⌜ now r ≡ part a e (now (src .entry)) ⌝ }
 {
     if e <= a {
@@ -93,7 +81,7 @@ fn mark_of(word: usize) -> u8
 }
 
 // A cursor at a place, or at the end. Its lines are numbered from 1: no record holds a line's number.
-pub(crate) fn cursor_at(src: &[u8], at: usize, comment: usize) -> Cursor
+fn cursor_at(src: &[u8], at: usize, comment: usize) -> Cursor
     ensures { λ r. ⌜ StandsAt (now (src .entry)) at comment r ⌝ }
 {
     let mark = mark_of(comment);

@@ -1,6 +1,6 @@
 // The records of the lent tables, each by its place in its table.
 ghost use mathlib.Core.Path.{_≡_};
-ghost use Rattle.from_notes.specs.Made.{componentAt, pinAt, selectorAt, choiceAt, modelAt};
+ghost use Rattle.from_notes.specs.Made.{componentAt, pinAt, selectorAt, choiceAt};
 use crate::places::name_noted;
 use crate::places::place_noted;
 use crate::places::row_noted;
@@ -8,14 +8,11 @@ use crate::places::section_noted;
 use crate::places::section_word;
 use note_words::CHOICES_FROM;
 use note_words::COMPONENTS_FROM;
-use note_words::MODELS_FROM;
 use note_words::PINS_FROM;
-use note_words::SECTION_ROW;
 use note_words::SECTION_START;
 use note_words::SELECTORS_FROM;
 use records::Choice;
 use records::Component;
-use records::Model;
 use records::Pin;
 use records::Selector;
 
@@ -49,15 +46,4 @@ pub fn choice_at(src: &[u8], notes: &[u16], i: usize) -> Choice
     ensures { λ r. ⌜ r ≡ choiceAt (now (src .entry)) (now (notes .entry)) i ⌝ }
 {
     component_records::choice_of(row_noted(src, notes, CHOICES_FROM, i))
-}
-
-pub fn model_at(src: &[u8], notes: &[u16], i: usize) -> Model
-    ensures { λ r. ⌜ r ≡ modelAt (now (src .entry)) (now (notes .entry)) i ⌝ }
-{
-    let section = place_noted(notes, MODELS_FROM, i);
-    let row = section_word(notes, MODELS_FROM, i, SECTION_ROW);
-    let start = section_word(notes, MODELS_FROM, i, SECTION_START);
-    let lines = section_noted(src, notes, MODELS_FROM, i);
-    let name = name_noted(src, notes, MODELS_FROM, i);
-    model_record::model_of(src, lines, name, section, row, start)
 }

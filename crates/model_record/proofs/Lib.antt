@@ -3,3 +3,5 @@ pub mod FirstLaws
 pub mod RampLaws
 pub mod BodyLaws
 pub mod Takes
+pub mod Fold
+pub mod Walks

@@ -1,27 +1,39 @@
--- A keyword more: what it gives, where to read on, and the bounds; and the keywords so far with those from here on.
-use Prim.Native.Nat.{ℕ, _+_, _^_, _≤_, _<_}
+-- A keyword more: what it gives, where to read on, and the bounds; and what stands under it: nothing, a current table's rows, or a waveform with its rows.
+use Prim.Native.Nat.{ℕ, _+_, _/_, _^_, _≤_, _<_}
 use mathlib.Core.Path.{_≡_, refl, sym, ap, _∙_, subst}
-use mathlib.Core.List.{List}
-use mathlib.Core.Bool.{false}
-use mathlib.Core.Option.{some}
-use Rattle.laws.specs.Lists.{after, part}
+use mathlib.Core.List.{List, []}
+use mathlib.Core.Bool.{true}
+use native.Mathlib.Omega.{arith}
+use lib.ListN.{length}
+use Rattle.laws.specs.Lists.{after}
+use Rattle.laws.specs.Said.{orElse}
+use Rattle.words.specs.Words.{words}
 use Rattle.keywords.specs.declared.CurrentTable.{CurrentTable}
 use Rattle.keywords.specs.declared.CurrentTable.the-variants.{Pulldown, Pullup, GndClamp, PowerClamp}
 use Rattle.keywords.specs.declared.Keyword.{Keyword}
-use Rattle.keywords.specs.declared.ModelPart.the-variants.{Current}
+use Rattle.keywords.specs.declared.Keyword.the-variants.{InModel}
+use Rattle.keywords.specs.declared.ModelPart.the-variants.{Current, Waveform}
 use Rattle.cut_lines.specs.Cursors.{rest, Placed}
 use Rattle.cut_lines.specs.declared.Cursor.{Cursor}
-use Rattle.rules.specs.Reading.{under, noRamp}
-use Rattle.rules.specs.Keys.{isEnd}
-use Rattle.records.specs.Stored.{noCells}
+use Rattle.line_rules.specs.Fields.{threeCells}
+use Rattle.rules.specs.Reading.{under, noRamp, rampIn, waveformIn}
+use Rattle.records.specs.Stored.{noCells, stored}
+use Rattle.records.specs.declared.Edge.{Edge}
+use Rattle.records.specs.declared.Edge.the-variants.{Rising}
 use Rattle.records.specs.declared.RampTable.{RampTable}
 use Rattle.records.specs.declared.Triple.{Triple}
-use Rattle.lines_under.specs.Under.{isKeyless, KeyIs}
-use Rattle.lines_under.proofs.Keyed.{Follows, follows-key, follows-jump}
+use Rattle.records.specs.declared.Waveform as laidWaveform
+use Rattle.lines_under.specs.Under.{isKeyless}
+use Rattle.lines_under.proofs.Keyed.{keys-stop}
+use Rattle.table_rows.specs.Rows.{rowsAt, FillIs}
+use Rattle.table_rows.specs.Parts.{keyRows}
+use Rattle.table_rows.specs.declared.Filled.{Filled}
+use Rattle.table_rows.proofs.Stores.{stored-length}
+use Rattle.table_rows.proofs.RowWalks.{lies-start}
 use Rattle.model_record.specs.Bodies.{partOn, bodyStep, BodyFits, KeyTaken}
+use Rattle.model_record.specs.Takes.{keyWaveform, alone, withoutWaveform, TakesKey}
 use Rattle.model_record.specs.declared.Body.{Body}
 use Rattle.model_record.specs.declared.Taken.{Taken}
-use Rattle.model_record.proofs.BodyLaws.{body-fold}
 
 -- k is the keyword v, and b' what the code made of it
 pub taken : {s : List ℕ} {b : Body} {c : Cursor} {w : List ℕ} {k : Keyword} (v : Keyword) (b' : Body) (n : Cursor) → k ≡ v
@@ -30,7 +42,7 @@ pub taken : {s : List ℕ} {b : Body} {c : Cursor} {w : List ℕ} {k : Keyword} 
     → after isKeyless (rest s c) ≡ after isKeyless (rest s n)
     → Placed s n
     → c .at ≤ n .at
-    → KeyTaken s b k w c (record { body = b'; next = n })
+    → KeyTaken s b k w c b' n
 taken {s} {b} {c} {w} {k} v b' n q e f keys placed rises =
     record {
       body = e ∙ ap (λ (j : Keyword). bodyStep b j w (under (rest s c))) (sym q);
@@ -54,14 +66,60 @@ module _ (b : Body) (cells : Triple) (ramp : RampTable) (k : ℕ) (n : Cursor) (
   current-fits GndClamp = record { row = h; waveforms = l }
   current-fits PowerClamp = record { row = h; waveforms = l }
 
--- ---- the keywords between c and d made b of b₀
+-- ---- nothing stands under it
 
-pub record Builds (s : List ℕ) (c d : Cursor) (b₀ b : Body) : Type 0 where
-  pub placed : Placed s d
-  pub fits : BodyFits b d
-  pub follows : Follows body-fold s c d b₀ b
+-- k is the keyword v
+pub none-takes : {s : List ℕ} {b : Body} {w : List ℕ} {c : Cursor} {k : Keyword} (v : Keyword) → k ≡ v → (store : List ℕ) {b' : Body} {n : Cursor} → KeyTaken s b v w c b' n
+    → keyRows v (under (rest s c)) ≡ [] → keyWaveform alone v (b .row) (under (rest s c)) ≡ [] → {x : Taken} → x ≡ withoutWaveform b' n 0
+    → TakesKey s b k w c store store x
+unfolding stored
+none-takes {s} {b} {w} {c} v q store t empty none {x} e =
+    let y : stored (keyRows v (under (rest s c))) ≡ [] = ap stored empty in
+    subst (λ (k : Keyword). TakesKey s b k w c store store x) (sym q)
+    (subst (TakesKey s b v w c store store) (sym e) (record { taken = t; rows = rw y (lies-start store); waveform = sym none }))
 
-pub builds-key : {s : List ℕ} {c d : Cursor} {b₀ b : Body} {k : Keyword} {a e : ℕ} {n : Cursor} {r : Taken} → Builds s c d b₀ b → KeyIs s d k a e n
-    → isEnd (some k) ≡ false → KeyTaken s b k (part a e s) n r → Builds s c (r .next) b₀ (r .body)
-builds-key g h q t =
-    record { placed = t .placed; fits = t .fits; follows = follows-jump body-fold (follows-key body-fold (g .follows) h q (t .body)) (t .keys) }
+-- ---- rows stand under it, which r writes
+
+module _ {s : List ℕ} {c : Cursor} {before behind : List ℕ} {r : Filled} (f : FillIs s c before behind r) where
+  -- four words a row
+  pub rows-are : r .words / 4 ≡ length (rowsAt s c)
+  rows-are = omega (arith, f .words, stored-length (rowsAt s c))
+
+  module _ (b : Body) (h : b .row < 2 ^ 63 + c .at) (l : b .waveforms < c .at) (w : List ℕ) where
+    behind-row : b .row + length (rowsAt s c) < 2 ^ 63 + r .next .at
+    behind-row = omega (arith, h, f .bounded)
+
+    abbrev cells : Triple
+    cells = orElse noCells (threeCells (words w))
+
+    abbrev ramp : RampTable
+    ramp = rampIn w (under (rest s c))
+
+    pub current-taken : (t : CurrentTable) (b' : Body) → b' ≡ partOn b (Current t) cells ramp (length (rowsAt s c)) → KeyTaken s b (InModel (Current t)) w c b' (r .next)
+    current-taken t b' e =
+        taken (InModel (Current t)) b' (r .next) refl e (current-fits b cells ramp (length (rowsAt s c)) (r .next) behind-row (omega (arith, l, f .stops .rises)) t)
+        (keys-stop (f .stops)) (f .stops .placed) (f .stops .rises)
+
+    pub wave-taken : (e : Edge) (b' : Body) → b' ≡ partOn b (Waveform e) cells ramp (length (rowsAt s c)) → KeyTaken s b (InModel (Waveform e)) w c b' (r .next)
+    wave-taken e b' i =
+        taken (InModel (Waveform e)) b' (r .next) refl i (record { row = behind-row; waveforms = omega (arith, l, f .stops .rises) })
+        (keys-stop (f .stops)) (f .stops .placed) (f .stops .rises)
+
+    pub current-takes : (t : CurrentTable) (b' : Body) → b' ≡ partOn b (Current t) noCells noRamp (r .words / 4) → {x : Taken} → x ≡ withoutWaveform b' (r .next) (r .words)
+        → TakesKey s b (InModel (Current t)) w c before behind x
+    current-takes t b' i e =
+        subst (TakesKey s b (InModel (Current t)) w c before behind) (sym e)
+        (record {
+          taken = current-taken t b' (i ∙ part-current b cells ramp (r .words / 4) t ∙ ap (partOn b (Current t) cells ramp) rows-are);
+          rows = record { used = f .words; store = f .rows };
+          waveform = refl;
+        })
+
+    pub wave-takes : (e : Edge) (b' : Body) → b' ≡ partOn b (Waveform Rising) noCells noRamp (r .words / 4) → (x : laidWaveform.Waveform) → x ≡ waveformIn (b .row) e (under (rest s c))
+        → TakesKey s b (InModel (Waveform e)) w c before behind (record { body = b'; next = r .next; words = r .words; found = true; waveform = x })
+    wave-takes e b' i x j =
+        record {
+          taken = wave-taken e b' (i ∙ ap (partOn b (Waveform e) cells ramp) rows-are);
+          rows = record { used = f .words; store = f .rows };
+          waveform = ap alone j;
+        }

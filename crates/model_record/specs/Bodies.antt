@@ -34,7 +34,6 @@ use Rattle.lines_under.specs.Under.{isKeyless}
 use Rattle.table_rows.specs.Parts.{isTable}
 use Rattle.model_record.specs.declared.FirstLines.{FirstLines}
 use Rattle.model_record.specs.declared.Body.{Body}
-use Rattle.model_record.specs.declared.Taken.{Taken}
 
 abbrev pub absentTable : Table
 absentTable = record { given = false; rows = record { start = 0; count = 0 } }
@@ -104,13 +103,13 @@ pub record BodyFits (b : Body) (c : Cursor) : Type 0 where
   pub row : b .row < 2 ^ 63 + c .at
   pub waveforms : b .waveforms ≤ c .at
 
--- a keyword behind which c stands was taken, w being its argument; and a place from where the same keywords follow
-pub record KeyTaken (s : List ℕ) (b : Body) (k : Keyword) (w : List ℕ) (c : Cursor) (r : Taken) : Type 0 where
-  pub body : r .body ≡ bodyStep b k w (under (rest s c))
-  pub keys : after isKeyless (rest s c) ≡ after isKeyless (rest s (r .next))
-  pub placed : Placed s (r .next)
-  pub rises : c .at ≤ r .next .at
-  pub fits : BodyFits (r .body) (r .next)
+-- a keyword behind which c stands was taken, w being its argument, and made b' of b; and n is a place from where the same keywords follow
+pub record KeyTaken (s : List ℕ) (b : Body) (k : Keyword) (w : List ℕ) (c : Cursor) (b' : Body) (n : Cursor) : Type 0 where
+  pub body : b' ≡ bodyStep b k w (under (rest s c))
+  pub keys : after isKeyless (rest s c) ≡ after isKeyless (rest s n)
+  pub placed : Placed s n
+  pub rises : c .at ≤ n .at
+  pub fits : BodyFits b' n
 
 -- ---- the whole record
 

@@ -2,3 +2,4 @@
 pub mod Firsts
 pub mod Ramps
 pub mod Bodies
+pub mod Takes

@@ -1,6 +1,8 @@
-// The keywords of a model one after another: its ranges, the places of its tables' rows, its ramp, and how many waveforms it has.
+// The keywords of a model one after another, with the rows under them: its ranges, the places of its tables' rows, its ramp, and its waveforms.
 ghost use mathlib.Core.Path.{_≡_};
-ghost use Prim.Native.Nat.{ℕ, _+_, _^_, _<_};
+ghost use Prim.Native.Nat.{ℕ, _+_, _^_, _≤_, _<_};
+ghost use mathlib.Core.List.{List};
+ghost use lib.ListN.{length};
 ghost use Rattle.laws.specs.Lists.{front};
 ghost use Rattle.laws.specs.Said.{orElse};
 ghost use Rattle.words.specs.Words.{words};
@@ -8,12 +10,15 @@ ghost use Rattle.keywords.specs.declared.Keyword.the-variants.{InModel};
 ghost use Rattle.keywords.specs.declared.ModelPart.the-variants.{VoltageRange, TemperatureRange, Current, Ramp, Waveform};
 ghost use Rattle.cut_lines.specs.Cursors.{rest, Placed};
 ghost use Rattle.line_rules.specs.Fields.{threeCells};
-ghost use Rattle.rules.specs.Reading.{noRamp, isWithin};
-ghost use Rattle.records.specs.Stored.{noCells};
+ghost use Rattle.rules.specs.Reading.{under, noRamp, isWithin};
+ghost use Rattle.records.specs.Stored.{noCells, stored};
 ghost use Rattle.records.specs.declared.Edge.the-variants.{Rising};
 ghost use Rattle.records.specs.declared.RampTable.{RampTable};
 ghost use Rattle.records.specs.declared.Triple.{Triple};
-ghost use Rattle.model_record.specs.Bodies.{absentTable, bareBody, withTable, partOn, bodyOn, KeyTaken};
+ghost use Rattle.table_rows.specs.Rows.{rowsAt};
+ghost use Rattle.table_rows.specs.Parts.{modelWords, keyRows};
+ghost use Rattle.model_record.specs.Bodies.{absentTable, bareBody, withTable, partOn, BodyFits};
+ghost use Rattle.model_record.specs.Takes.{withoutWaveform, TakesKey, TakesKeys};
 use crate::Body;
 use crate::Taken;
 use crate::ramps::no_slopes;
@@ -24,6 +29,7 @@ use keywords::CurrentTable;
 use keywords::Keyword;
 use keywords::ModelPart;
 use lines_under::KeyNext;
+use records::Edge;
 use records::RampTable;
 use records::Range;
 use records::Span;
@@ -159,69 +165,101 @@ pub fn cells_of(argument: &[u8]) -> Triple
     line_cells::triple_is(line_cells::three_cells(argument, 0))
 }
 
-// A keyword of the model with its argument; c stands behind its line.
-fn take_part(b: Body, src: &[u8], c: Cursor, part: ModelPart, argument: &[u8]) -> Taken
+// No waveform is the last.
+pub fn no_waveform(body: Body, next: Cursor, words: usize) -> Taken
+    ensures { λ r. ⌜ r ≡ withoutWaveform body next words ⌝ }
+{
+    Taken {
+        body: body,
+        next: next,
+        words: words,
+        found: false,
+        waveform: table_rows::bare_waveform(Edge::Rising, 0),
+    }
+}
+
+// A current table and its rows; the keyword's argument says nothing.
+fn take_current(rows: &mut [u64], src: &[u8], c: Cursor, b: Body, table: CurrentTable) -> Taken
     requires { ⌜ Placed (now src) c × (b .row < 2 ^ 63 + c .at) × (b .waveforms < c .at) ⌝ }
-    ensures { λ r. ⌜ KeyTaken (now (src .entry)) b (InModel part) (now (argument .entry)) c r ⌝ }
+    requires { ⌜ length (stored (rowsAt (now src) c)) ≤ length (now rows) ⌝ }
+    ensures { λ r. ⌜ ((w : List ℕ) → TakesKey (now (src .entry)) b (InModel (Current table)) w c (now (rows .entry)) (now (rows .exit)) r) ⌝ }
+{
+    let filled = table_rows::fill_table(rows, src, c);
+    let words = filled.words;
+    let next = filled.next;
+    no_waveform(with_current(b, words / 4, table), next, words)
+}
+
+// A waveform with its rows.
+fn take_waveform(rows: &mut [u64], src: &[u8], c: Cursor, b: Body, edge: Edge) -> Taken
+    requires { ⌜ Placed (now src) c × (b .row < 2 ^ 63 + c .at) × (b .waveforms < c .at) ⌝ }
+    requires { ⌜ length (stored (rowsAt (now src) c)) ≤ length (now rows) ⌝ }
+    ensures { λ r. ⌜ ((w : List ℕ) → TakesKey (now (src .entry)) b (InModel (Waveform edge)) w c (now (rows .entry)) (now (rows .exit)) r) ⌝ }
+{
+    let read = table_rows::fill_waveform(rows, src, c, edge, b.row);
+    let words = read.filled.words;
+    let next = read.filled.next;
+    let waveform = read.waveform;
+    Taken {
+        body: with_waveform(b, words / 4),
+        next: next,
+        words: words,
+        found: true,
+        waveform: waveform,
+    }
+}
+
+// A keyword of the model with its argument; c stands behind its line.
+fn take_part(
+    rows: &mut [u64],
+    src: &[u8],
+    c: Cursor,
+    b: Body,
+    part: ModelPart,
+    argument: &[u8],
+) -> Taken
+    requires { ⌜ Placed (now src) c × (b .row < 2 ^ 63 + c .at) × (b .waveforms < c .at) ⌝ }
+    requires { ⌜ length (stored (keyRows (InModel part) (under (rest (now src) c)))) ≤ length (now rows) ⌝ }
+    ensures { λ r. ⌜ TakesKey (now (src .entry)) b (InModel part) (now (argument .entry)) c (now (rows .entry)) (now (rows .exit)) r ⌝ }
 {
     match part {
-        ModelPart::VoltageRange => Taken {
-            body: with_voltage(b, cells_of(argument)),
-            next: c,
-        },
-        ModelPart::TemperatureRange => Taken {
-            body: with_temperature(b, cells_of(argument)),
-            next: c,
-        },
-        ModelPart::Current(table) => {
-            let counted = table_rows::count_rows(src, c);
-            let next = counted.next;
-            Taken {
-                body: with_current(b, counted.count, table),
-                next: next,
-            }
-        }
+        ModelPart::VoltageRange => no_waveform(with_voltage(b, cells_of(argument)), c, 0),
+        ModelPart::TemperatureRange => no_waveform(with_temperature(b, cells_of(argument)), c, 0),
+        ModelPart::Current(table) => take_current(rows, src, c, b, table),
         ModelPart::Ramp => {
             let read = ramp_lines(src, c);
             let next = read.next;
-            Taken {
-                body: with_ramp(b, read.ramp),
-                next: next,
-            }
+            no_waveform(with_ramp(b, read.ramp), next, 0)
         }
-        ModelPart::Waveform(_) => {
-            let counted = table_rows::count_rows(src, c);
-            let next = counted.next;
-            Taken {
-                body: with_waveform(b, counted.count),
-                next: next,
-            }
-        }
+        ModelPart::Waveform(edge) => take_waveform(rows, src, c, b, edge),
     }
 }
 
 // A keyword of another section changes nothing.
-fn take_key(b: Body, src: &[u8], c: Cursor, k: Keyword, argument: &[u8]) -> Taken
+fn take_key(rows: &mut [u64], src: &[u8], c: Cursor, b: Body, k: Keyword, argument: &[u8]) -> Taken
     requires { ⌜ Placed (now src) c × (b .row < 2 ^ 63 + c .at) × (b .waveforms < c .at) ⌝ }
-    ensures { λ r. ⌜ KeyTaken (now (src .entry)) b k (now (argument .entry)) c r ⌝ }
+    requires { ⌜ length (stored (keyRows k (under (rest (now src) c)))) ≤ length (now rows) ⌝ }
+    ensures { λ r. ⌜ TakesKey (now (src .entry)) b k (now (argument .entry)) c (now (rows .entry)) (now (rows .exit)) r ⌝ }
 {
     match k {
-        Keyword::InModel(part) => take_part(b, src, c, part, argument),
-        Keyword::IbisVer => Taken { body: b, next: c },
-        Keyword::InHeader(_) => Taken { body: b, next: c },
-        Keyword::Opens(_) => Taken { body: b, next: c },
-        Keyword::InComponent(_) => Taken { body: b, next: c },
-        Keyword::End => Taken { body: b, next: c },
+        Keyword::InModel(part) => take_part(rows, src, c, b, part, argument),
+        Keyword::IbisVer => no_waveform(b, c, 0),
+        Keyword::InHeader(_) => no_waveform(b, c, 0),
+        Keyword::Opens(_) => no_waveform(b, c, 0),
+        Keyword::InComponent(_) => no_waveform(b, c, 0),
+        Keyword::End => no_waveform(b, c, 0),
     }
 }
 
-// What the keywords from a cursor on say, up to the end of the section; row is the place of the first row.
-pub(crate) fn body_of(src: &[u8], c: Cursor, row: usize) -> Body
-    requires { ⌜ Placed (now src) c × (row < 2 ^ 63) ⌝ }
-    ensures { λ r. ⌜ r ≡ bodyOn (bareBody row) (front isWithin (rest (now (src .entry)) c)) ⌝ }
+// The keywords from a cursor on, up to a waveform or to the end of the section; their rows are written at the front of the row store.
+pub fn take_keys(rows: &mut [u64], src: &[u8], c: Cursor, b: Body) -> Taken
+    requires { ⌜ Placed (now src) c × BodyFits b c ⌝ }
+    requires { ⌜ length (modelWords (front isWithin (rest (now src) c))) ≤ length (now rows) ⌝ }
+    ensures { λ r. ⌜ TakesKeys (now (src .entry)) b c (now (rows .entry)) (now (rows .exit)) r ⌝ }
 {
-    let mut b = bare_body(row);
+    let mut body = b;
     let mut d = c;
+    let mut words: usize = 0;
     loop {
         match lines_under::next_key(src, d) {
             KeyNext::Key {
@@ -231,14 +269,32 @@ pub(crate) fn body_of(src: &[u8], c: Cursor, row: usize) -> Body
                 next,
             } => {
                 if lines_under::ends(keyword) {
-                    return b;
+                    return no_waveform(body, d, words);
                 }
-                let taken = take_key(b, src, next, keyword, &src[start..end]);
-                b = taken.body;
+                let taken = take_key(
+                    &mut rows[words..],
+                    src,
+                    next,
+                    body,
+                    keyword,
+                    &src[start..end],
+                );
+                body = taken.body;
                 d = taken.next;
+                words += taken.words;
+                if taken.found {
+                    let waveform = taken.waveform;
+                    return Taken {
+                        body: body,
+                        next: d,
+                        words: words,
+                        found: true,
+                        waveform: waveform,
+                    };
+                }
             }
             KeyNext::NoKey => {
-                return b;
+                return no_waveform(body, d, words);
             }
         }
     }

@@ -7,7 +7,7 @@ ghost use Rattle.cut_lines.specs.Cursors.{Placed};
 ghost use Rattle.line_rules.specs.Fields.{wordLine, cellsLine};
 ghost use Rattle.line_rules.specs.Tables.{polarities, enables};
 ghost use Rattle.rules.specs.Reading.{noSplit};
-ghost use Rattle.model_record.specs.Firsts.{bareMarks, bareLevels, marksAt, groupAt, splitAt, levelsAt, levelsOf, FirstReadIs};
+ghost use Rattle.model_record.specs.Firsts.{bareMarks, bareLevels, bareLines, marksAt, groupAt, splitAt, levelsAt, levelsOf, FirstReadIs};
 use crate::FirstLines;
 use crate::FirstRead;
 use crate::Levels;
@@ -164,6 +164,18 @@ fn no_levels() -> Levels
 }
 
 // ---- the lines
+
+// Before the first line.
+pub fn bare_lines() -> FirstLines
+    ensures { λ r. ⌜ r ≡ bareLines ⌝ }
+{
+    FirstLines {
+        marks: no_marks(),
+        comp: records::no_cells(),
+        split: no_split(),
+        levels: no_levels(),
+    }
+}
 
 // The first lines of the model behind whose keyword a cursor stands. They are held in four parts: a line is copied into its own only.
 pub fn first_lines(src: &[u8], c: Cursor) -> FirstRead

@@ -1,4 +1,4 @@
-// The record of a model: its first lines, then its keywords, with the place of each table's rows in the row store.
+// The record of a model: its first lines, then its keywords, whose rows are written into the row store, up to each waveform.
 use cut_lines::Cursor;
 use decimal::Cell;
 use records::Enable;
@@ -9,13 +9,12 @@ use records::Range;
 use records::Split;
 use records::Table;
 use records::Triple;
+use records::Waveform;
 
 pub mod firsts; // firsts.rt: a model's first lines
 pub mod ramps; // ramps.rt: the lines of [Ramp]
 pub mod bodies; // bodies.rt: the keywords of a model, one after another
 pub mod record; // record.rt: the whole record
-
-pub use record::model_of;
 
 // What the first lines say with a word,
 pub struct Marks {
@@ -67,8 +66,12 @@ pub struct Body {
     pub row: usize,
 }
 
-// What the keywords say with one more, and where to read on.
+// What the keywords say with one more, or with all up to a waveform: how many words their rows took, where to read on, and whether the last is a
+// waveform; then this is its record.
 pub struct Taken {
     pub body: Body,
     pub next: Cursor,
+    pub words: usize,
+    pub found: bool,
+    pub waveform: Waveform,
 }

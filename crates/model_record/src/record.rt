@@ -1,19 +1,10 @@
 // The whole record of a model.
 ghost use mathlib.Core.Path.{_≡_};
-ghost use Prim.Native.Nat.{_^_, _<_};
-ghost use lib.ListN.{length};
-ghost use Rattle.laws.specs.Lists.{front};
-ghost use Rattle.cut_lines.specs.Cursors.{rest, Placed};
-ghost use Rattle.rules.specs.Reading.{isWithin, tablesIn, modelIn};
-ghost use Rattle.layout.specs.Laid.{tableAt, waveformsLaid};
 ghost use Rattle.model_record.specs.Firsts.{defaulted};
 ghost use Rattle.model_record.specs.Bodies.{modelOver};
 use crate::Body;
 use crate::FirstLines;
-use crate::bodies::body_of;
-use crate::firsts::first_lines;
 use crate::firsts::with_defaults;
-use cut_lines::Cursor;
 use records::Model;
 use records::Name;
 use records::Span;
@@ -68,24 +59,4 @@ pub fn model_over(section: usize, start: usize, name: Name, lines: FirstLines, b
             count: b.waveforms,
         },
     }
-}
-
-// The model whose name was read and behind whose keyword line a cursor stands; row and start are the places of its first row and
-// waveform.
-pub fn model_of(
-    src: &[u8],
-    c: Cursor,
-    name: &[u8],
-    section: usize,
-    row: usize,
-    start: usize,
-) -> Model
-    requires { ⌜ Placed (now src) c × (row < 2 ^ 63) ⌝ }
-    ensures { λ r. ⌜ r ≡ modelIn section (tableAt (tablesIn (front isWithin (rest (now (src .entry)) c))) row) (record { start = start; count = length (waveformsLaid (tablesIn (front isWithin (rest (now (src .entry)) c))) row) }) (now (name .entry)) (front isWithin (rest (now (src .entry)) c)) ⌝ }
-{
-    let first = first_lines(src, c);
-    let lines = first.lines;
-    let next = first.next;
-    let b = body_of(src, next, row);
-    model_over(section, start, records::name_of(name), lines, b)
 }

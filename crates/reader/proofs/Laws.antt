@@ -1,13 +1,13 @@
 -- What the notes of a reading give: the counts fit into the lent tables, and the fills leave what is promised. By whether the file is accepted.
-use Prim.Native.Nat.{ℕ, _+_, _*_, _≤_, zero-le}
-use mathlib.Core.Path.{_≡_, refl, sym, ap, _∙_, subst}
-use mathlib.Core.List.{List, []}
+use Prim.Native.Nat.{ℕ, _≤_, zero-le}
+use mathlib.Core.Path.{_≡_, refl, sym, ap, subst}
+use mathlib.Core.List.{List}
 use native.Mathlib.Omega.{arith}
 use native.Mathlib.Nat.{le-refl}
 use lib.ListN.{length, replicate, length-replicate}
 use Rattle.table_walks.specs.Filled.{filledTo}
 use Rattle.rules.specs.Reading.{fileIn}
-use Rattle.layout.specs.Laid.{tables, laid, countsOf}
+use Rattle.layout.specs.Laid.{tables, countsOf}
 use Rattle.records.specs.Stored.{stored, over}
 use Rattle.rules.specs.Whole.{Outcome, passed, refused, outcome, textsOf}
 use Rattle.records.specs.declared.Lengths.{Lengths}
@@ -20,27 +20,31 @@ use Rattle.records.specs.declared.Waveform.{Waveform}
 use Rattle.records.specs.declared.Counts.{Counts}
 use Rattle.notes.specs.Noted.{nothingUsed}
 use Rattle.note_words.specs.Store.{storeLength}
-use Rattle.from_notes.specs.Made.{componentAt, pinAt, selectorAt, choiceAt, modelAt, waveformAt, rowsAt}
+use Rattle.from_notes.specs.Made.{componentAt, pinAt, selectorAt, choiceAt, modelAt, joinedTo, waveformsAt, rowsAt}
 use Rattle.file_answer.specs.Answered.{answerFor, answerOf}
 use Rattle.file_answer.specs.Sorted.{Sorted, SortedFor, Outlines}
 use Rattle.records.specs.declared.Answer.{Answer}
-use Rattle.reader.specs.Promise.{lengthsIn, left, Read}
-use Rattle.reader.specs.Filling.{rowsFit, rowsFilled, blankNotes}
+use Rattle.reader.specs.Promise.{lengthsIn, Read}
+use Rattle.reader.specs.Filling.{ModelsFit, ModelsFilled, blankNotes}
 use Rattle.file_answer.proofs.Made.{file, fit, components-made, pins-made, selectors-made, choices-made, models-made, waveforms-made, rows-made, rows-fit}
 use Rattle.reader.proofs.Tables.{over-filled}
 
 abbrev FitsBy : List ℕ → List ℕ → Counts → List Component → List Pin → List Selector → List Choice → List Model → List Waveform → List ℕ → Type 0
 FitsBy s ns o cs ps ss hs ms ws rs =
-    (o .components ≤ length cs) × ((o .pins ≤ length ps) × ((o .selectors ≤ length ss) × ((o .choices ≤ length hs) × ((o .models ≤ length ms) × ((o .waveforms ≤ length ws) × rowsFit s ns o rs)))))
+    (o .components ≤ length cs) × ((o .pins ≤ length ps) × ((o .selectors ≤ length ss) × ((o .choices ≤ length hs) × (ModelsFit s ns o ms ws rs))))
 
--- no rows
-none-fit : (s ns rs : List ℕ) → rowsFit s ns nothingUsed rs
-unfolding rowsFit rowsAt stored
-none-fit s ns rs = zero-le
+-- nothing is asked where nothing is used, and nothing changes
+none-fit : (s ns : List ℕ) (ms : List Model) (ws : List Waveform) (rs : List ℕ) → ModelsFit s ns nothingUsed ms ws rs
+unfolding joinedTo stored
+none-fit s ns ms ws rs = record { models = zero-le; waveforms = zero-le; rows = zero-le }
 
-none-filled : (s ns rs : List ℕ) → rowsFilled s ns nothingUsed rs ≡ rs
-unfolding rowsFilled rowsAt stored over
-none-filled s ns rs = refl
+none-waveforms : (s ns : List ℕ) (ws : List Waveform) → over ws (waveformsAt s ns 0) ≡ ws
+unfolding joinedTo over
+none-waveforms s ns ws = refl
+
+none-rows : (s ns rs : List ℕ) → over rs (stored (rowsAt s ns 0)) ≡ rs
+unfolding joinedTo stored over
+none-rows s ns rs = refl
 
 module _ (s : List ℕ) (cs : List Component) (ps : List Pin) (ss : List Selector) (hs : List Choice) (ms : List Model) (ws : List Waveform) (rs : List ℕ) where
   abbrev l : Lengths
@@ -50,22 +54,21 @@ module _ (s : List ℕ) (cs : List Component) (ps : List Pin) (ss : List Selecto
 
   module _ (ns : List ℕ) (sorted : Sorted l s ns) where
     fits-whole : FitsBy s ns (countsOf (file l s ns sorted)) cs ps ss hs ms ws rs
-    unfolding rowsFit
     fits-whole =
         let f = fit l s ns sorted in
-        (f .components, (f .pins, (f .selectors, (f .choices, (f .models, (f .waveforms, rows-fit l s ns sorted rs refl))))))
+        (f .components, (f .pins, (f .selectors, (f .choices, record { models = f .models; waveforms = omega (arith, f .waveforms, ap length (waveforms-made l s ns sorted)); rows = rows-fit l s ns sorted rs refl }))))
 
   fits-for : (ns : List ℕ) (o : Outcome) → SortedFor l s ns o → FitsBy s ns (answerFor (fileIn (textsOf s)) o .counts) cs ps ss hs ms ws rs
   fits-for ns (passed h) sorted = fits-whole ns sorted
-  fits-for ns (refused n k) u = (zero-le, (zero-le, (zero-le, (zero-le, (zero-le, (zero-le, none-fit s ns rs))))))
+  fits-for ns (refused n k) u = (zero-le, (zero-le, (zero-le, (zero-le, none-fit s ns ms ws rs))))
 
   abbrev LeftBy : List ℕ → Answer → Type 0
   LeftBy n a =
       Read s cs ps ss hs ms ws rs a (filledTo (λ k. componentAt s n k) (a .counts .components) cs) (filledTo (λ k. pinAt s n k) (a .counts .pins) ps) (filledTo (λ k. selectorAt s n k) (a .counts .selectors) ss)
-      (filledTo (λ k. choiceAt s n k) (a .counts .choices) hs) (filledTo (λ k. modelAt s n k) (a .counts .models) ms) (filledTo (λ k. waveformAt s n k) (a .counts .waveforms) ws) (rowsFilled s n (a .counts) rs)
+      (filledTo (λ k. choiceAt s n k) (a .counts .choices) hs) (filledTo (λ k. modelAt s n k) (a .counts .models) ms) (over ws (waveformsAt s n (a .counts .models))) (over rs (stored (rowsAt s n (a .counts .models))))
 
   left-whole : (ns : List ℕ) (h : _) → outcome l s ≡ passed h → Sorted l s ns → LeftBy ns (answerOf l s)
-  unfolding answerOf rowsFilled
+  unfolding answerOf
   left-whole ns h is sorted =
       let f = fit l s ns sorted in
       rw is
@@ -78,14 +81,14 @@ module _ (s : List ℕ) (cs : List Component) (ps : List Pin) (ss : List Selecto
             rw (over-filled (selectorAt s ns) _ ss (selectors-made l s ns sorted) (f .selectors))
             rw (over-filled (choiceAt s ns) _ hs (choices-made l s ns sorted) (f .choices))
             rw (over-filled (modelAt s ns) _ ms (models-made l s ns sorted) (f .models))
-            rw (over-filled (waveformAt s ns) _ ws (waveforms-made l s ns sorted) (f .waveforms))
+            rw (waveforms-made l s ns sorted)
             rw (rows-made l s ns sorted) refl;
       }
 
   left-none : (ns : List ℕ) (n k : ℕ) → outcome l s ≡ refused n k → LeftBy ns (answerOf l s)
   unfolding answerOf
   left-none ns n k is =
-      rw is record { answer = sym (ap (answerFor (fileIn (textsOf s))) is); tables = rw is rw (none-filled s ns rs) refl }
+      rw is record { answer = sym (ap (answerFor (fileIn (textsOf s))) is); tables = rw is rw (none-waveforms s ns ws) rw (none-rows s ns rs) refl }
 
   left-for : (ns : List ℕ) (o : Outcome) → outcome l s ≡ o → SortedFor l s ns o → LeftBy ns (answerOf l s)
   left-for ns (passed h) is sorted = left-whole ns h is sorted
@@ -96,8 +99,13 @@ module _ (s : List ℕ) (cs : List Component) (ps : List Pin) (ss : List Selecto
     unfolding answerOf
     fits = subst (λ (z : Answer). FitsBy s ns (z .counts) cs ps ss hs ms ws rs) (sym (said .answer)) (fits-for ns (outcome l s) (said .sorted))
 
-    pub finishes : LeftBy ns r
-    finishes = subst (LeftBy ns) (sym (said .answer)) (left-for ns (outcome l s) refl (said .sorted))
+    finished : LeftBy ns r
+    finished = subst (LeftBy ns) (sym (said .answer)) (left-for ns (outcome l s) refl (said .sorted))
+
+    pub finishes : (ms′ : List Model) (ws′ : List Waveform) (rs′ : List ℕ) → ModelsFilled s ns (r .counts) ms ws rs ms′ ws′ rs′
+        → Read s cs ps ss hs ms ws rs r (filledTo (λ k. componentAt s ns k) (r .counts .components) cs) (filledTo (λ k. pinAt s ns k) (r .counts .pins) ps) (filledTo (λ k. selectorAt s ns k) (r .counts .selectors) ss)
+        (filledTo (λ k. choiceAt s ns k) (r .counts .choices) hs) ms′ ws′ rs′
+    finishes ms′ ws′ rs′ f = rw (f .models, f .waveforms, f .rows) finished
 
 pub blank-is : blankNotes ≡ replicate storeLength 0
 unfolding blankNotes

@@ -1,5 +1,5 @@
 -- A table filled record by record holds the new records, and then what stood behind.
-use Prim.Native.Nat.{ℕ, zero, suc, _≤_}
+use Prim.Native.Nat.{ℕ, zero, suc, _≤_, _<_}
 use mathlib.Core.Path.{_≡_, refl, sym, ap, _∙_}
 use mathlib.Core.List.{List, [], _∷_, _++_, append-assoc}
 use native.Mathlib.Omega.{arith}
@@ -21,3 +21,11 @@ filled-upTo f (suc n) xs h =
 pub over-filled : {A : Type 0} (f : ℕ → A) (new table : List A) → new ≡ upTo f (length new) → length new ≤ length table → filledTo f (length new) table ≡ over table new
 unfolding over
 over-filled f new table e h = filled-upTo f (length new) table h ∙ ap (λ (l : List _). l ++ drop (length new) table) (sym e)
+
+-- a record more behind the new ones
+pub over-put : {A : Type 0} (new table : List A) (x : A) → length new < length table → set (over table new) (length new) x ≡ over table (new ++ (x ∷ []))
+unfolding over
+over-put [] [] x h = absurd (omega arith)
+over-put [] (y ∷ table) x h = refl
+over-put (a ∷ new) [] x h = absurd (omega arith)
+over-put (a ∷ new) (y ∷ table) x h = ap (λ (l : List _). a ∷ l) (over-put new table x (omega (arith, h)))

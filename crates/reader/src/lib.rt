@@ -3,8 +3,8 @@ ghost use mathlib.Core.Path.{_≡_};
 ghost use Prim.Native.Nat.{_<_, _≤_};
 ghost use lib.ListN.{length, set};
 ghost use Rattle.table_walks.specs.Filled.{filledTo};
-ghost use Rattle.from_notes.specs.Made.{componentAt, pinAt, selectorAt, choiceAt, modelAt, waveformAt};
-ghost use Rattle.reader.specs.Filling.{rowsFit, rowsFilled};
+ghost use Rattle.from_notes.specs.Made.{componentAt, pinAt, selectorAt, choiceAt};
+ghost use Rattle.reader.specs.Filling.{ModelsFit, ModelsFilled};
 ghost use Rattle.reader.specs.Promise.{lengthsOf, Read};
 pub use file_answer::check;
 use note_words::STORE_LENGTH;
@@ -76,12 +76,6 @@ fn model_count(o: Counts) -> usize
     ensures { λ r. ⌜ r ≡ o .models ⌝ }
 {
     o.models
-}
-
-fn waveform_count(o: Counts) -> usize
-    ensures { λ r. ⌜ r ≡ o .waveforms ⌝ }
-{
-    o.waveforms
 }
 
 // ---- a put and a fill for each table of records
@@ -180,38 +174,34 @@ fn fill_choices(choices: &mut [Choice], src: &[u8], notes: &[u16], o: Counts)
     }
 }
 
-fn fill_models(models: &mut [Model], src: &[u8], notes: &[u16], o: Counts)
-    requires { ⌜ o .models ≤ length (now models) ⌝ }
-    ensures { λ _. ⌜ now (models .exit) ≡ filledTo (λ k. modelAt (now (src .entry)) (now (notes .entry)) k) (o .models) (now (models .entry)) ⌝ }
+// The models one after the other, each behind its waveforms; and their rows.
+fn fill_models(
+    models: &mut [Model],
+    waveforms: &mut [Waveform],
+    rows: &mut [u64],
+    src: &[u8],
+    notes: &[u16],
+    o: Counts,
+)
+    requires { ⌜ ModelsFit (now src) (now notes) o (now models) (now waveforms) (now rows) ⌝ }
+    ensures { λ _. ⌜ ModelsFilled (now (src .entry)) (now (notes .entry)) o (now (models .entry)) (now (waveforms .entry)) (now (rows .entry)) (now (models .exit)) (now (waveforms .exit)) (now (rows .exit)) ⌝ }
 {
     let n = model_count(o);
     let mut i = 0;
+    let mut k = 0;
+    let mut p = from_notes::no_record();
     while i < n {
-        let model = from_notes::model_at(src, notes, i);
-        put_model(models, i, model);
-        i += 1;
+        p = from_notes::next_record(rows, src, notes, p, i);
+        if from_notes::is_waveform(p) {
+            let waveform = from_notes::waveform_made(p);
+            put_waveform(waveforms, k, waveform);
+            k += 1;
+        } else {
+            let model = from_notes::model_made(src, notes, p, i);
+            put_model(models, i, model);
+            i += 1;
+        }
     }
-}
-
-fn fill_waveforms(waveforms: &mut [Waveform], src: &[u8], notes: &[u16], o: Counts)
-    requires { ⌜ o .waveforms ≤ length (now waveforms) ⌝ }
-    ensures { λ _. ⌜ now (waveforms .exit) ≡ filledTo (λ k. waveformAt (now (src .entry)) (now (notes .entry)) k) (o .waveforms) (now (waveforms .entry)) ⌝ }
-{
-    let n = waveform_count(o);
-    let mut i = 0;
-    while i < n {
-        let waveform = from_notes::waveform_at(src, notes, i);
-        put_waveform(waveforms, i, waveform);
-        i += 1;
-    }
-}
-
-// The rows of all models, one after the other.
-fn fill_rows(rows: &mut [u64], src: &[u8], notes: &[u16], o: Counts)
-    requires { ⌜ rowsFit (now src) (now notes) o (now rows) ⌝ }
-    ensures { λ _. ⌜ now (rows .exit) ≡ rowsFilled (now (src .entry)) (now (notes .entry)) o (now (rows .entry)) ⌝ }
-{
-    from_notes::fill_rows(rows, src, notes, o.models);
 }
 
 // Reads a file into the lent tables.
@@ -243,8 +233,6 @@ pub fn read(
     fill_pins(pins, src, &notes, o);
     fill_selectors(selectors, src, &notes, o);
     fill_choices(choices, src, &notes, o);
-    fill_models(models, src, &notes, o);
-    fill_waveforms(waveforms, src, &notes, o);
-    fill_rows(rows, src, &notes, o);
+    fill_models(models, waveforms, rows, src, &notes, o);
     a
 }

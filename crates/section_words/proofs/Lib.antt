@@ -2,7 +2,6 @@
 pub mod Laws
 pub mod Turns
 pub mod Written
-pub mod Fold
 pub mod Walks
 pub mod Fills
 pub mod Counted

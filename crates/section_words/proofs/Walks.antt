@@ -16,16 +16,17 @@ use Rattle.rules.specs.Reading.{under, isWithin}
 use Rattle.rules.specs.Keys.{isEnd}
 use Rattle.lines_under.specs.Under.{isKeyless, StopsAt, KeyIs}
 use Rattle.lines_under.proofs.Keyed.{keys-stop, Follows, follows-start, follows-key, follows-jump, follows-end, follows-out}
+use Rattle.record_words.specs.Records.{waveformWords}
 use Rattle.table_rows.specs.Rows.{Lies}
-use Rattle.table_rows.proofs.RowWalks.{lies-start, lies-length, lies-fit, lies-more}
+use Rattle.table_rows.proofs.RowWalks.{lies-start, lies-length, lies-fit, lies-put}
 use Rattle.model_record.specs.Bodies.{bareBody, bodyStep, bodyOn, BodyFits}
 use Rattle.model_record.specs.declared.Body.{Body}
+use Rattle.model_record.proofs.Fold.{Filling, fillOn, fillStep, fill-fold}
 use Rattle.section_words.specs.Models.{waveformUnder, rowsUnder, KeyFills, waveformsBehind, rowsBehind}
 use Rattle.section_words.specs.declared.KeyFilled.{KeyFilled}
-use Rattle.section_words.proofs.Fold.{Filling, fillOn, fillStep, fill-fold}
 
 -- before the first keyword; row is the place of the first row
-abbrev bare : ℕ → Filling
+abbrev bare : ℕ → Filling ℕ
 bare row = record { body = bareBody row; waves = []; rows = [] }
 
 pub record Walks (s : List ℕ) (c d : Cursor) (row : ℕ) (b : Body) (waves₀ waves : List ℕ) (n : ℕ) (store₀ store : List ℕ) (m : ℕ) : Type 0 where
@@ -33,7 +34,7 @@ pub record Walks (s : List ℕ) (c d : Cursor) (row : ℕ) (b : Body) (waves₀ 
   pub fits : BodyFits b d
   pub waved : List ℕ
   pub rowed : List ℕ
-  pub follows : Follows fill-fold s c d (bare row) (record { body = b; waves = waved; rows = rowed })
+  pub follows : Follows (fill-fold waveformWords) s c d (bare row) (record { body = b; waves = waved; rows = rowed })
   pub waves-lie : Lies waves₀ waves n waved
   pub rows-lie : Lies store₀ store m rowed
 
@@ -44,26 +45,19 @@ walks-start s c row waves store h l =
       fits = record { row = omega (arith, l); waveforms = omega arith };
       waved = [];
       rowed = [];
-      follows = follows-start fill-fold s c (bare row);
+      follows = follows-start (fill-fold waveformWords) s c (bare row);
       waves-lie = lies-start waves;
       rows-lie = lies-start store;
     }
-
--- what is written is put back into the whole table
-lies-put : {before now : List ℕ} {used : ℕ} {written all : List ℕ} → Lies before now used written → length all ≤ length before
-    → (v ahead : List ℕ) → all ≡ (written ++ v) ++ ahead
-    → {mid mid' : List ℕ} {n : ℕ} → mid ≡ midOf used (length now - used) now → Lies mid mid' n v
-    → Lies before (putMid used (length now - used) now mid') (used + n) (written ++ v)
-lies-put p h v ahead e i t = rw (t .used, t .store, i) (lies-more p h v ahead e)
 
 module _ {s : List ℕ} {c d : Cursor} {row : ℕ} {b : Body} {waves₀ waves : List ℕ} {n : ℕ} {store₀ store : List ℕ} {m : ℕ}
     (p : Walks s c d row b waves₀ waves n store₀ store m)
     (h : length (waveformsBehind row (rest s c)) ≤ length waves₀) (g : length (rowsBehind (rest s c)) ≤ length store₀) where
   pub waves-length : length waves ≡ length waves₀
-  waves-length = lies-length (p .waves-lie) h (waveformsBehind (b .row) (rest s d)) (ap (λ (x : Filling). x .waves) (p .follows .same))
+  waves-length = lies-length (p .waves-lie) h (waveformsBehind (b .row) (rest s d)) (ap (λ (x : Filling ℕ). x .waves) (p .follows .same))
 
   pub rows-length : length store ≡ length store₀
-  rows-length = lies-length (p .rows-lie) g (rowsBehind (rest s d)) (ap (λ (x : Filling). x .rows) (p .follows .same))
+  rows-length = lies-length (p .rows-lie) g (rowsBehind (rest s d)) (ap (λ (x : Filling ℕ). x .rows) (p .follows .same))
 
   module _ {k : Keyword} {a e : ℕ} {o : Cursor} (l : KeyIs s d k a e o) (q : isEnd (some k) ≡ false) where
     abbrev wave : List ℕ
@@ -76,14 +70,14 @@ module _ {s : List ℕ} {c d : Cursor} {row : ℕ} {b : Body} {waves₀ waves : 
     abbrev later : List ℕ
     later = waveformsBehind (bodyStep b k (part a e s) (under (rest s o)) .row) (rest s o)
 
-    with-key : Follows fill-fold s c o (bare row) (fillStep (record { body = b; waves = p .waved; rows = p .rowed }) k (part a e s) (under (rest s o)))
-    with-key = follows-key fill-fold (p .follows) l q refl
+    with-key : Follows (fill-fold waveformWords) s c o (bare row) (fillStep waveformWords (record { body = b; waves = p .waved; rows = p .rowed }) k (part a e s) (under (rest s o)))
+    with-key = follows-key (fill-fold waveformWords) (p .follows) l q refl
 
     waves-all : waveformsBehind row (rest s c) ≡ (p .waved ++ wave) ++ later
-    waves-all = ap (λ (x : Filling). x .waves) (with-key .same)
+    waves-all = ap (λ (x : Filling ℕ). x .waves) (with-key .same)
 
     rows-all : rowsBehind (rest s c) ≡ (p .rowed ++ rows) ++ rowsBehind (rest s o)
-    rows-all = ap (λ (x : Filling). x .rows) (with-key .same)
+    rows-all = ap (λ (x : Filling ℕ). x .rows) (with-key .same)
 
     pub waves-fit : n + length wave ≤ length waves
     waves-fit = lies-fit (p .waves-lie) h wave later waves-all
@@ -103,7 +97,7 @@ module _ {s : List ℕ} {c d : Cursor} {row : ℕ} {b : Body} {waves₀ waves : 
           fits = t .taken .fits;
           waved = p .waved ++ wave;
           rowed = p .rowed ++ rows;
-          follows = follows-jump fill-fold with-key (t .taken .keys);
+          follows = follows-jump (fill-fold waveformWords) with-key (t .taken .keys);
           waves-lie = lies-put (p .waves-lie) h wave later waves-all i (t .waveform);
           rows-lie = lies-put (p .rows-lie) g rows (rowsBehind (rest s o)) rows-all j (t .rows);
         }
@@ -119,30 +113,30 @@ module _ {s : List ℕ} {c d : Cursor} {row : ℕ} {b : Body} {waves₀ waves : 
   abbrev All : Type 0
   All = Whole (rest s c) row b waves₀ waves n store₀ store m
 
-  whole : record { body = b; waves = p .waved; rows = p .rowed } ≡ fillOn (bare row) (front isWithin (rest s c)) → All
+  whole : record { body = b; waves = p .waved; rows = p .rowed } ≡ fillOn waveformWords (bare row) (front isWithin (rest s c)) → All
   whole e =
       record {
-        body = ap (λ (x : Filling). x .body) e;
-        waveforms = subst (Lies waves₀ waves n) (ap (λ (x : Filling). x .waves) e) (p .waves-lie);
-        rows = subst (Lies store₀ store m) (ap (λ (x : Filling). x .rows) e) (p .rows-lie);
+        body = ap (λ (x : Filling ℕ). x .body) e;
+        waveforms = subst (Lies waves₀ waves n) (ap (λ (x : Filling ℕ). x .waves) e) (p .waves-lie);
+        rows = subst (Lies store₀ store m) (ap (λ (x : Filling ℕ). x .rows) e) (p .rows-lie);
       }
 
   pub walks-end : {k : Keyword} {a e : ℕ} {o : Cursor} → KeyIs s d k a e o → isEnd (some k) ≡ true → All
-  walks-end l q = whole (follows-end fill-fold (p .follows) l q)
+  walks-end l q = whole (follows-end (fill-fold waveformWords) (p .follows) l q)
 
   pub walks-out : after isKeyless (rest s d) ≡ [] → All
-  walks-out q = whole (follows-out fill-fold (p .follows) q)
+  walks-out q = whole (follows-out (fill-fold waveformWords) (p .follows) q)
 
 -- the lines before the first keyword say nothing
 module _ {s : List ℕ} {c n : Cursor} (h : StopsAt s c n) (row : ℕ) where
-  jump : fillOn (bare row) (front isWithin (rest s c)) ≡ fillOn (bare row) (front isWithin (rest s n))
-  jump = follows-jump fill-fold (follows-start fill-fold s c (bare row)) (keys-stop h) .same
+  jump : fillOn waveformWords (bare row) (front isWithin (rest s c)) ≡ fillOn waveformWords (bare row) (front isWithin (rest s n))
+  jump = follows-jump (fill-fold waveformWords) (follows-start (fill-fold waveformWords) s c (bare row)) (keys-stop h) .same
 
   pub waves-ahead : waveformsBehind row (rest s c) ≡ waveformsBehind row (rest s n)
-  waves-ahead = ap (λ (x : Filling). x .waves) jump
+  waves-ahead = ap (λ (x : Filling ℕ). x .waves) jump
 
   pub rows-ahead : rowsBehind (rest s c) ≡ rowsBehind (rest s n)
-  rows-ahead = ap (λ (x : Filling). x .rows) jump
+  rows-ahead = ap (λ (x : Filling ℕ). x .rows) jump
 
   pub body-ahead : bodyOn (bareBody row) (front isWithin (rest s c)) ≡ bodyOn (bareBody row) (front isWithin (rest s n))
-  body-ahead = ap (λ (x : Filling). x .body) jump
+  body-ahead = ap (λ (x : Filling ℕ). x .body) jump

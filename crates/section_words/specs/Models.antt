@@ -1,18 +1,14 @@
 -- A model as words, keyword by keyword, and what the functions that write them answer.
 use Prim.Native.Nat.{ℕ}
 use mathlib.Core.Path.{_≡_}
-use mathlib.Core.List.{List, [], _++_, flatMap}
-use mathlib.Core.Option.{some}
+use mathlib.Core.List.{List, _++_, flatMap}
 use lib.ListN.{length}
 use Rattle.laws.specs.Lists.{front}
 use Rattle.keywords.specs.declared.Keyword.{Keyword}
-use Rattle.keywords.specs.declared.ModelPart.{ModelPart}
-use Rattle.keywords.specs.declared.ModelPart.the-variants.{VoltageRange, TemperatureRange, Current, Ramp, Waveform}
 use Rattle.cut_lines.specs.Texts.{Text}
 use Rattle.cut_lines.specs.Cursors.{rest}
 use Rattle.cut_lines.specs.declared.Cursor.{Cursor}
-use Rattle.rules.specs.Reading.{under, isWithin, tablesIn, waveformIn, modelIn}
-use Rattle.rules.specs.Keys.{byKeyword}
+use Rattle.rules.specs.Reading.{under, isWithin, tablesIn, modelIn}
 use Rattle.layout.specs.Laid.{rowsOf, tableAt, waveformsLaid}
 use Rattle.records.specs.Stored.{stored}
 use Rattle.records.specs.declared.Model.{Model}
@@ -21,26 +17,17 @@ use Rattle.record_words.specs.Records.{modelWords, waveformWords}
 use Rattle.table_rows.specs.Rows.{Lies}
 use Rattle.table_rows.specs.Parts.{keyRows}
 use Rattle.model_record.specs.Bodies.{bareBody, bodyStep, bodyOn, KeyTaken, modelOver}
+use Rattle.model_record.specs.Takes.{keyWaveform}
 use Rattle.model_record.specs.declared.Body.{Body}
 use Rattle.model_record.specs.declared.FirstLines.{FirstLines}
 use Rattle.section_words.specs.declared.KeyFilled.{KeyFilled}
 use Rattle.section_words.specs.declared.Used.{Used}
 
--- ---- under a keyword; ls are the lines under it, and row is the place of the next row
-
-abbrev pub partWaveform : ModelPart → ℕ → List (List ℕ) → List ℕ
-partWaveform VoltageRange row ls = []
-partWaveform TemperatureRange row ls = []
-partWaveform (Current t) row ls = []
-partWaveform Ramp row ls = []
-partWaveform (Waveform e) row ls = waveformWords (waveformIn row e ls)
-
-abbrev pub keyWaveform : Keyword → ℕ → List (List ℕ) → List ℕ
-keyWaveform k row ls = byKeyword [] (λ p. []) (λ o. []) (λ p. []) (λ p. partWaveform p row ls) [] (some k)
+-- ---- under a keyword
 
 -- a cursor stands behind the keyword's line
 abbrev pub waveformUnder : List ℕ → Cursor → Keyword → ℕ → List ℕ
-waveformUnder s c k row = keyWaveform k row (under (rest s c))
+waveformUnder s c k row = keyWaveform waveformWords k row (under (rest s c))
 
 abbrev pub rowsUnder : List ℕ → Cursor → Keyword → List ℕ
 rowsUnder s c k = stored (keyRows k (under (rest s c)))
@@ -69,7 +56,7 @@ Turns model model' b b' =
 
 -- the keyword is taken, w being its argument, and what it says and what stands under it is written into the record and over the two tables
 pub record KeyFills (s : List ℕ) (b : Body) (k : Keyword) (w : List ℕ) (c : Cursor) (model model' waves waves' store store' : List ℕ) (r : KeyFilled) : Type 0 where
-  pub taken : KeyTaken s b k w c (record { body = bodyStep b k w (under (rest s c)); next = r .next })
+  pub taken : KeyTaken s b k w c (bodyStep b k w (under (rest s c))) (r .next)
   pub turns : Turns model model' b (bodyStep b k w (under (rest s c)))
   pub waveform : Lies waves waves' (r .used .waveforms) (waveformUnder s c k (b .row))
   pub rows : Lies store store' (r .used .rows) (rowsUnder s c k)

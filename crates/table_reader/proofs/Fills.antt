@@ -12,41 +12,37 @@ use Rattle.records.specs.declared.Kind.the-variants.{OfModel}
 use Rattle.records.specs.declared.Waveform.{Waveform}
 use Rattle.layout_by_notes.specs.Lies.{waveformsNoted}
 use Rattle.layout_by_notes.proofs.Lists.{flat-append}
-use Rattle.from_notes.specs.Made.{noteBy, componentAt, pinAt, selectorAt, choiceAt, modelAt, rowsAt}
+use Rattle.from_notes.specs.Made.{joinedTo, noteBy, componentAt, pinAt, selectorAt, choiceAt, modelAt, waveformsAt}
 use Rattle.file_answer.specs.Answered.{answerFor, answerOf}
 use Rattle.file_answer.specs.Sorted.{upTo, Sorted, SortedFor, Outlines}
 use Rattle.records.specs.declared.Answer.{Answer}
-use Rattle.file_answer.proofs.Made.{file, fit, components-made, pins-made, selectors-made, choices-made, models-made, waveforms-by-models, rows-made, rows-fit}
+use Rattle.file_answer.proofs.Made.{file, fit, components-made, pins-made, selectors-made, choices-made, models-made, waveforms-made, rows-made, rows-fit}
 use Rattle.record_words.specs.Records.{componentWords, pinWords, selectorWords, choiceWords, modelWords, waveformWords}
 use Rattle.section_words.proofs.Counted.{waveforms-length}
-use Rattle.table_words.specs.Packed.{wordsTo, waveformWordsAt, WordTables, Room, filled}
+use Rattle.table_words.specs.Packed.{waveformWordsAt, WordTables, Room, filled}
 use Rattle.table_reader.specs.ReadInWords.{roomIn, ReadInWords}
 
 -- ---- the words of a table that is as noted
 
-flat-upTo : {A : Type 0} (g : A → List ℕ) (f : ℕ → A) (n : ℕ) → flatMap g (upTo f n) ≡ wordsTo (λ (k : ℕ). g (f k)) n
-unfolding upTo wordsTo flatMap
+flat-upTo : {A : Type 0} (g : A → List ℕ) (f : ℕ → A) (n : ℕ) → flatMap g (upTo f n) ≡ joinedTo (λ (k : ℕ). g (f k)) n
+unfolding upTo joinedTo flatMap
 flat-upTo g f zero = refl
 flat-upTo g f (suc n) =
     flat-append g (upTo f n) (f n ∷ [])
     ∙ ap (λ (l : List ℕ). flatMap g (upTo f n) ++ l) (append-nil (g (f n)))
     ∙ ap (λ (l : List ℕ). l ++ g (f n)) (flat-upTo g f n)
 
-made-words : {A : Type 0} (g : A → List ℕ) (f : ℕ → A) (new : List A) → new ≡ upTo f (length new) → flatMap g new ≡ wordsTo (λ (k : ℕ). g (f k)) (length new)
+made-words : {A : Type 0} (g : A → List ℕ) (f : ℕ → A) (new : List A) → new ≡ upTo f (length new) → flatMap g new ≡ joinedTo (λ (k : ℕ). g (f k)) (length new)
 made-words g f new e = ap (flatMap g) e ∙ flat-upTo g f (length new)
 
 -- those of the models' waveforms, one model after the other
-flat-flat : {A B : Type 0} (g : B → List ℕ) (h : A → List B) (l : List A) → flatMap g (flatMap h l) ≡ flatMap (λ (a : A). flatMap g (h a)) l
-unfolding flatMap
-flat-flat g h [] = refl
-flat-flat g h (a ∷ l) = flat-append g (h a) (flatMap h l) ∙ ap (λ (m : List ℕ). flatMap g (h a) ++ m) (flat-flat g h l)
+flat-joined : {A : Type 0} (g : A → List ℕ) (f : ℕ → List A) (n : ℕ) → flatMap g (joinedTo f n) ≡ joinedTo (λ (k : ℕ). flatMap g (f k)) n
+unfolding joinedTo flatMap
+flat-joined g f zero = refl
+flat-joined g f (suc n) = flat-append g (joinedTo f n) (f n) ∙ ap (λ (l : List ℕ). l ++ flatMap g (f n)) (flat-joined g f n)
 
-waveforms-words : (s ns : List ℕ) (new : List Waveform) (n : ℕ) → new ≡ flatMap waveformsNoted (upTo (noteBy s ns OfModel) n)
-    → flatMap waveformWords new ≡ wordsTo (waveformWordsAt s ns) n
-waveforms-words s ns new n e =
-    ap (flatMap waveformWords) e
-    ∙ flat-flat waveformWords waveformsNoted (upTo (noteBy s ns OfModel) n)
-    ∙ flat-upTo (λ a. flatMap waveformWords (waveformsNoted a)) (noteBy s ns OfModel) n
+waveforms-words : (s ns : List ℕ) (new : List Waveform) (n : ℕ) → new ≡ waveformsAt s ns n → flatMap waveformWords new ≡ joinedTo (waveformWordsAt s ns) n
+waveforms-words s ns new n e = ap (flatMap waveformWords) e ∙ flat-joined waveformWords (λ k. waveformsNoted (noteBy s ns OfModel k)) n
 
 -- ---- by the outcome
 
@@ -55,10 +51,10 @@ module _ (s : List ℕ) (t : WordTables) (ns : List ℕ) where
   l = roomIn t
 
   fits-for : (o : Outcome) → SortedFor l s ns o → Room s ns (answerFor (fileIn (textsOf s)) o .counts) t
-  unfolding wordsTo rowsAt stored
+  unfolding joinedTo stored
   fits-for (passed h) sorted =
       let f = fit l s ns sorted in
-      let words = ap length (waveforms-words s ns _ _ (waveforms-by-models l s ns sorted)) in
+      let words = ap length (waveforms-words s ns (file l s ns sorted .waveforms) (length (file l s ns sorted .models)) (waveforms-made l s ns sorted)) in
       record {
         components = omega (arith, f .components);
         pins = omega (arith, f .pins);
@@ -86,12 +82,12 @@ module _ (s : List ℕ) (t : WordTables) (ns : List ℕ) where
             rw (made-words selectorWords (selectorAt s ns) _ (selectors-made l s ns sorted))
             rw (made-words choiceWords (choiceAt s ns) _ (choices-made l s ns sorted))
             rw (made-words modelWords (modelAt s ns) _ (models-made l s ns sorted))
-            rw (waveforms-words s ns _ _ (waveforms-by-models l s ns sorted))
+            rw (waveforms-words s ns (file l s ns sorted .waveforms) (length (file l s ns sorted .models)) (waveforms-made l s ns sorted))
             rw (rows-made l s ns sorted) refl;
       }
 
   left-none : (n k : ℕ) → outcome l s ≡ refused n k → LeftBy (answerOf l s)
-  unfolding answerOf wordsTo rowsAt stored over
+  unfolding answerOf joinedTo stored over
   left-none n k is = record { answer = refl; tables = rw is refl }
 
   left-for : (o : Outcome) → outcome l s ≡ o → SortedFor l s ns o → LeftBy (answerOf l s)

@@ -5,4 +5,3 @@ pub mod RowWalks
 pub mod WaveformLaws
 pub mod WaveformWalks
 pub mod PartLaws
-pub mod PartWalks

@@ -1,6 +1,6 @@
 -- The rows of a table, line by line, as folds over its lines: a line has a row, or nothing.
 use Prim.Native.Nat.{ℕ, _/_}
-use mathlib.Core.Path.{_≡_, refl, sym, ap, _∙_}
+use mathlib.Core.Path.{_≡_, refl, sym}
 use mathlib.Core.List.{List, _++_, append-assoc, append-nil}
 use native.Mathlib.Omega.{arith}
 use lib.ListN.{length, length-append}
@@ -11,7 +11,7 @@ use Rattle.rules.specs.Reading.{ontoRows, rowsIn}
 use Rattle.records.specs.Stored.{rowWords, stored}
 use Rattle.records.specs.declared.Row.{Row}
 use Rattle.lines_under.proofs.Folds.{Folds, Small}
-use Rattle.table_rows.specs.Rows.{withSaidRow, counted}
+use Rattle.table_rows.specs.Rows.{withSaidRow}
 
 -- ---- a line more
 
@@ -23,15 +23,6 @@ module _ {X : Type 0} {f : X → List Row → X} {add : X → Row → X} (k : Fo
   pub row-fold : Folds (λ (x : X) (ls : List (List ℕ)). f x (rowsIn ls)) (λ (x : X) (w : List ℕ). withSaidRow add x (rowOf (words w)))
   unfolding rowsIn
   row-fold = record { none = k .none; more = λ x w ws. onto-row x (rowOf (words w)) (rowsIn ws) }
-
--- ---- counted
-
-counted-small : Small counted (λ (n : ℕ). n)
-counted-small n (says r) = omega arith
-counted-small n (fault k) = omega arith
-
-pub row-small : Small (λ (n : ℕ) (w : List ℕ). counted n (rowOf (words w))) (λ (n : ℕ). n)
-row-small n w = counted-small n (rowOf (words w))
 
 -- ---- as words
 

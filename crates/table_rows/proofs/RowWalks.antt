@@ -46,6 +46,13 @@ module _ {before now : List ℕ} {used : ℕ} {written all : List ℕ} (p : Lies
           store = over-rest before written v used (p .used) (omega (arith, lies-fit, lies-length (v ++ ahead) (e ∙ append-assoc written v ahead))) now (p .store);
         }
 
+-- what is written is put back into the whole table
+pub lies-put : {before now : List ℕ} {used : ℕ} {written all : List ℕ} → Lies before now used written → length all ≤ length before
+    → (v ahead : List ℕ) → all ≡ (written ++ v) ++ ahead
+    → {mid mid' : List ℕ} {n : ℕ} → mid ≡ midOf used (length now - used) now → Lies mid mid' n v
+    → Lies before (putMid used (length now - used) now mid') (used + n) (written ++ v)
+lies-put p h v ahead e i t = rw (t .used, t .store, i) (lies-more p h v ahead e)
+
 -- ---- a table's rows
 
 pub record Fills (s : List ℕ) (c d : Cursor) (before now : List ℕ) (used : ℕ) : Type 0 where

@@ -31,12 +31,12 @@ stored-length [] = refl
 stored-length (r ∷ l) = let e : length (stored l) ≡ 4 * length l = stored-length l in omega (arith, length-append (rowWords r) (stored l), e)
 
 -- nothing is written
-pub over-none : (l : List ℕ) → over l [] ≡ l
+pub over-none : {A : Type 0} (l : List A) → over l [] ≡ l
 unfolding over
 over-none l = refl
 
 -- what is written keeps the length
-pub over-length : (l v : List ℕ) → length v ≤ length l → length (over l v) ≡ length l
+pub over-length : {A : Type 0} (l v : List A) → length v ≤ length l → length (over l v) ≡ length l
 unfolding over
 over-length l v h = omega (arith, length-append v (drop (length v) l), length-drop (length v) l)
 

@@ -24,10 +24,10 @@ use Rattle.rules.proofs.Lettered.{letter-no-row}
 use Rattle.records.specs.declared.Edge.{Edge}
 use Rattle.records.specs.declared.Row.{Row}
 use Rattle.records.specs.declared.Waveform.{Waveform}
-use Rattle.lines_under.proofs.Folds.{Folds, Small, count-fold}
+use Rattle.lines_under.proofs.Folds.{Folds, count-fold}
 use Rattle.table_rows.specs.Rows.{counted}
 use Rattle.table_rows.specs.Waveforms.{bareWaveform, withCount, fixtureAt, fixtureLine, withWaveformLine, waveformOn}
-use Rattle.table_rows.proofs.RowLaws.{onto-row, row-small}
+use Rattle.table_rows.proofs.RowLaws.{onto-row}
 
 -- ---- the fold
 
@@ -41,10 +41,6 @@ waveform-none x = let z : x .rows .count + 0 ≡ x .rows .count = omega arith in
 
 pub waveform-fold : Folds waveformOn withWaveformLine
 waveform-fold = record { none = waveform-none; more = waveform-more }
-
--- a line adds at most one row
-pub waveform-small : Small withWaveformLine (λ (x : Waveform). x .rows .count)
-waveform-small x w = row-small (x .rows .count) w
 
 pub waveform-is : (e : Edge) (n : ℕ) (ls : List (List ℕ)) → waveformOn (bareWaveform e n) ls ≡ waveformIn n e ls
 unfolding waveformOn waveformIn numberSaid

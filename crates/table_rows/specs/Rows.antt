@@ -1,4 +1,4 @@
--- The rows of a table, and what the functions that count and write them answer.
+-- The rows of a table, and what the function that writes them answers.
 use Prim.Native.Nat.{ℕ, _+_, _≤_}
 use mathlib.Core.Path.{_≡_}
 use mathlib.Core.List.{List, [], _∷_}
@@ -11,7 +11,6 @@ use Rattle.records.specs.Stored.{stored, over}
 use Rattle.records.specs.declared.Row.{Row}
 use Rattle.line_cells.specs.declared.RowWords.{RowWords}
 use Rattle.lines_under.specs.Under.{StopsAt}
-use Rattle.table_rows.specs.declared.Counted.{Counted}
 use Rattle.table_rows.specs.declared.Filled.{Filled}
 
 -- n words are written over what was there, at the front
@@ -34,12 +33,6 @@ withSaidRow add x (fault n) = x
 
 abbrev pub counted : ℕ → Said Row → ℕ
 counted = withSaidRow (λ (n : ℕ) (r : Row). n + 1)
-
--- every row has a byte
-pub record CountIs (s : List ℕ) (c : Cursor) (r : Counted) : Type 0 where
-  pub count : r .count ≡ length (rowsAt s c)
-  pub stops : StopsAt s c (r .next)
-  pub bounded : c .at + r .count ≤ r .next .at
 
 -- the words written, and the row store behind it; every row has a byte
 pub record FillIs (s : List ℕ) (c : Cursor) (before behind : List ℕ) (r : Filled) : Type 0 where

@@ -1,22 +1,13 @@
-// Tables: their rows counted and written into the row store, the record of a waveform, and all rows of a model.
+// Tables: their rows written into the row store, and the record of a waveform with its rows.
 use cut_lines::Cursor;
 use records::Waveform;
 
-pub mod rows; // rows.rt: the rows of one table, counted and written
+pub mod rows; // rows.rt: the rows of one table
 pub mod waveforms; // waveforms.rt: the record of a waveform, and with it its rows
-pub mod parts; // parts.rt: all rows of a model, keyword by keyword
 
-pub use parts::fill_model;
-pub use rows::count_rows;
 pub use rows::fill_table;
+pub use waveforms::bare_waveform;
 pub use waveforms::fill_waveform;
-pub use waveforms::waveform_of;
-
-// How many rows a table has, and where the next keyword line stands.
-pub struct Counted {
-    pub count: usize,
-    pub next: Cursor,
-}
 
 // How many words a table's rows took, and where the next keyword line stands.
 pub struct Filled {

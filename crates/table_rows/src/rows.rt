@@ -1,41 +1,14 @@
-// The rows of one table: counted, and written into the row store, four words each.
+// The rows of one table, written into the row store, four words each.
 ghost use mathlib.Core.Path.{_≡_};
 ghost use Prim.Native.Nat.{_≤_};
 ghost use lib.ListN.{length};
 ghost use Rattle.cut_lines.specs.Cursors.{Placed};
 ghost use Rattle.records.specs.Stored.{stored, over};
-ghost use Rattle.table_rows.specs.Rows.{rowsAt, fourWords, CountIs, FillIs};
-use crate::Counted;
+ghost use Rattle.table_rows.specs.Rows.{rowsAt, fourWords, FillIs};
 use crate::Filled;
 use cut_lines::Cursor;
 use line_cells::RowWords;
 use lines_under::LineNext;
-
-// Counts the rows of the table whose lines begin at a cursor.
-pub fn count_rows(src: &[u8], c: Cursor) -> Counted
-    requires { ⌜ Placed (now src) c ⌝ }
-    ensures { λ r. ⌜ CountIs (now (src .entry)) c r ⌝ }
-{
-    let mut d = c;
-    let mut count: usize = 0;
-    loop {
-        match lines_under::next_line(src, d) {
-            LineNext::Line { start, end, next } => {
-                d = next;
-                let row = line_cells::row_words(&src[start..end]);
-                if row.fault == 0 {
-                    count += 1;
-                }
-            }
-            LineNext::NoLine { next } => {
-                return Counted {
-                    count: count,
-                    next: next,
-                };
-            }
-        }
-    }
-}
 
 // Writes one row at the front of the row store.
 pub(crate) fn put_row(rows: &mut [u64], r: RowWords)

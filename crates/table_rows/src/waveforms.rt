@@ -1,14 +1,14 @@
-// The record of a waveform: its edge, the numbers of its named lines, and where its rows lie.
+// A waveform: its record, with its edge, the numbers of its named lines and where its rows lie, and its rows.
 ghost use mathlib.Core.Bool.{cond};
 ghost use mathlib.Core.Path.{_≡_};
-ghost use Prim.Native.Nat.{_+_, _^_, _≤_, _<_};
+ghost use Prim.Native.Nat.{_≤_};
 ghost use lib.Dec.{eqb};
 ghost use lib.ListN.{length};
 ghost use Rattle.cut_lines.specs.Cursors.{rest, Placed};
 ghost use Rattle.rules.specs.Reading.{under, waveformIn};
 ghost use Rattle.records.specs.Stored.{stored};
 ghost use Rattle.table_rows.specs.Rows.{rowsAt, FillIs};
-ghost use Rattle.table_rows.specs.Waveforms.{bareWaveform, fixtureAt, fixtureLine, withCount, withWaveformLine};
+ghost use Rattle.table_rows.specs.Waveforms.{bareWaveform, fixtureAt, fixtureLine, withCount};
 use crate::Filled;
 use crate::WaveformFilled;
 use crate::rows::put_row;
@@ -32,7 +32,7 @@ fn cell_at(place: usize, n: usize, number: Cell, before: Cell) -> Cell
 }
 
 // Before its first line.
-fn bare_waveform(edge: Edge, row: usize) -> Waveform
+pub fn bare_waveform(edge: Edge, row: usize) -> Waveform
     ensures { λ r. ⌜ r ≡ bareWaveform edge row ⌝ }
 {
     Waveform {
@@ -103,39 +103,8 @@ fn with_rows(x: Waveform, count: usize) -> Waveform
     next
 }
 
-// A row has no name: its first word is a number, and a name begins with a letter.
-fn with_line(x: Waveform, w: &[u8]) -> Waveform
-    requires { ⌜ x .rows .count < 2 ^ 63 ⌝ }
-    ensures { λ r. ⌜ r ≡ withWaveformLine x (now (w .entry)) ⌝ }
-{
-    let row = line_cells::row_words(w);
-    if row.fault == 0 {
-        return with_rows(x, x.rows.count + 1);
-    }
-    with_fixture(x, w)
-}
-
-// The waveform whose lines begin at a cursor; its first row's place is row.
-pub fn waveform_of(src: &[u8], c: Cursor, edge: Edge, row: usize) -> Waveform
-    requires { ⌜ Placed (now src) c ⌝ }
-    ensures { λ r. ⌜ r ≡ waveformIn row edge (under (rest (now (src .entry)) c)) ⌝ }
-{
-    let mut x = bare_waveform(edge, row);
-    let mut d = c;
-    loop {
-        match lines_under::next_line(src, d) {
-            LineNext::Line { start, end, next } => {
-                d = next;
-                x = with_line(x, &src[start..end]);
-            }
-            LineNext::NoLine { next } => {
-                return x;
-            }
-        }
-    }
-}
-
-// The same, and its rows are written at the front of the row store. They are counted aside: the record is copied at its named lines only.
+// The waveform whose lines begin at a cursor, the place of its first row being row; its rows are written at the front of the row store. They are counted
+// aside: the record is copied at its named lines only.
 pub fn fill_waveform(
     rows: &mut [u64],
     src: &[u8],

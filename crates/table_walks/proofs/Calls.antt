@@ -1,10 +1,13 @@
 -- Steps of a walk for a call. Of the callee they know its contract; what its `ensures` says goes on as a fact. The result is plain data: what it owns is dropped, and made anew where it is wanted from `Is`.
 --     calls-any     a callee of any signature:                             [the tokens; what the arguments own; Γ]  becomes  [the tokens; what is last; Γ]
---     calls-lend    a callee that returns nothing, over a `&'0 mut [R]`:   [the slice at ys; its token; the other tokens; what the other arguments own; Γ]  becomes  [the slice at zs; its token; the other tokens; Γ]
+--     calls-change  a callee over a `&'0 mut [R]`:                         [the slice at ys; its token; the other tokens; what the other arguments own; Γ]  becomes  [the slice at some zs; its token; the other tokens; Γ]
+--     calls-lend    the same, where it returns nothing and zs is known
 --     calls-plain   a callee over plain data:                              [Γ]  becomes  [Γ]
 --     calls-see     a callee over a `&'0 [F]`, a `&'1 [G]` and plain data: [the one's token; the one; the other's token; the other; Γ]  becomes  the same
 --     calls-put     a callee over a `&'0 mut [R]` and plain data:          [the slice at ys; its token; Γ]  becomes  [the slice at zs; its token; Γ]
---     calls-fill    a callee over a `&'0 mut [R]`, a `&'1 [F]`, a `&'2 [G]` and plain data: [the slice at ys; its token; as for `calls-see`; Γ]  becomes  [the slice at zs; its token; the same; Γ]
+--     calls-turn    a callee over a `&'0 mut [R]`, a `&'1 [F]`, a `&'2 [G]` and plain data: [the slice at ys; its token; as for `calls-see`; Γ]  becomes  [the slice at some zs; its token; the same; Γ]
+--     calls-fill    the same, where it returns nothing and zs is known
+--     calls-three   a callee that returns nothing, over three slices `&'0 mut [R₁]`, `&'1 mut [R₂]`, `&'2 mut [R₃]`, a `&'3 [F]`, a `&'4 [G]` and plain data: [each slice and its token; as for `calls-see`; Γ]  becomes  the same, at some lists
 use lib.Dec.{T as Holds}
 use mathlib.Core.Path.{_≡_, refl, subst}
 use Prim.Native.Nat.{ℕ, suc}
@@ -56,11 +59,32 @@ abbrev pub see-ended : (F : RattleType) → One (F .mir) → (G : RattleType) �
 see-ended F one G one′ ps ks Q =
     record { signature = record { lifetimes = 2; outlives = []; params = SliceRefOf (0 ∷ []) tt (plain (λ _. F)) (λ _. one) ∷ SliceRefOf (1 ∷ []) tt (plain (λ _. G)) (λ _. one′) ∷ ps; result = plain (λ _. Q) }; kept = (yes, (yes, ks)) }
 
+abbrev pub change-ended : (R : RattleType) → One (R .mir) → (n : ℕ) (ps : List (Slot (suc n))) → Kepts ps → RattleType → Ended
+change-ended R one n ps ks Q = record { signature = record { lifetimes = suc n; outlives = []; params = SliceRefMutOf (0 ∷ []) tt (plain (λ _. R)) (λ _. one) ∷ ps; result = plain (λ _. Q) }; kept = (yes, ks) }
+
 abbrev pub lend-ended : (R : RattleType) → One (R .mir) → (n : ℕ) (ps : List (Slot (suc n))) → Kepts ps → Ended
-lend-ended R one n ps ks = record { signature = record { lifetimes = suc n; outlives = []; params = SliceRefMutOf (0 ∷ []) tt (plain (λ _. R)) (λ _. one) ∷ ps; result = plain (λ _. unit) }; kept = (yes, ks) }
+lend-ended R one n ps ks = change-ended R one n ps ks unit
+
+abbrev pub turn-ended : (R : RattleType) → One (R .mir) → (F : RattleType) → One (F .mir) → (G : RattleType) → One (G .mir) → (ps : List (Slot 3)) → Kepts ps → RattleType → Ended
+turn-ended R one F one′ G one″ ps ks Q = change-ended R one 2 (SliceRefOf (1 ∷ []) tt (plain (λ _. F)) (λ _. one′) ∷ SliceRefOf (2 ∷ []) tt (plain (λ _. G)) (λ _. one″) ∷ ps) (yes, (yes, ks)) Q
 
 abbrev pub fill-ended : (R : RattleType) → One (R .mir) → (F : RattleType) → One (F .mir) → (G : RattleType) → One (G .mir) → (ps : List (Slot 3)) → Kepts ps → Ended
-fill-ended R one F one′ G one″ ps ks = lend-ended R one 2 (SliceRefOf (1 ∷ []) tt (plain (λ _. F)) (λ _. one′) ∷ SliceRefOf (2 ∷ []) tt (plain (λ _. G)) (λ _. one″) ∷ ps) (yes, (yes, ks))
+fill-ended R one F one′ G one″ ps ks = turn-ended R one F one′ G one″ ps ks unit
+
+abbrev pub three-ended : (R₁ : RattleType) → One (R₁ .mir) → (R₂ : RattleType) → One (R₂ .mir) → (R₃ : RattleType) → One (R₃ .mir) → (F : RattleType) → One (F .mir) → (G : RattleType) → One (G .mir) → (ps : List (Slot 5)) → Kepts ps → Ended
+three-ended R₁ one₁ R₂ one₂ R₃ one₃ F one G one′ ps ks =
+    record {
+      signature =
+          record {
+            lifetimes = 5;
+            outlives = [];
+            params =
+                SliceRefMutOf (0 ∷ []) tt (plain (λ _. R₁)) (λ _. one₁) ∷ SliceRefMutOf (1 ∷ []) tt (plain (λ _. R₂)) (λ _. one₂) ∷ SliceRefMutOf (2 ∷ []) tt (plain (λ _. R₃)) (λ _. one₃)
+                ∷ SliceRefOf (3 ∷ []) tt (plain (λ _. F)) (λ _. one) ∷ SliceRefOf (4 ∷ []) tt (plain (λ _. G)) (λ _. one′) ∷ ps;
+            result = plain (λ _. unit);
+          };
+      kept = (yes, (yes, (yes, (yes, (yes, ks)))));
+    }
 
 -- ---- a `&` slice is had twice
 module _ {M : Type 1} {𝓤 : URA M} {H : Heap 𝓤} {A : Atoms 𝓤} {K : Type 0} {W : Given 𝓤 H A} {Γ : List (Item 𝓤)} {G : Goal 𝓤 H} where
@@ -86,6 +110,31 @@ module _ {M : Type 1} {𝓤 : URA M} {H : Heap 𝓤} {A : Atoms 𝓤} {K : Type 
       move t (1 ∷ []) $ split t $ use1 W tok of $ move t (1 ∷ []) $ peeks t Q (Is Q) (shows 𝓤 H A Q) r (w ∷ []) (λ is. drop t $ next w r is ws said)))))
 
 module _ {M : Type 1} {𝓤 : URA M} {H : Heap 𝓤} {A : Atoms 𝓤} {K : Type 0} {W : Given 𝓤 H A} {Γ : List (Item 𝓤)} {E : Env 𝓤 H} {C : Calls 𝓤 H} {Λ : Loops 𝓤 H} {k : Post 𝓤 H} {d : Place} {rest : Body} {f : Name} {xs : List Operand} where
+  pub calls-change : K → FmC 𝓤 H (W .laws) C → (R : RattleType) (one : One (R .mir)) (n : ℕ) (ps : List (Slot (suc n))) (ks : Kepts ps) (Q : RattleType) (c : Clauses 𝓤 (change-ended R one n ps ks Q)) → Triple 𝓤 (C f) (Told (change-ended R one n ps ks Q) 𝓤 H A c)
+      → {κ : Lft} {q : Share} {γ : GName} (b o : ℕ) (ys : List (R .Denot)) → Room R (length ys) → (κs : Lfts n) (qs : Shares n) (a : (ν : ℕ) → Denots (typesAt ps (ν ∷ [], κs))) (vss : (ν : ℕ) → Valss (typesAt ps (ν ∷ [], κs)))
+      → (g : (ν : ℕ) (δ : GName) → c (ν ∷ [], κs) (slice-at b o δ ys, a ν) .ghost)
+      → (tok own : Item 𝓤) → ent 𝓤 (mean 𝓤 H A tok) (toks 𝓤 A n κs qs) → ent 𝓤 (toks 𝓤 A n κs qs) (mean 𝓤 H A tok) → ((ν : ℕ) → ent 𝓤 (mean 𝓤 H A own) (sem 𝓤 H A (owns (typesAt ps (ν ∷ [], κs)) (a ν) (vss ν))))
+      → ((ν : ℕ) (δ : GName) → ent 𝓤 (emp 𝓤) (c (ν ∷ [], κs) (slice-at b o δ ys, a ν) .requires (g ν δ)))
+      → (Says : Q .Denot → List (R .Denot) → Type 0)
+      → ((ν : ℕ) (δ : GName) (r : Q .Denot) (ws : Lasts (change-ended R one n ps ks Q) (ν ∷ [], κs) (slice-at b o δ ys, a ν)) → ent 𝓤 (c (ν ∷ [], κs) (slice-at b o δ ys, a ν) .ensures (g ν δ) r (atExit (change-ended R one n ps ks Q) (ν ∷ [], κs) (slice-at b o δ ys, a ν) ws)) (fact 𝓤 (Says r (ws .0))))
+      → ((ν : ℕ) (δ : GName) → Opds K W (raw (Told (change-ended R one n ps ks Q) 𝓤 H A c .pre (((ν ∷ [], κs), (fullShare, qs), tt, (slice-at b o δ ys, a ν), (sliceVal (b, o) (length ys) ∷ [], vss ν)), g ν δ)) ∷ ‵ (Kept R κ q γ b o ν δ ys) ∷ Γ) E xs
+      (Told (change-ended R one n ps ks Q) 𝓤 H A c .args (((ν ∷ [], κs), (fullShare, qs), tt, (slice-at b o δ ys, a ν), (sliceVal (b, o) (length ys) ∷ [], vss ν)), g ν δ)))
+      → ((w : Val) (r : Q .Denot) → Is Q r (w ∷ []) → (zs : List (R .Denot)) → length zs ≡ length ys → Says r zs → Seq K W (‵ (MutSlice (named 0) κ R .own (slice-at b o γ zs) (sliceVal (b, o) (length ys) ∷ [])) ∷ ‵ (flft κ q) ∷ tok ∷ Γ) (lands C Λ E d w rest k))
+      → Seq K W (‵ (MutSlice (named 0) κ R .own (slice-at b o γ ys) (sliceVal (b, o) (length ys) ∷ [])) ∷ ‵ (flft κ q) ∷ tok ∷ own ∷ Γ) (runs C Λ E (seq (call f xs d) rest) k)
+  calls-change t fm R one n ps ks Q c known {κ} {q} {γ} b o ys room κs qs a vss g tok own to of gives asks Says tells os next =
+      let T : Ended = change-ended R one n ps ks Q in
+      let s : Val = sliceVal (b, o) (length ys) in
+      lend-on t tt R b o ys (λ ν δ.
+      -- [the call's token; the slice; what is kept; the other tokens; what the other arguments own; Γ]
+      move t (3 ∷ []) $ use1 W (raw (toks 𝓤 A n κs qs)) to $ move t (1 ∷ 0 ∷ []) $ join t $ move t (3 ∷ []) $ use1 W (‵ (owns (typesAt ps (ν ∷ [], κs)) (a ν) (vss ν))) (gives ν) $ move t (2 ∷ 0 ∷ []) $ fjoin t $ move t (1 ∷ 0 ∷ []) $
+      calls-any t fm T c known (((ν ∷ [], κs), (fullShare, qs), tt, (slice-at b o δ ys, a ν), (s ∷ [], vss ν)), g ν δ) (‵ (flft (ν ∷ []) fullShare) ⊛ raw (toks 𝓤 A n κs qs)) (id⊢ 𝓤 _) (id⊢ 𝓤 _) (asks ν δ)
+      (λ r ws. Says r (ws .0)) (tells ν δ) (os ν δ) (λ w r is ws said.
+      -- [the tokens; what is last; what is kept; Γ]
+      split t $ move t (1 ∷ []) $ use1 W tok of $ move t (2 ∷ []) $ fsplit t $ fsplit t $ move t (1 ∷ []) $ feqL t (λ l. move t (1 ∷ []) $ drop t $
+      -- [the last list; the other tokens; the call's token; what is kept; Γ]
+      move t (2 ∷ 3 ∷ 0 ∷ []) $ held-again t tt R b o ν δ ys (ws .0) room l $ next w r is (ws .0) l said)))
+
+module _ {M : Type 1} {𝓤 : URA M} {H : Heap 𝓤} {A : Atoms 𝓤} {K : Type 0} {W : Given 𝓤 H A} {Γ : List (Item 𝓤)} {E : Env 𝓤 H} {C : Calls 𝓤 H} {Λ : Loops 𝓤 H} {k : Post 𝓤 H} {d : Place} {rest : Body} {f : Name} {xs : List Operand} where
   pub calls-lend : K → FmC 𝓤 H (W .laws) C → (R : RattleType) (one : One (R .mir)) (n : ℕ) (ps : List (Slot (suc n))) (ks : Kepts ps) (c : Clauses 𝓤 (lend-ended R one n ps ks)) → Triple 𝓤 (C f) (Told (lend-ended R one n ps ks) 𝓤 H A c)
       → {κ : Lft} {q : Share} {γ : GName} (b o : ℕ) (ys zs : List (R .Denot)) → Room R (length ys) → (κs : Lfts n) (qs : Shares n) (a : (ν : ℕ) → Denots (typesAt ps (ν ∷ [], κs))) (vss : (ν : ℕ) → Valss (typesAt ps (ν ∷ [], κs)))
       → (g : (ν : ℕ) (δ : GName) → c (ν ∷ [], κs) (slice-at b o δ ys, a ν) .ghost)
@@ -97,19 +146,9 @@ module _ {M : Type 1} {𝓤 : URA M} {H : Heap 𝓤} {A : Atoms 𝓤} {K : Type 
       → ((w : Val) → Holds (hasTy tyUnit w) × WT w → length zs ≡ length ys → Seq K W (‵ (MutSlice (named 0) κ R .own (slice-at b o γ zs) (sliceVal (b, o) (length ys) ∷ [])) ∷ ‵ (flft κ q) ∷ tok ∷ Γ) (lands C Λ E d w rest k))
       → Seq K W (‵ (MutSlice (named 0) κ R .own (slice-at b o γ ys) (sliceVal (b, o) (length ys) ∷ [])) ∷ ‵ (flft κ q) ∷ tok ∷ own ∷ Γ) (runs C Λ E (seq (call f xs d) rest) k)
   calls-lend t fm R one n ps ks c known {κ} {q} {γ} b o ys zs room κs qs a vss g tok own to of gives asks tells os next =
-      let T : Ended = lend-ended R one n ps ks in
-      let s : Val = sliceVal (b, o) (length ys) in
-      lend-on t tt R b o ys (λ ν δ.
-      -- [the call's token; the slice; what is kept; the other tokens; what the other arguments own; Γ]
-      move t (3 ∷ []) $ use1 W (raw (toks 𝓤 A n κs qs)) to $ move t (1 ∷ 0 ∷ []) $ join t $ move t (3 ∷ []) $ use1 W (‵ (owns (typesAt ps (ν ∷ [], κs)) (a ν) (vss ν))) (gives ν) $ move t (2 ∷ 0 ∷ []) $ fjoin t $ move t (1 ∷ 0 ∷ []) $
-      calls-any t fm T c known (((ν ∷ [], κs), (fullShare, qs), tt, (slice-at b o δ ys, a ν), (s ∷ [], vss ν)), g ν δ) (‵ (flft (ν ∷ []) fullShare) ⊛ raw (toks 𝓤 A n κs qs)) (id⊢ 𝓤 _) (id⊢ 𝓤 _) (asks ν δ)
-      (λ r ws. ws .0 ≡ zs) (tells ν δ) (os ν δ) (λ w r is ws said.
-      -- [the tokens; what is last; what is kept; Γ]
-      split t $ move t (1 ∷ []) $ use1 W tok of $ move t (2 ∷ []) $ fsplit t $ fsplit t $ move t (1 ∷ []) $ feqL t (λ l. move t (1 ∷ []) $ drop t $
-      -- [the last list; the other tokens; the call's token; what is kept; Γ]
-      move t (2 ∷ 3 ∷ 0 ∷ []) $ held-again t tt R b o ν δ ys (ws .0) room l $
-      rewrite t 0 (λ (us : List (R .Denot)). ‵ (MutSlice (named 0) κ R .own (slice-at b o γ us) (s ∷ []))) said refl $
-      next w (nothing-lawful 𝓤 H A W .typed r _ is .0) (subst (λ (us : List (R .Denot)). length us ≡ length ys) said l))))
+      calls-change t fm R one n ps ks unit c known b o ys room κs qs a vss g tok own to of gives asks (λ r us. us ≡ zs) tells os (λ w r is us l said.
+      rewrite t 0 (λ (us : List (R .Denot)). ‵ (MutSlice (named 0) κ R .own (slice-at b o γ us) (sliceVal (b, o) (length ys) ∷ []))) said refl $
+      next w (nothing-lawful 𝓤 H A W .typed r _ is .0) (subst (λ (us : List (R .Denot)). length us ≡ length ys) said l))
 
 -- ---- the steps that the walks use
 module _ {M : Type 1} {𝓤 : URA M} {H : Heap 𝓤} {A : Atoms 𝓤} {K : Type 0} {W : Given 𝓤 H A} {Γ : List (Item 𝓤)} {E : Env 𝓤 H} {C : Calls 𝓤 H} {Λ : Loops 𝓤 H} {k : Post 𝓤 H} {d : Place} {rest : Body} {f : Name} {xs : List Operand} where
@@ -154,6 +193,31 @@ module _ {M : Type 1} {𝓤 : URA M} {H : Heap 𝓤} {A : Atoms 𝓤} {K : Type 
       nothing t $ nothing t $ move t (2 ∷ 3 ∷ 0 ∷ 1 ∷ []) $
       calls-lend t fm R one 0 ps ks c known b o ys zs room tt tt a vss g (‵ ftrue) (‵ ftrue) (id⊢ 𝓤 _) (id⊢ 𝓤 _) gives asks tells os (λ w typed l. move t (2 ∷ []) $ drop t $ next w typed l)
 
+  pub calls-turn : K → FmC 𝓤 H (W .laws) C → (R : RattleType) (one : One (R .mir)) (F : RattleType) (one′ : One (F .mir)) (G : RattleType) (one″ : One (G .mir)) (ps : List (Slot 3)) (ks : Kepts ps) (Q : RattleType)
+      → (c : Clauses 𝓤 (turn-ended R one F one′ G one″ ps ks Q)) → Triple 𝓤 (C f) (Told (turn-ended R one F one′ G one″ ps ks Q) 𝓤 H A c)
+      → {κ κ′ κ″ : Lft} {q q′ q″ : Share} {γ : GName} (b o : ℕ) (ys : List (R .Denot)) → Room R (length ys) → (x : RefT (List (F .Denot))) (v : Val) (x′ : RefT (List (G .Denot))) (v′ : Val)
+      → (a : (ν : ℕ) → Denots (typesAt ps (ν ∷ [], (κ′, (κ″, tt))))) (vss : (ν : ℕ) → Valss (typesAt ps (ν ∷ [], (κ′, (κ″, tt))))) (g : (ν : ℕ) (δ : GName) → c (ν ∷ [], (κ′, (κ″, tt))) (slice-at b o δ ys, (x, (x′, a ν))) .ghost)
+      → ((ν : ℕ) → ent 𝓤 (emp 𝓤) (sem 𝓤 H A (owns (typesAt ps (ν ∷ [], (κ′, (κ″, tt)))) (a ν) (vss ν))))
+      → ((ν : ℕ) (δ : GName) → ent 𝓤 (emp 𝓤) (c (ν ∷ [], (κ′, (κ″, tt))) (slice-at b o δ ys, (x, (x′, a ν))) .requires (g ν δ)))
+      → (Says : Q .Denot → List (R .Denot) → Type 0)
+      → ((ν : ℕ) (δ : GName) (r : Q .Denot) (ws : Lasts (turn-ended R one F one′ G one″ ps ks Q) (ν ∷ [], (κ′, (κ″, tt))) (slice-at b o δ ys, (x, (x′, a ν))))
+      → ent 𝓤 (c (ν ∷ [], (κ′, (κ″, tt))) (slice-at b o δ ys, (x, (x′, a ν))) .ensures (g ν δ) r (atExit (turn-ended R one F one′ G one″ ps ks Q) (ν ∷ [], (κ′, (κ″, tt))) (slice-at b o δ ys, (x, (x′, a ν))) ws)) (fact 𝓤 (Says r (ws .0))))
+      → ((ν : ℕ) (δ : GName) → Opds K W (raw (Told (turn-ended R one F one′ G one″ ps ks Q) 𝓤 H A c .pre (((ν ∷ [], (κ′, (κ″, tt))), (fullShare, (q′, (q″, tt))), tt, (slice-at b o δ ys, (x, (x′, a ν))), (sliceVal (b, o) (length ys) ∷ [], (v ∷ [], (v′ ∷ [], vss ν)))), g ν δ))
+      ∷ ‵ (Kept R κ q γ b o ν δ ys) ∷ ‵ (ShrSlice (named 0) κ′ F .own x (v ∷ [])) ∷ ‵ (ShrSlice (named 0) κ″ G .own x′ (v′ ∷ [])) ∷ Γ) E xs
+      (Told (turn-ended R one F one′ G one″ ps ks Q) 𝓤 H A c .args (((ν ∷ [], (κ′, (κ″, tt))), (fullShare, (q′, (q″, tt))), tt, (slice-at b o δ ys, (x, (x′, a ν))), (sliceVal (b, o) (length ys) ∷ [], (v ∷ [], (v′ ∷ [], vss ν)))), g ν δ)))
+      → ((w : Val) (r : Q .Denot) → Is Q r (w ∷ []) → (zs : List (R .Denot)) → length zs ≡ length ys → Says r zs → Seq K W (‵ (MutSlice (named 0) κ R .own (slice-at b o γ zs) (sliceVal (b, o) (length ys) ∷ [])) ∷ ‵ (flft κ q) ∷ ‵ (flft κ′ q′) ∷ ‵ (ShrSlice (named 0) κ′ F .own x (v ∷ [])) ∷ ‵ (flft κ″ q″) ∷ ‵ (ShrSlice (named 0) κ″ G .own x′ (v′ ∷ [])) ∷ Γ) (lands C Λ E d w rest k))
+      → Seq K W (‵ (MutSlice (named 0) κ R .own (slice-at b o γ ys) (sliceVal (b, o) (length ys) ∷ [])) ∷ ‵ (flft κ q) ∷ ‵ (flft κ′ q′) ∷ ‵ (ShrSlice (named 0) κ′ F .own x (v ∷ [])) ∷ ‵ (flft κ″ q″) ∷ ‵ (ShrSlice (named 0) κ″ G .own x′ (v′ ∷ [])) ∷ Γ) (runs C Λ E (seq (call f xs d) rest) k)
+  calls-turn t fm R one F one′ G one″ ps ks Q c known {κ} {κ′} {κ″} {q} {q′} {q″} b o ys room x v x′ v′ a vss g gives asks Says tells os next =
+      move t (5 ∷ []) $ twice t G x′ v′ $ move t (5 ∷ []) $ twice t F x v $
+      -- [the one, twice; the other, twice; the table; its token; the other tokens; Γ]
+      move t (1 ∷ 2 ∷ []) $ join t $ move t (6 ∷ []) $ nothing t $ move t (1 ∷ 0 ∷ []) $ join t $ move t (6 ∷ 0 ∷ []) $ join t $ move t (4 ∷ 5 ∷ 0 ∷ 1 ∷ []) $
+      calls-change t fm R one 2 (SliceRefOf (1 ∷ []) tt (plain (λ _. F)) (λ _. one′) ∷ SliceRefOf (2 ∷ []) tt (plain (λ _. G)) (λ _. one″) ∷ ps) (yes, (yes, ks)) Q c known b o ys room (κ′, (κ″, tt)) (q′, (q″, tt)) (λ ν. (x, (x′, a ν))) (λ ν. (v ∷ [], (v′ ∷ [], vss ν))) g
+      (‵ (flft κ′ q′) ⊛ ‵ (flft κ″ q″) ⊛ ‵ ftrue) (‵ (ShrSlice (named 0) κ′ F .own x (v ∷ [])) ⊛ ‵ (ShrSlice (named 0) κ″ G .own x′ (v′ ∷ []))) (id⊢ 𝓤 _) (id⊢ 𝓤 _)
+      (λ ν. qed W ((‵ (ShrSlice (named 0) κ′ F .own x (v ∷ [])) ⊛ ‵ (ShrSlice (named 0) κ″ G .own x′ (v′ ∷ []))) ∷ []) ∵ split ! $ nothing ! $ use1 W (‵ (owns (typesAt ps (ν ∷ [], (κ′, (κ″, tt)))) (a ν) (vss ν))) (gives ν) $ move ! (2 ∷ 0 ∷ []) $ fjoin ! $ move ! (1 ∷ 0 ∷ []) $ fjoin ! $ done !)
+      asks Says tells os (λ w r is zs l said.
+      move t (2 ∷ []) $ split t $ move t (1 ∷ []) $ split t $ move t (1 ∷ []) $ drop t $ move t (2 ∷ 3 ∷ 1 ∷ 4 ∷ 0 ∷ 5 ∷ []) $ next w r is zs l said)
+
+module _ {M : Type 1} {𝓤 : URA M} {H : Heap 𝓤} {A : Atoms 𝓤} {K : Type 0} {W : Given 𝓤 H A} {Γ : List (Item 𝓤)} {E : Env 𝓤 H} {C : Calls 𝓤 H} {Λ : Loops 𝓤 H} {k : Post 𝓤 H} {d : Place} {rest : Body} {f : Name} {xs : List Operand} where
   pub calls-fill : K → FmC 𝓤 H (W .laws) C → (R : RattleType) (one : One (R .mir)) (F : RattleType) (one′ : One (F .mir)) (G : RattleType) (one″ : One (G .mir)) (ps : List (Slot 3)) (ks : Kepts ps)
       → (c : Clauses 𝓤 (fill-ended R one F one′ G one″ ps ks)) → Triple 𝓤 (C f) (Told (fill-ended R one F one′ G one″ ps ks) 𝓤 H A c)
       → {κ κ′ κ″ : Lft} {q q′ q″ : Share} {γ : GName} (b o : ℕ) (ys zs : List (R .Denot)) → Room R (length ys) → (x : RefT (List (F .Denot))) (v : Val) (x′ : RefT (List (G .Denot))) (v′ : Val)
@@ -167,12 +231,51 @@ module _ {M : Type 1} {𝓤 : URA M} {H : Heap 𝓤} {A : Atoms 𝓤} {K : Type 
       (Told (fill-ended R one F one′ G one″ ps ks) 𝓤 H A c .args (((ν ∷ [], (κ′, (κ″, tt))), (fullShare, (q′, (q″, tt))), tt, (slice-at b o δ ys, (x, (x′, a ν))), (sliceVal (b, o) (length ys) ∷ [], (v ∷ [], (v′ ∷ [], vss ν)))), g ν δ)))
       → ((w : Val) → Holds (hasTy tyUnit w) × WT w → length zs ≡ length ys → Seq K W (‵ (MutSlice (named 0) κ R .own (slice-at b o γ zs) (sliceVal (b, o) (length ys) ∷ [])) ∷ ‵ (flft κ q) ∷ ‵ (flft κ′ q′) ∷ ‵ (ShrSlice (named 0) κ′ F .own x (v ∷ [])) ∷ ‵ (flft κ″ q″) ∷ ‵ (ShrSlice (named 0) κ″ G .own x′ (v′ ∷ [])) ∷ Γ) (lands C Λ E d w rest k))
       → Seq K W (‵ (MutSlice (named 0) κ R .own (slice-at b o γ ys) (sliceVal (b, o) (length ys) ∷ [])) ∷ ‵ (flft κ q) ∷ ‵ (flft κ′ q′) ∷ ‵ (ShrSlice (named 0) κ′ F .own x (v ∷ [])) ∷ ‵ (flft κ″ q″) ∷ ‵ (ShrSlice (named 0) κ″ G .own x′ (v′ ∷ [])) ∷ Γ) (runs C Λ E (seq (call f xs d) rest) k)
-  calls-fill t fm R one F one′ G one″ ps ks c known {κ} {κ′} {κ″} {q} {q′} {q″} b o ys zs room x v x′ v′ a vss g gives asks tells os next =
-      move t (5 ∷ []) $ twice t G x′ v′ $ move t (5 ∷ []) $ twice t F x v $
-      -- [the one, twice; the other, twice; the table; its token; the other tokens; Γ]
-      move t (1 ∷ 2 ∷ []) $ join t $ move t (6 ∷ []) $ nothing t $ move t (1 ∷ 0 ∷ []) $ join t $ move t (6 ∷ 0 ∷ []) $ join t $ move t (4 ∷ 5 ∷ 0 ∷ 1 ∷ []) $
-      calls-lend t fm R one 2 (SliceRefOf (1 ∷ []) tt (plain (λ _. F)) (λ _. one′) ∷ SliceRefOf (2 ∷ []) tt (plain (λ _. G)) (λ _. one″) ∷ ps) (yes, (yes, ks)) c known b o ys zs room (κ′, (κ″, tt)) (q′, (q″, tt)) (λ ν. (x, (x′, a ν))) (λ ν. (v ∷ [], (v′ ∷ [], vss ν))) g
-      (‵ (flft κ′ q′) ⊛ ‵ (flft κ″ q″) ⊛ ‵ ftrue) (‵ (ShrSlice (named 0) κ′ F .own x (v ∷ [])) ⊛ ‵ (ShrSlice (named 0) κ″ G .own x′ (v′ ∷ []))) (id⊢ 𝓤 _) (id⊢ 𝓤 _)
-      (λ ν. qed W ((‵ (ShrSlice (named 0) κ′ F .own x (v ∷ [])) ⊛ ‵ (ShrSlice (named 0) κ″ G .own x′ (v′ ∷ []))) ∷ []) ∵ split ! $ nothing ! $ use1 W (‵ (owns (typesAt ps (ν ∷ [], (κ′, (κ″, tt)))) (a ν) (vss ν))) (gives ν) $ move ! (2 ∷ 0 ∷ []) $ fjoin ! $ move ! (1 ∷ 0 ∷ []) $ fjoin ! $ done !)
-      asks tells os (λ w typed l.
-      move t (2 ∷ []) $ split t $ move t (1 ∷ []) $ split t $ move t (1 ∷ []) $ drop t $ move t (2 ∷ 3 ∷ 1 ∷ 4 ∷ 0 ∷ 5 ∷ []) $ next w typed l)
+  calls-fill t fm R one F one′ G one″ ps ks c known {κ} {κ′} {κ″} {q} {q′} {q″} {γ} b o ys zs room x v x′ v′ a vss g gives asks tells os next =
+      calls-turn t fm R one F one′ G one″ ps ks unit c known b o ys room x v x′ v′ a vss g gives asks (λ r us. us ≡ zs) tells os (λ w r is us l said.
+      rewrite t 0 (λ (us : List (R .Denot)). ‵ (MutSlice (named 0) κ R .own (slice-at b o γ us) (sliceVal (b, o) (length ys) ∷ []))) said refl $
+      next w (nothing-lawful 𝓤 H A W .typed r _ is .0) (subst (λ (us : List (R .Denot)). length us ≡ length ys) said l))
+
+module _ {M : Type 1} {𝓤 : URA M} {H : Heap 𝓤} {A : Atoms 𝓤} {K : Type 0} {W : Given 𝓤 H A} {Γ : List (Item 𝓤)} {E : Env 𝓤 H} {C : Calls 𝓤 H} {Λ : Loops 𝓤 H} {k : Post 𝓤 H} {d : Place} {rest : Body} {f : Name} {xs : List Operand} where
+  pub calls-three : K → FmC 𝓤 H (W .laws) C → (R₁ : RattleType) (one₁ : One (R₁ .mir)) (R₂ : RattleType) (one₂ : One (R₂ .mir)) (R₃ : RattleType) (one₃ : One (R₃ .mir)) (F : RattleType) (one : One (F .mir)) (G : RattleType) (one′ : One (G .mir)) (ps : List (Slot 5)) (ks : Kepts ps)
+      → (c : Clauses 𝓤 (three-ended R₁ one₁ R₂ one₂ R₃ one₃ F one G one′ ps ks)) → Triple 𝓤 (C f) (Told (three-ended R₁ one₁ R₂ one₂ R₃ one₃ F one G one′ ps ks) 𝓤 H A c)
+      → {κ₁ κ₂ κ₃ κ κ′ : Lft} {q₁ q₂ q₃ q q′ : Share} {γ₁ γ₂ γ₃ : GName} (b₁ o₁ : ℕ) (y₁ : List (R₁ .Denot)) (b₂ o₂ : ℕ) (y₂ : List (R₂ .Denot)) (b₃ o₃ : ℕ) (y₃ : List (R₃ .Denot)) → Room R₁ (length y₁) → Room R₂ (length y₂) → Room R₃ (length y₃)
+      → (x : RefT (List (F .Denot))) (v : Val) (x′ : RefT (List (G .Denot))) (v′ : Val)
+      → (a : (ν₁ ν₂ ν₃ : ℕ) → Denots (typesAt ps (ν₁ ∷ [], (ν₂ ∷ [], (ν₃ ∷ [], (κ, (κ′, tt))))))) (vss : (ν₁ ν₂ ν₃ : ℕ) → Valss (typesAt ps (ν₁ ∷ [], (ν₂ ∷ [], (ν₃ ∷ [], (κ, (κ′, tt)))))))
+      → (g : (ν₁ ν₂ ν₃ : ℕ) (δ₁ δ₂ δ₃ : GName) → c (ν₁ ∷ [], (ν₂ ∷ [], (ν₃ ∷ [], (κ, (κ′, tt))))) (slice-at b₁ o₁ δ₁ y₁, (slice-at b₂ o₂ δ₂ y₂, (slice-at b₃ o₃ δ₃ y₃, (x, (x′, a ν₁ ν₂ ν₃))))) .ghost)
+      → ((ν₁ ν₂ ν₃ : ℕ) → ent 𝓤 (emp 𝓤) (sem 𝓤 H A (owns (typesAt ps (ν₁ ∷ [], (ν₂ ∷ [], (ν₃ ∷ [], (κ, (κ′, tt)))))) (a ν₁ ν₂ ν₃) (vss ν₁ ν₂ ν₃))))
+      → ((ν₁ ν₂ ν₃ : ℕ) (δ₁ δ₂ δ₃ : GName) → ent 𝓤 (emp 𝓤) (c (ν₁ ∷ [], (ν₂ ∷ [], (ν₃ ∷ [], (κ, (κ′, tt))))) (slice-at b₁ o₁ δ₁ y₁, (slice-at b₂ o₂ δ₂ y₂, (slice-at b₃ o₃ δ₃ y₃, (x, (x′, a ν₁ ν₂ ν₃))))) .requires (g ν₁ ν₂ ν₃ δ₁ δ₂ δ₃)))
+      → (Says : List (R₁ .Denot) → List (R₂ .Denot) → List (R₃ .Denot) → Type 0)
+      → ((ν₁ ν₂ ν₃ : ℕ) (δ₁ δ₂ δ₃ : GName) (r : Unit {0}) (ws : Lasts (three-ended R₁ one₁ R₂ one₂ R₃ one₃ F one G one′ ps ks) (ν₁ ∷ [], (ν₂ ∷ [], (ν₃ ∷ [], (κ, (κ′, tt))))) (slice-at b₁ o₁ δ₁ y₁, (slice-at b₂ o₂ δ₂ y₂, (slice-at b₃ o₃ δ₃ y₃, (x, (x′, a ν₁ ν₂ ν₃))))))
+      → ent 𝓤 (c (ν₁ ∷ [], (ν₂ ∷ [], (ν₃ ∷ [], (κ, (κ′, tt))))) (slice-at b₁ o₁ δ₁ y₁, (slice-at b₂ o₂ δ₂ y₂, (slice-at b₃ o₃ δ₃ y₃, (x, (x′, a ν₁ ν₂ ν₃))))) .ensures (g ν₁ ν₂ ν₃ δ₁ δ₂ δ₃) r (atExit (three-ended R₁ one₁ R₂ one₂ R₃ one₃ F one G one′ ps ks) (ν₁ ∷ [], (ν₂ ∷ [], (ν₃ ∷ [], (κ, (κ′, tt))))) (slice-at b₁ o₁ δ₁ y₁, (slice-at b₂ o₂ δ₂ y₂, (slice-at b₃ o₃ δ₃ y₃, (x, (x′, a ν₁ ν₂ ν₃))))) ws)) (fact 𝓤 (Says (ws .0) (ws .1 .0) (ws .1 .1 .0))))
+      → ((ν₁ ν₂ ν₃ : ℕ) (δ₁ δ₂ δ₃ : GName) → Opds K W (raw (Told (three-ended R₁ one₁ R₂ one₂ R₃ one₃ F one G one′ ps ks) 𝓤 H A c .pre (((ν₁ ∷ [], (ν₂ ∷ [], (ν₃ ∷ [], (κ, (κ′, tt))))), (fullShare, (fullShare, (fullShare, (q, (q′, tt))))), tt, (slice-at b₁ o₁ δ₁ y₁, (slice-at b₂ o₂ δ₂ y₂, (slice-at b₃ o₃ δ₃ y₃, (x, (x′, a ν₁ ν₂ ν₃))))), (sliceVal (b₁, o₁) (length y₁) ∷ [], (sliceVal (b₂, o₂) (length y₂) ∷ [], (sliceVal (b₃, o₃) (length y₃) ∷ [], (v ∷ [], (v′ ∷ [], vss ν₁ ν₂ ν₃)))))), g ν₁ ν₂ ν₃ δ₁ δ₂ δ₃))
+      ∷ ‵ (Kept R₃ κ₃ q₃ γ₃ b₃ o₃ ν₃ δ₃ y₃) ∷ ‵ (Kept R₂ κ₂ q₂ γ₂ b₂ o₂ ν₂ δ₂ y₂) ∷ ‵ (Kept R₁ κ₁ q₁ γ₁ b₁ o₁ ν₁ δ₁ y₁) ∷ ‵ (ShrSlice (named 0) κ F .own x (v ∷ [])) ∷ ‵ (ShrSlice (named 0) κ′ G .own x′ (v′ ∷ [])) ∷ Γ) E xs
+      (Told (three-ended R₁ one₁ R₂ one₂ R₃ one₃ F one G one′ ps ks) 𝓤 H A c .args (((ν₁ ∷ [], (ν₂ ∷ [], (ν₃ ∷ [], (κ, (κ′, tt))))), (fullShare, (fullShare, (fullShare, (q, (q′, tt))))), tt, (slice-at b₁ o₁ δ₁ y₁, (slice-at b₂ o₂ δ₂ y₂, (slice-at b₃ o₃ δ₃ y₃, (x, (x′, a ν₁ ν₂ ν₃))))), (sliceVal (b₁, o₁) (length y₁) ∷ [], (sliceVal (b₂, o₂) (length y₂) ∷ [], (sliceVal (b₃, o₃) (length y₃) ∷ [], (v ∷ [], (v′ ∷ [], vss ν₁ ν₂ ν₃)))))), g ν₁ ν₂ ν₃ δ₁ δ₂ δ₃)))
+      → ((w : Val) → Holds (hasTy tyUnit w) × WT w → (z₁ : List (R₁ .Denot)) (z₂ : List (R₂ .Denot)) (z₃ : List (R₃ .Denot)) → length z₁ ≡ length y₁ → length z₂ ≡ length y₂ → length z₃ ≡ length y₃ → Says z₁ z₂ z₃
+      → Seq K W (‵ (MutSlice (named 0) κ₁ R₁ .own (slice-at b₁ o₁ γ₁ z₁) (sliceVal (b₁, o₁) (length y₁) ∷ [])) ∷ ‵ (flft κ₁ q₁) ∷ ‵ (MutSlice (named 0) κ₂ R₂ .own (slice-at b₂ o₂ γ₂ z₂) (sliceVal (b₂, o₂) (length y₂) ∷ [])) ∷ ‵ (flft κ₂ q₂) ∷ ‵ (MutSlice (named 0) κ₃ R₃ .own (slice-at b₃ o₃ γ₃ z₃) (sliceVal (b₃, o₃) (length y₃) ∷ [])) ∷ ‵ (flft κ₃ q₃)
+      ∷ ‵ (flft κ q) ∷ ‵ (ShrSlice (named 0) κ F .own x (v ∷ [])) ∷ ‵ (flft κ′ q′) ∷ ‵ (ShrSlice (named 0) κ′ G .own x′ (v′ ∷ [])) ∷ Γ) (lands C Λ E d w rest k))
+      → Seq K W (‵ (MutSlice (named 0) κ₁ R₁ .own (slice-at b₁ o₁ γ₁ y₁) (sliceVal (b₁, o₁) (length y₁) ∷ [])) ∷ ‵ (flft κ₁ q₁) ∷ ‵ (MutSlice (named 0) κ₂ R₂ .own (slice-at b₂ o₂ γ₂ y₂) (sliceVal (b₂, o₂) (length y₂) ∷ [])) ∷ ‵ (flft κ₂ q₂) ∷ ‵ (MutSlice (named 0) κ₃ R₃ .own (slice-at b₃ o₃ γ₃ y₃) (sliceVal (b₃, o₃) (length y₃) ∷ [])) ∷ ‵ (flft κ₃ q₃)
+      ∷ ‵ (flft κ q) ∷ ‵ (ShrSlice (named 0) κ F .own x (v ∷ [])) ∷ ‵ (flft κ′ q′) ∷ ‵ (ShrSlice (named 0) κ′ G .own x′ (v′ ∷ [])) ∷ Γ) (runs C Λ E (seq (call f xs d) rest) k)
+  calls-three t fm R₁ one₁ R₂ one₂ R₃ one₃ F one G one′ ps ks c known {κ₁} {κ₂} {κ₃} {κ} {κ′} {q₁} {q₂} {q₃} {q} {q′} {γ₁} {γ₂} {γ₃} b₁ o₁ y₁ b₂ o₂ y₂ b₃ o₃ y₃ room₁ room₂ room₃ x v x′ v′ a vss g gives asks Says tells os next =
+      let T : Ended = three-ended R₁ one₁ R₂ one₂ R₃ one₃ F one G one′ ps ks in
+      move t (9 ∷ []) $ twice t G x′ v′ $ move t (9 ∷ []) $ twice t F x v $
+      -- [the one, twice; the other, twice; each table and its token; the other tokens; Γ]
+      move t (4 ∷ 5 ∷ []) $ lend-on t tt R₁ b₁ o₁ y₁ (λ ν₁ δ₁.
+      move t (7 ∷ 8 ∷ []) $ lend-on t tt R₂ b₂ o₂ y₂ (λ ν₂ δ₂.
+      move t (10 ∷ 11 ∷ []) $ lend-on t tt R₃ b₃ o₃ y₃ (λ ν₃ δ₃.
+      -- [of each table, from the third on: the call's token, the slice, what is kept; the one, twice; the other, twice; the other tokens; Γ]
+      nothing t $ use1 W (‵ (owns (typesAt ps (ν₁ ∷ [], (ν₂ ∷ [], (ν₃ ∷ [], (κ, (κ′, tt)))))) (a ν₁ ν₂ ν₃) (vss ν₁ ν₂ ν₃))) (gives ν₁ ν₂ ν₃) $
+      move t (12 ∷ 0 ∷ []) $ fjoin t $ move t (10 ∷ 0 ∷ []) $ fjoin t $ move t (2 ∷ 0 ∷ []) $ fjoin t $ move t (4 ∷ 0 ∷ []) $ fjoin t $ move t (6 ∷ 0 ∷ []) $ fjoin t $
+      -- [what the arguments own; of each table: the call's token, what is kept; the one; the other; the other tokens; Γ]
+      move t (10 ∷ []) $ nothing t $ move t (1 ∷ 0 ∷ []) $ join t $ move t (10 ∷ 0 ∷ []) $ join t $ move t (2 ∷ 0 ∷ []) $ join t $ move t (3 ∷ 0 ∷ []) $ join t $ move t (4 ∷ 0 ∷ []) $ join t $
+      calls-any t fm T c known (((ν₁ ∷ [], (ν₂ ∷ [], (ν₃ ∷ [], (κ, (κ′, tt))))), (fullShare, (fullShare, (fullShare, (q, (q′, tt))))), tt, (slice-at b₁ o₁ δ₁ y₁, (slice-at b₂ o₂ δ₂ y₂, (slice-at b₃ o₃ δ₃ y₃, (x, (x′, a ν₁ ν₂ ν₃))))), (sliceVal (b₁, o₁) (length y₁) ∷ [], (sliceVal (b₂, o₂) (length y₂) ∷ [], (sliceVal (b₃, o₃) (length y₃) ∷ [], (v ∷ [], (v′ ∷ [], vss ν₁ ν₂ ν₃)))))), g ν₁ ν₂ ν₃ δ₁ δ₂ δ₃)
+      (‵ (flft (ν₁ ∷ []) fullShare) ⊛ ‵ (flft (ν₂ ∷ []) fullShare) ⊛ ‵ (flft (ν₃ ∷ []) fullShare) ⊛ ‵ (flft κ q) ⊛ ‵ (flft κ′ q′) ⊛ ‵ ftrue) (id⊢ 𝓤 _) (id⊢ 𝓤 _) (asks ν₁ ν₂ ν₃ δ₁ δ₂ δ₃) (λ r ws. Says (ws .0) (ws .1 .0) (ws .1 .1 .0)) (tells ν₁ ν₂ ν₃ δ₁ δ₂ δ₃) (os ν₁ ν₂ ν₃ δ₁ δ₂ δ₃) (λ w r is ws said.
+      -- [the tokens; what is last; what is kept of each table; the one; the other; Γ]
+      move t (1 ∷ []) $ fsplit t $ fsplit t $ move t (1 ∷ []) $ feqL t (λ len₁. move t (1 ∷ []) $ fsplit t $ fsplit t $ move t (1 ∷ []) $ feqL t (λ len₂. move t (1 ∷ []) $ fsplit t $ fsplit t $ move t (1 ∷ []) $ feqL t (λ len₃. move t (1 ∷ []) $ drop t $
+      -- [the last list of each table, from the third on; the tokens; what is kept of each; the one; the other; Γ]
+      move t (3 ∷ []) $ split t $ move t (1 ∷ []) $ split t $ move t (1 ∷ []) $ split t $ move t (1 ∷ []) $ split t $ move t (1 ∷ []) $ split t $ move t (1 ∷ []) $ drop t $
+      -- [the other's token; the one's; the calls' tokens, from the third on; the last lists; what is kept; the one; the other; Γ]
+      move t (2 ∷ 8 ∷ 5 ∷ []) $ held-again t tt R₃ b₃ o₃ ν₃ δ₃ y₃ (ws .1 .1 .0) room₃ len₃ $
+      move t (4 ∷ 8 ∷ 6 ∷ []) $ held-again t tt R₂ b₂ o₂ ν₂ δ₂ y₂ (ws .1 .0) room₂ len₂ $
+      move t (6 ∷ 8 ∷ 7 ∷ []) $ held-again t tt R₁ b₁ o₁ ν₁ δ₁ y₁ (ws .0) room₁ len₁ $
+      move t (0 ∷ 1 ∷ 2 ∷ 3 ∷ 4 ∷ 5 ∷ 7 ∷ 8 ∷ 6 ∷ 9 ∷ []) $ next w (nothing-lawful 𝓤 H A W .typed r _ is .0) (ws .0) (ws .1 .0) (ws .1 .1 .0) len₁ len₂ len₃ said)))))))

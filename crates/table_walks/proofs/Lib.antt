@@ -14,6 +14,7 @@ pub mod Pick
 pub mod TwoTables
 pub mod ThreeTables
 pub mod Fill
+pub mod Makes
 pub mod Reading
 pub mod Read
 pub mod Loaded

@@ -3,10 +3,8 @@ use Prim.Native.Nat.{ℕ, zero, suc, _+_, _*_, _-_, _≤_, _<_}
 use mathlib.Core.Path.{_≡_, refl, sym, ap, _∙_, subst}
 use mathlib.Core.List.{List, _++_, flatMap}
 use native.Mathlib.Omega.{arith}
-use native.Mathlib.Numerals.{add-one}
 use lib.ListN.{length, length-append}
 use borrow.Rule.Slice.PartMut.{putMid, midOf}
-use Rattle.laws.proofs.Tests.{by-order}
 use Rattle.cut_lines.specs.Cursors.{rest}
 use Rattle.cut_lines.specs.declared.Cursor.{Cursor}
 use Rattle.rules.specs.Reading.{TableIs}
@@ -17,59 +15,48 @@ use Rattle.note_words.specs.Store.{liesAt, sectionAt}
 use Rattle.layout_by_notes.specs.Lies.{waveformsNoted, rowsNoted}
 use Rattle.table_rows.specs.Rows.{Lies}
 use Rattle.table_rows.proofs.Stores.{over-none, over-length, over-rest, stored-append}
-use Rattle.from_notes.specs.Made.{noteBy, rowsAt, StandsBehind}
+use Rattle.from_notes.specs.Made.{joinedTo, noteBy, rowsAt, StandsBehind}
+use Rattle.from_notes.proofs.Joined.{joined-more, joined-rise}
 use Rattle.from_notes.proofs.Sections.{tables-noted}
 use Rattle.record_words.specs.Records.{waveformWords, modelSize}
 use Rattle.section_words.specs.Models.{waveformsBehind, rowsBehind}
-use Rattle.table_words.specs.Packed.{wordsTo, modelWordsAt, waveformWordsAt, rowWordsAt}
+use Rattle.table_words.specs.Packed.{modelWordsAt, waveformWordsAt, rowWordsAt}
 use Rattle.table_words.proofs.Laws.{words-length}
 
 -- ---- words of f, one after the other
 
 module _ (f : ℕ → List ℕ) where
-  to-more : (i : ℕ) → wordsTo f (i + 1) ≡ wordsTo f i ++ f i
-  unfolding wordsTo
-  to-more i = rw (add-one i) refl
-
-  to-rise : (i n : ℕ) → i ≤ n → length (wordsTo f i) ≤ length (wordsTo f n)
-  unfolding wordsTo
-  to-rise i zero h = let e : i ≡ 0 = omega arith in rw e (omega arith)
-  to-rise i (suc n) h =
-      by-order i n
-      (λ q. omega (arith, to-rise i n q, length-append (wordsTo f n) (f n)))
-      (λ q. let e : i ≡ suc n = omega arith in rw e (omega arith))
-
-  pub to-start : (before : List ℕ) → Lies before before 0 (wordsTo f 0)
-  unfolding wordsTo
+  pub to-start : (before : List ℕ) → Lies before before 0 (joinedTo f 0)
+  unfolding joinedTo
   to-start before = record { used = refl; store = sym (over-none before) }
 
   -- those of the first i are written, and there is room for those of n
-  module _ {before now : List ℕ} {used i : ℕ} (p : Lies before now used (wordsTo f i)) (n : ℕ) (h : length (wordsTo f n) ≤ length before) where
+  module _ {before now : List ℕ} {used i : ℕ} (p : Lies before now used (joinedTo f i)) (n : ℕ) (h : length (joinedTo f n) ≤ length before) where
     pub to-length : i ≤ n → length now ≡ length before
-    to-length q = ap length (p .store) ∙ over-length before (wordsTo f i) (omega (arith, to-rise i n q))
+    to-length q = ap length (p .store) ∙ over-length before (joinedTo f i) (omega (arith, joined-rise f i n q))
 
     module _ (q : i < n) where
       more-fit : used + length (f i) ≤ length before
-      more-fit = omega (arith, p .used, ap length (to-more i), length-append (wordsTo f i) (f i), to-rise (i + 1) n (omega arith))
+      more-fit = omega (arith, p .used, ap length (joined-more f i), length-append (joinedTo f i) (f i), joined-rise f (i + 1) n (omega arith))
 
       pub to-fit : used + length (f i) ≤ length now
       to-fit = omega (arith, more-fit, to-length (omega arith))
 
       pub to-turn : {part part' : List ℕ} {k : ℕ} → part ≡ midOf used (length now - used) now → Lies part part' k (f i)
-          → Lies before (putMid used (length now - used) now part') (used + k) (wordsTo f (i + 1))
+          → Lies before (putMid used (length now - used) now part') (used + k) (joinedTo f (i + 1))
       to-turn e l =
           record {
-            used = omega (arith, l .used, p .used, ap length (to-more i), length-append (wordsTo f i) (f i));
-            store = rw (l .store, e) (over-rest before (wordsTo f i) (f i) used (p .used) (omega (arith, more-fit)) now (p .store) ∙ ap (over before) (sym (to-more i)));
+            used = omega (arith, l .used, p .used, ap length (joined-more f i), length-append (joinedTo f i) (f i));
+            store = rw (l .store, e) (over-rest before (joinedTo f i) (f i) used (p .used) (omega (arith, more-fit)) now (p .store) ∙ ap (over before) (sym (joined-more f i)));
           }
 
 -- ---- the records, each of modelSize words
 
 module _ (s ns : List ℕ) where
-  pub models-room : (n : ℕ) → length (wordsTo (modelWordsAt s ns) n) ≡ modelSize * n
+  pub models-room : (n : ℕ) → length (joinedTo (modelWordsAt s ns) n) ≡ modelSize * n
   models-room n = words-length (modelWordsAt s ns) modelSize (λ k. refl) n
 
-  module _ {before now : List ℕ} {i : ℕ} (p : Lies before now (modelSize * i) (wordsTo (modelWordsAt s ns) i)) (n : ℕ) (h : modelSize * n ≤ length before) where
+  module _ {before now : List ℕ} {i : ℕ} (p : Lies before now (modelSize * i) (joinedTo (modelWordsAt s ns) i)) (n : ℕ) (h : modelSize * n ≤ length before) where
     pub models-length : i ≤ n → length now ≡ length before
     models-length q = to-length (modelWordsAt s ns) p n (omega (arith, h, models-room n)) q
 
@@ -77,10 +64,10 @@ module _ (s ns : List ℕ) where
     models-fit q = to-fit (modelWordsAt s ns) p n (omega (arith, h, models-room n)) q
 
     pub models-turn : i < n → {part part' : List ℕ} → part ≡ midOf (modelSize * i) (length now - modelSize * i) now → part' ≡ over part (modelWordsAt s ns i)
-        → Lies before (putMid (modelSize * i) (length now - modelSize * i) now part') (modelSize * (i + 1)) (wordsTo (modelWordsAt s ns) (i + 1))
+        → Lies before (putMid (modelSize * i) (length now - modelSize * i) now part') (modelSize * (i + 1)) (joinedTo (modelWordsAt s ns) (i + 1))
     models-turn q {part} {part'} e is =
         let k : modelSize * i + modelSize ≡ modelSize * (i + 1) = omega arith in
-        subst (λ (m : ℕ). Lies before (putMid (modelSize * i) (length now - modelSize * i) now part') m (wordsTo (modelWordsAt s ns) (i + 1))) k
+        subst (λ (m : ℕ). Lies before (putMid (modelSize * i) (length now - modelSize * i) now part') m (joinedTo (modelWordsAt s ns) (i + 1))) k
         (to-turn (modelWordsAt s ns) p n (omega (arith, h, models-room n)) q e (record { used = refl; store = is }))
 
 -- ---- a model behind whose keyword line a cursor stands
@@ -96,8 +83,8 @@ module _ (s ns : List ℕ) (i : ℕ) {c : Cursor} (h : StandsBehind s ns (liesAt
 
 -- ---- the rows of the first models
 
-pub rows-words : (s ns : List ℕ) (n : ℕ) → stored (rowsAt s ns n) ≡ wordsTo (rowWordsAt s ns) n
-unfolding rowsAt wordsTo stored
+pub rows-words : (s ns : List ℕ) (n : ℕ) → stored (rowsAt s ns n) ≡ joinedTo (rowWordsAt s ns) n
+unfolding joinedTo stored
 rows-words s ns zero = refl
 rows-words s ns (suc n) =
     stored-append (rowsAt s ns n) (rowsNoted (noteBy s ns OfModel n)) ∙ ap (λ (l : List ℕ). l ++ rowWordsAt s ns n) (rows-words s ns n)

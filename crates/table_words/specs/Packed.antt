@@ -1,21 +1,16 @@
 -- The answer and the tables in words.
-use Prim.Native.Nat.{ℕ, zero, suc, _*_, _≤_}
+use Prim.Native.Nat.{ℕ, _*_, _≤_}
 use mathlib.Core.List.{List, [], _∷_, _++_, flatMap}
 use lib.ListN.{length}
 use Rattle.records.specs.declared.Counts.{Counts}
 use Rattle.records.specs.Stored.{stored, over}
 use Rattle.records.specs.declared.Kind.the-variants.{OfModel}
 use Rattle.layout_by_notes.specs.Lies.{waveformsNoted, rowsNoted}
-use Rattle.from_notes.specs.Made.{noteBy, componentAt, pinAt, selectorAt, choiceAt, modelAt, rowsAt}
+use Rattle.from_notes.specs.Made.{joinedTo, noteBy, componentAt, pinAt, selectorAt, choiceAt, modelAt, rowsAt}
 use Rattle.records.specs.declared.Verdict.{Verdict}
 use Rattle.records.specs.declared.Verdict.the-variants.{Accepted, Refused}
 use Rattle.records.specs.declared.Answer.{Answer}
 use Rattle.record_words.specs.Records.{textWords, componentWords, pinWords, selectorWords, choiceWords, modelWords, waveformWords, componentSize, pinSize, selectorSize, choiceSize, modelSize}
-
--- the words of the first n records
-unfoldable pub wordsTo : (ℕ → List ℕ) → ℕ → List ℕ
-wordsTo f zero = []
-wordsTo f (suc n) = wordsTo f n ++ f n
 
 -- ---- a noted model: the words of its record, of its waveforms' records and of its rows; k is its place among the noted models
 
@@ -67,17 +62,17 @@ pub record Room (s ns : List ℕ) (o : Counts) (t : WordTables) : Type 0 where
   pub selectors : selectorSize * o .selectors ≤ length (t .selectors)
   pub choices : choiceSize * o .choices ≤ length (t .choices)
   pub models : modelSize * o .models ≤ length (t .models)
-  pub waveforms : length (wordsTo (waveformWordsAt s ns) (o .models)) ≤ length (t .waveforms)
+  pub waveforms : length (joinedTo (waveformWordsAt s ns) (o .models)) ≤ length (t .waveforms)
   pub rows : length (stored (rowsAt s ns (o .models))) ≤ length (t .rows)
 
 abbrev pub filled : List ℕ → List ℕ → Counts → WordTables → WordTables
 filled s ns o t =
     record {
-      components = over (t .components) (wordsTo (λ k. componentWords (componentAt s ns k)) (o .components));
-      pins = over (t .pins) (wordsTo (λ k. pinWords (pinAt s ns k)) (o .pins));
-      selectors = over (t .selectors) (wordsTo (λ k. selectorWords (selectorAt s ns k)) (o .selectors));
-      choices = over (t .choices) (wordsTo (λ k. choiceWords (choiceAt s ns k)) (o .choices));
-      models = over (t .models) (wordsTo (modelWordsAt s ns) (o .models));
-      waveforms = over (t .waveforms) (wordsTo (waveformWordsAt s ns) (o .models));
+      components = over (t .components) (joinedTo (λ k. componentWords (componentAt s ns k)) (o .components));
+      pins = over (t .pins) (joinedTo (λ k. pinWords (pinAt s ns k)) (o .pins));
+      selectors = over (t .selectors) (joinedTo (λ k. selectorWords (selectorAt s ns k)) (o .selectors));
+      choices = over (t .choices) (joinedTo (λ k. choiceWords (choiceAt s ns k)) (o .choices));
+      models = over (t .models) (joinedTo (modelWordsAt s ns) (o .models));
+      waveforms = over (t .waveforms) (joinedTo (waveformWordsAt s ns) (o .models));
       rows = over (t .rows) (stored (rowsAt s ns (o .models)));
     }

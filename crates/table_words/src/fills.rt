@@ -3,9 +3,9 @@ ghost use mathlib.Core.Path.{_≡_};
 ghost use Prim.Native.Nat.{_*_, _≤_};
 ghost use lib.ListN.{length};
 ghost use Rattle.records.specs.Stored.{over};
-ghost use Rattle.from_notes.specs.Made.{componentAt, pinAt, selectorAt, choiceAt};
+ghost use Rattle.from_notes.specs.Made.{joinedTo, componentAt, pinAt, selectorAt, choiceAt};
 ghost use Rattle.record_words.specs.Records.{componentWords, pinWords, selectorWords, choiceWords, componentSize, pinSize, selectorSize, choiceSize, modelSize};
-ghost use Rattle.table_words.specs.Packed.{wordsTo, modelWordsAt, waveformWordsAt, rowWordsAt};
+ghost use Rattle.table_words.specs.Packed.{modelWordsAt, waveformWordsAt, rowWordsAt};
 use from_notes::places::name_noted;
 use from_notes::places::place_noted;
 use from_notes::places::section_noted;
@@ -27,7 +27,7 @@ use section_words::put;
 
 pub(crate) fn fill_components(out: &mut [u64], src: &[u8], notes: &[u16], n: usize)
     requires { ⌜ componentSize * n ≤ length (now out) ⌝ }
-    ensures { λ _. ⌜ now (out .exit) ≡ over (now (out .entry)) (wordsTo (λ k. componentWords (componentAt (now (src .entry)) (now (notes .entry)) k)) n) ⌝ }
+    ensures { λ _. ⌜ now (out .exit) ≡ over (now (out .entry)) (joinedTo (λ k. componentWords (componentAt (now (src .entry)) (now (notes .entry)) k)) n) ⌝ }
 {
     let mut i = 0;
     while i < n {
@@ -40,7 +40,7 @@ pub(crate) fn fill_components(out: &mut [u64], src: &[u8], notes: &[u16], n: usi
 
 pub(crate) fn fill_pins(out: &mut [u64], src: &[u8], notes: &[u16], n: usize)
     requires { ⌜ pinSize * n ≤ length (now out) ⌝ }
-    ensures { λ _. ⌜ now (out .exit) ≡ over (now (out .entry)) (wordsTo (λ k. pinWords (pinAt (now (src .entry)) (now (notes .entry)) k)) n) ⌝ }
+    ensures { λ _. ⌜ now (out .exit) ≡ over (now (out .entry)) (joinedTo (λ k. pinWords (pinAt (now (src .entry)) (now (notes .entry)) k)) n) ⌝ }
 {
     let mut i = 0;
     while i < n {
@@ -53,7 +53,7 @@ pub(crate) fn fill_pins(out: &mut [u64], src: &[u8], notes: &[u16], n: usize)
 
 pub(crate) fn fill_selectors(out: &mut [u64], src: &[u8], notes: &[u16], n: usize)
     requires { ⌜ selectorSize * n ≤ length (now out) ⌝ }
-    ensures { λ _. ⌜ now (out .exit) ≡ over (now (out .entry)) (wordsTo (λ k. selectorWords (selectorAt (now (src .entry)) (now (notes .entry)) k)) n) ⌝ }
+    ensures { λ _. ⌜ now (out .exit) ≡ over (now (out .entry)) (joinedTo (λ k. selectorWords (selectorAt (now (src .entry)) (now (notes .entry)) k)) n) ⌝ }
 {
     let mut i = 0;
     while i < n {
@@ -66,7 +66,7 @@ pub(crate) fn fill_selectors(out: &mut [u64], src: &[u8], notes: &[u16], n: usiz
 
 pub(crate) fn fill_choices(out: &mut [u64], src: &[u8], notes: &[u16], n: usize)
     requires { ⌜ choiceSize * n ≤ length (now out) ⌝ }
-    ensures { λ _. ⌜ now (out .exit) ≡ over (now (out .entry)) (wordsTo (λ k. choiceWords (choiceAt (now (src .entry)) (now (notes .entry)) k)) n) ⌝ }
+    ensures { λ _. ⌜ now (out .exit) ≡ over (now (out .entry)) (joinedTo (λ k. choiceWords (choiceAt (now (src .entry)) (now (notes .entry)) k)) n) ⌝ }
 {
     let mut i = 0;
     while i < n {
@@ -121,11 +121,11 @@ pub(crate) fn fill_models(
     n: usize,
 )
     requires { ⌜ modelSize * n ≤ length (now models) ⌝ }
-    requires { ⌜ length (wordsTo (waveformWordsAt (now src) (now notes)) n) ≤ length (now waveforms) ⌝ }
-    requires { ⌜ length (wordsTo (rowWordsAt (now src) (now notes)) n) ≤ length (now rows) ⌝ }
-    ensures { λ _. ⌜ now (models .exit) ≡ over (now (models .entry)) (wordsTo (modelWordsAt (now (src .entry)) (now (notes .entry))) n) ⌝ }
-    ensures { λ _. ⌜ now (waveforms .exit) ≡ over (now (waveforms .entry)) (wordsTo (waveformWordsAt (now (src .entry)) (now (notes .entry))) n) ⌝ }
-    ensures { λ _. ⌜ now (rows .exit) ≡ over (now (rows .entry)) (wordsTo (rowWordsAt (now (src .entry)) (now (notes .entry))) n) ⌝ }
+    requires { ⌜ length (joinedTo (waveformWordsAt (now src) (now notes)) n) ≤ length (now waveforms) ⌝ }
+    requires { ⌜ length (joinedTo (rowWordsAt (now src) (now notes)) n) ≤ length (now rows) ⌝ }
+    ensures { λ _. ⌜ now (models .exit) ≡ over (now (models .entry)) (joinedTo (modelWordsAt (now (src .entry)) (now (notes .entry))) n) ⌝ }
+    ensures { λ _. ⌜ now (waveforms .exit) ≡ over (now (waveforms .entry)) (joinedTo (waveformWordsAt (now (src .entry)) (now (notes .entry))) n) ⌝ }
+    ensures { λ _. ⌜ now (rows .exit) ≡ over (now (rows .entry)) (joinedTo (rowWordsAt (now (src .entry)) (now (notes .entry))) n) ⌝ }
 {
     let mut waves: usize = 0;
     let mut words: usize = 0;

@@ -14,17 +14,15 @@ use denote.Triple.Spec.{tripleOf}
 use denote.Triple.Table.{entered, cited}
 use Rattle.table_walks.specs.Filled.{filledTo}
 use Rattle.walked_records.proofs.Tables as R
-use Rattle.table_walks.proofs.Read.{Filling, Fill, Lengths as Lengthened, Outlined as Outlining, Counts as Counted, read-meets}
-use Rattle.from_notes.specs.Made.{componentAt, pinAt, selectorAt, choiceAt, modelAt, waveformAt}
-use Rattle.reader.specs.Filling.{rowsFit, rowsFilled, blankNotes}
+use Rattle.table_walks.proofs.Read.{Filling, FillingThree, Fill, FillThree, Lengths as Lengthened, Outlined as Outlining, Counts as Counted, read-meets}
+use Rattle.from_notes.specs.Made.{componentAt, pinAt, selectorAt, choiceAt}
+use Rattle.reader.specs.Filling.{ModelsFit, ModelsFilled, blankNotes}
 use Rattle.reader.specs.Promise.{lengthsOf, Read}
 use Rattle.reader.proofs.Answered.{answer, answer-elem}
 use Rattle.records.specs.declared.Component.{Component}
 use Rattle.records.specs.declared.Pin.{Pin}
 use Rattle.records.specs.declared.Selector.{Selector}
 use Rattle.records.specs.declared.Choice.{Choice}
-use Rattle.records.specs.declared.Model.{Model}
-use Rattle.records.specs.declared.Waveform.{Waveform}
 use Rattle.records.specs.declared.Lengths.{Lengths}
 use Rattle.records.specs.declared.Answer.{Answer}
 use Rattle.records.specs.declared.Counts.{Counts}
@@ -52,12 +50,6 @@ use Rattle.reader.proofs.fill_choices.Met as fill-choices-thm
 use Rattle.reader.proofs.fill_models.Symbol as fill-models-def
 use Rattle.reader.proofs.fill_models.Symbol.{name as #fill-models}
 use Rattle.reader.proofs.fill_models.Met as fill-models-thm
-use Rattle.reader.proofs.fill_waveforms.Symbol as fill-waveforms-def
-use Rattle.reader.proofs.fill_waveforms.Symbol.{name as #fill-waveforms}
-use Rattle.reader.proofs.fill_waveforms.Met as fill-waveforms-thm
-use Rattle.reader.proofs.fill_rows.Symbol as fill-rows-def
-use Rattle.reader.proofs.fill_rows.Symbol.{name as #fill-rows}
-use Rattle.reader.proofs.fill_rows.Met as fill-rows-thm
 use Rattle.reader.proofs.read.Key.{name as #read}
 use Rattle.reader.proofs.read as read
 use Rattle.reader.proofs.read.Statement as stated
@@ -75,14 +67,8 @@ selectors = record { asks = λ (s ns : List ℕ) (o : Counts) (ys : List Selecto
 abbrev choices : Filling R.counts R.choices
 choices = record { asks = λ (s ns : List ℕ) (o : Counts) (ys : List Choice). o .choices ≤ length ys; left = λ (s ns : List ℕ) (o : Counts) (ys : List Choice). filledTo (λ k. choiceAt s ns k) (o .choices) ys }
 
-abbrev models : Filling R.counts R.models
-models = record { asks = λ (s ns : List ℕ) (o : Counts) (ys : List Model). o .models ≤ length ys; left = λ (s ns : List ℕ) (o : Counts) (ys : List Model). filledTo (λ k. modelAt s ns k) (o .models) ys }
-
-abbrev waveforms : Filling R.counts R.waveforms
-waveforms = record { asks = λ (s ns : List ℕ) (o : Counts) (ys : List Waveform). o .waveforms ≤ length ys; left = λ (s ns : List ℕ) (o : Counts) (ys : List Waveform). filledTo (λ k. waveformAt s ns k) (o .waveforms) ys }
-
-abbrev rows : Filling R.counts R.rows
-rows = record { asks = λ (s ns : List ℕ) (o : Counts) (ys : List ℕ). rowsFit s ns o ys; left = λ (s ns : List ℕ) (o : Counts) (ys : List ℕ). rowsFilled s ns o ys }
+abbrev models : FillingThree R.counts R.models R.waveforms R.rows
+models = record { asks = ModelsFit; Left = ModelsFilled }
 
 -- what `outlined` wants and tells
 abbrev wants : (M : Type 1) (𝓤 : URA M) → List ℕ → Lengths → List ℕ → SProp 𝓤
@@ -99,15 +85,13 @@ unfolding code.routine tablesOf
 read-spec 𝓤 H 𝓜 𝓖 𝓡 =
     entered 𝓤 H (tripleOf 𝓤 H (𝓖 .A) read.signature (read.spec 𝓤 H (𝓖 .A) (𝓜 .mem) (𝓡 .run)))
     (tables 𝓤 H 𝓜 𝓡 code.env .C) (tables 𝓤 H 𝓜 𝓡 code.env .Λ) #read code.function (code.unfolded 𝓤 H 𝓜 𝓡)
-    (read-meets R.components R.pins R.selectors R.choices R.models R.waveforms R.rows R.lengths answer R.counts lengthsOf wants tells Outlines (λ (r : Answer). r .counts) components pins selectors choices models waveforms rows Read storeLength blankNotes #lengths-of #outlined #counts-of #fill-components #fill-pins #fill-selectors #fill-choices #fill-models #fill-waveforms #fill-rows
+    (read-meets R.components R.pins R.selectors R.choices R.models R.waveforms R.rows R.lengths answer R.counts lengthsOf wants tells Outlines (λ (r : Answer). r .counts) components pins selectors choices models Read storeLength blankNotes #lengths-of #outlined #counts-of #fill-components #fill-pins #fill-selectors #fill-choices #fill-models
     R.components-elem R.pins-elem R.selectors-elem R.choices-elem R.models-elem R.waveforms-elem R.rows-elem R.lengths-elem answer-elem R.counts-elem (lit< tt, lit< tt) blank-is (λ M 𝓤 s l. factI 𝓤 _ (emp 𝓤) long-enough) (λ M 𝓤 s l r ns. id⊢ 𝓤 _) fits finishes 𝓤 H (𝓖 .A) (givenOf 𝓤 H 𝓜 𝓖) (tablesOf 𝓤 H 𝓜 (tables 𝓤 H 𝓜 𝓡 code.env))
-    (cited 𝓤 H (Lengthened R.components R.pins R.selectors R.choices R.models R.waveforms R.rows R.lengths answer R.counts lengthsOf wants tells Outlines (λ (r : Answer). r .counts) components pins selectors choices models waveforms rows Read storeLength blankNotes #lengths-of #outlined #counts-of #fill-components #fill-pins #fill-selectors #fill-choices #fill-models #fill-waveforms #fill-rows 𝓤 H (𝓖 .A)) 𝓜 𝓡 code.env #lengths-of lengths-of-def.routine code.calls-reader·lengths-of (lengths-of-thm.met 𝓤 H 𝓜 𝓖 𝓡))
-    (cited 𝓤 H (Outlining R.components R.pins R.selectors R.choices R.models R.waveforms R.rows R.lengths answer R.counts lengthsOf wants tells Outlines (λ (r : Answer). r .counts) components pins selectors choices models waveforms rows Read storeLength blankNotes #lengths-of #outlined #counts-of #fill-components #fill-pins #fill-selectors #fill-choices #fill-models #fill-waveforms #fill-rows 𝓤 H (𝓖 .A)) 𝓜 𝓡 code.env #outlined outlined-def.routine code.calls-file-answer·settling·outlined (outlined-thm.met 𝓤 H 𝓜 𝓖 𝓡))
-    (cited 𝓤 H (Counted R.components R.pins R.selectors R.choices R.models R.waveforms R.rows R.lengths answer R.counts lengthsOf wants tells Outlines (λ (r : Answer). r .counts) components pins selectors choices models waveforms rows Read storeLength blankNotes #lengths-of #outlined #counts-of #fill-components #fill-pins #fill-selectors #fill-choices #fill-models #fill-waveforms #fill-rows 𝓤 H (𝓖 .A)) 𝓜 𝓡 code.env #counts-of counts-of-def.routine code.calls-reader·counts-of (counts-of-thm.met 𝓤 H 𝓜 𝓖 𝓡))
+    (cited 𝓤 H (Lengthened R.components R.pins R.selectors R.choices R.models R.waveforms R.rows R.lengths answer R.counts lengthsOf wants tells Outlines (λ (r : Answer). r .counts) components pins selectors choices models Read storeLength blankNotes #lengths-of #outlined #counts-of #fill-components #fill-pins #fill-selectors #fill-choices #fill-models 𝓤 H (𝓖 .A)) 𝓜 𝓡 code.env #lengths-of lengths-of-def.routine code.calls-reader·lengths-of (lengths-of-thm.met 𝓤 H 𝓜 𝓖 𝓡))
+    (cited 𝓤 H (Outlining R.components R.pins R.selectors R.choices R.models R.waveforms R.rows R.lengths answer R.counts lengthsOf wants tells Outlines (λ (r : Answer). r .counts) components pins selectors choices models Read storeLength blankNotes #lengths-of #outlined #counts-of #fill-components #fill-pins #fill-selectors #fill-choices #fill-models 𝓤 H (𝓖 .A)) 𝓜 𝓡 code.env #outlined outlined-def.routine code.calls-file-answer·settling·outlined (outlined-thm.met 𝓤 H 𝓜 𝓖 𝓡))
+    (cited 𝓤 H (Counted R.components R.pins R.selectors R.choices R.models R.waveforms R.rows R.lengths answer R.counts lengthsOf wants tells Outlines (λ (r : Answer). r .counts) components pins selectors choices models Read storeLength blankNotes #lengths-of #outlined #counts-of #fill-components #fill-pins #fill-selectors #fill-choices #fill-models 𝓤 H (𝓖 .A)) 𝓜 𝓡 code.env #counts-of counts-of-def.routine code.calls-reader·counts-of (counts-of-thm.met 𝓤 H 𝓜 𝓖 𝓡))
     (cited 𝓤 H (Fill R.counts R.components components 𝓤 H (𝓖 .A)) 𝓜 𝓡 code.env #fill-components fill-components-def.routine code.calls-reader·fill-components (fill-components-thm.met 𝓤 H 𝓜 𝓖 𝓡))
     (cited 𝓤 H (Fill R.counts R.pins pins 𝓤 H (𝓖 .A)) 𝓜 𝓡 code.env #fill-pins fill-pins-def.routine code.calls-reader·fill-pins (fill-pins-thm.met 𝓤 H 𝓜 𝓖 𝓡))
     (cited 𝓤 H (Fill R.counts R.selectors selectors 𝓤 H (𝓖 .A)) 𝓜 𝓡 code.env #fill-selectors fill-selectors-def.routine code.calls-reader·fill-selectors (fill-selectors-thm.met 𝓤 H 𝓜 𝓖 𝓡))
     (cited 𝓤 H (Fill R.counts R.choices choices 𝓤 H (𝓖 .A)) 𝓜 𝓡 code.env #fill-choices fill-choices-def.routine code.calls-reader·fill-choices (fill-choices-thm.met 𝓤 H 𝓜 𝓖 𝓡))
-    (cited 𝓤 H (Fill R.counts R.models models 𝓤 H (𝓖 .A)) 𝓜 𝓡 code.env #fill-models fill-models-def.routine code.calls-reader·fill-models (fill-models-thm.met 𝓤 H 𝓜 𝓖 𝓡))
-    (cited 𝓤 H (Fill R.counts R.waveforms waveforms 𝓤 H (𝓖 .A)) 𝓜 𝓡 code.env #fill-waveforms fill-waveforms-def.routine code.calls-reader·fill-waveforms (fill-waveforms-thm.met 𝓤 H 𝓜 𝓖 𝓡))
-    (cited 𝓤 H (Fill R.counts R.rows rows 𝓤 H (𝓖 .A)) 𝓜 𝓡 code.env #fill-rows fill-rows-def.routine code.calls-reader·fill-rows (fill-rows-thm.met 𝓤 H 𝓜 𝓖 𝓡)))
+    (cited 𝓤 H (FillThree R.counts R.models R.waveforms R.rows models 𝓤 H (𝓖 .A)) 𝓜 𝓡 code.env #fill-models fill-models-def.routine code.calls-reader·fill-models (fill-models-thm.met 𝓤 H 𝓜 𝓖 𝓡)))

@@ -6,15 +6,14 @@ use native.Mathlib.Omega.{arith}
 use borrow.Author.Needs.{needs}
 use denote.Ref.{now}
 use Rattle.records.specs.Stored.{over}
-use Rattle.from_notes.specs.Made.{choiceAt}
+use Rattle.from_notes.specs.Made.{joinedTo, choiceAt}
 use Rattle.record_words.specs.Records.{choiceWords, choiceSize}
-use Rattle.table_words.specs.Packed.{wordsTo}
 use Rattle.table_words.proofs.Laws.{words-none, words-keep, words-room, words-turn}
 use Rattle.table_words.proofs.fills.fill_choices.Statement.{statement}
 use Rattle.table_words.proofs.fills.fill_choices.Tie as tie
 
 abbrev Inv-loop : tie.InvT-loop
-Inv-loop out₀ src notes n i₀ out i = (i ≤ n) × (out ≡ over out₀ (wordsTo (λ (k : ℕ). choiceWords (choiceAt src notes k)) i))
+Inv-loop out₀ src notes n i₀ out i = (i ≤ n) × (out ≡ over out₀ (joinedTo (λ (k : ℕ). choiceWords (choiceAt src notes k)) i))
 
 abbrev μ-loop : tie.MeasureT-loop
 μ-loop out₀ src notes n i₀ out i = n - i

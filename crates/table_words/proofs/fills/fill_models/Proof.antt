@@ -4,17 +4,18 @@ use mathlib.Core.Path.{_≡_, refl, sym, ap}
 use native.Mathlib.Omega.{arith}
 use borrow.Author.Needs.{needs}
 use denote.Ref.{now}
+use Rattle.from_notes.specs.Made.{joinedTo}
 use Rattle.record_words.specs.Records.{modelSize}
 use Rattle.table_rows.specs.Rows.{Lies}
 use Rattle.table_rows.proofs.Stores.{rest-room}
 use Rattle.section_words.specs.declared.Used.{Used}
-use Rattle.table_words.specs.Packed.{wordsTo, modelWordsAt, waveformWordsAt, rowWordsAt}
+use Rattle.table_words.specs.Packed.{modelWordsAt, waveformWordsAt, rowWordsAt}
 use Rattle.table_words.proofs.Models.{to-start, to-length, to-fit, to-turn, models-length, models-fit, models-turn}
 use Rattle.table_words.proofs.fills.fill_models.Statement.{statement}
 use Rattle.table_words.proofs.fills.fill_models.Tie as tie
 
 abbrev Inv-loop : tie.InvT-loop
-Inv-loop models₀ waveforms₀ rows₀ src notes n waves₀ words₀ i₀ models waveforms rows waves words i = (i ≤ n) × Lies models₀ models (modelSize * i) (wordsTo (modelWordsAt src notes) i) × Lies waveforms₀ waveforms waves (wordsTo (waveformWordsAt src notes) i) × Lies rows₀ rows words (wordsTo (rowWordsAt src notes) i)
+Inv-loop models₀ waveforms₀ rows₀ src notes n waves₀ words₀ i₀ models waveforms rows waves words i = (i ≤ n) × Lies models₀ models (modelSize * i) (joinedTo (modelWordsAt src notes) i) × Lies waveforms₀ waveforms waves (joinedTo (waveformWordsAt src notes) i) × Lies rows₀ rows words (joinedTo (rowWordsAt src notes) i)
 
 abbrev μ-loop : tie.MeasureT-loop
 μ-loop models₀ waveforms₀ rows₀ src notes n waves₀ words₀ i₀ models waveforms rows waves words i = n - i
