@@ -17,15 +17,14 @@ use Rattle.rules.specs.Whole.{Held, Outcome, passed, refused, outcome, textsOf,
 use Rattle.lines.specs.Lines.{bytesFault}
 use Rattle.records.specs.declared.Fault.{Fault}
 use Rattle.lines.specs.declared.Bytes.the-variants.{Clean}
-use Rattle.records.specs.Bounds.{mostWaveforms}
 use Rattle.records.specs.declared.Kind.{Kind}
 use Rattle.records.specs.declared.Kind.the-variants.{OfComponent, OfPin, OfSelector, OfChoice, OfModel}
 use Rattle.records.specs.declared.Lengths.{Lengths}
 use Rattle.rules.specs.declared.Stage.the-variants.{BeforeVersion}
 use Rattle.notes.specs.Noted.{Note, entryOf, used, heldOf, runLog, emptyLog, whole, clash}
 use Rattle.records.specs.declared.Counts.{Counts}
-use Rattle.note_words.specs.Store.{namesHeld, mostNames, listFrom, storeLength, kindOf, noteAt, waveAt, notesTo, wavesTo, logIn}
-use Rattle.note_words.proofs.Laws.{notes-agree, waves-agree}
+use Rattle.note_words.specs.Store.{namesHeld, mostNames, listFrom, storeLength, kindOf, noteAt, notesTo, logIn}
+use Rattle.note_words.proofs.Laws.{notes-agree}
 use Rattle.layout_by_notes.specs.Lies.{pick, isOf, noted, componentNoted, pinNoted, selectorNoted, choiceNoted, modelNoted, Lies}
 use Rattle.layout_by_notes.proofs.Tables.{lies}
 use Rattle.name_checks.specs.Lookup as look
@@ -39,11 +38,11 @@ use Rattle.file_answer.specs.declared.Ending.the-variants.{Whole, Broken
 use Rattle.noted_events.proofs.EventLaws.{names-small}
 use Rattle.component_records.specs.Views.{headerLaid}
 use Rattle.file_answer.specs.Answered.{refusal, answerOf, answerFor, verdictOf}
-use Rattle.file_answer.specs.Sorted.{upTo, Sorted, SortedFor, Outlines, ReadWhole}
+use Rattle.file_answer.specs.Sorted.{Sorted, SortedFor, Outlines, ReadWhole}
 use Rattle.records.specs.declared.Answer.{Answer}
 use Rattle.records.specs.declared.Verdict.the-variants.{Accepted}
 use Rattle.file_answer.proofs.Laws.{all-texts, used-twice, broken-off, read-through}
-use Rattle.file_answer.proofs.SortedLaws.{by-kind, waves-upTo, waves-length}
+use Rattle.file_answer.proofs.SortedLaws.{by-kind}
 
 pub first-placed : (s : List ℕ) (c : Cursor) → c ≡ firstCursor → Placed s c
 first-placed s c e = subst (Placed s) (sym e) (record { within = zero-le; lines = omega arith })
@@ -70,13 +69,10 @@ kind-from OfSelector = refl
 kind-from OfChoice = refl
 kind-from OfModel = refl
 
--- two stores that differ at most where names lie by kind say the same of names and waveforms
+-- two stores that differ at most where names lie by kind say the same of names
 module _ (s xs ys : List ℕ) (out : look.Outside xs ys) where
   same-notes : (n : ℕ) → n ≤ mostNames → notesTo s ys n ≡ notesTo s xs n
   same-notes n h = notes-agree s ys xs n (λ k a b. out .below k a (omega (arith, b, h)))
-
-  same-waves : (n : ℕ) → n ≤ mostWaveforms → wavesTo s ys n ≡ wavesTo s xs n
-  same-waves n h = waves-agree s ys xs n (λ k a b. out .behind k a (omega (arith, b, h)))
 
 module _ (l : Lengths) (s xs : List ℕ) (t : Tally) (read : ReadWhole l s xs t) where
   run : runLog l (past s firstCursor) BeforeVersion emptyLog (textsOf s) ≡ whole (logOf s xs t)
@@ -129,10 +125,6 @@ module _ (l : Lengths) (s xs : List ℕ) (t : Tally) (read : ReadWhole l s xs t)
           ∙ by .each s k j (noteAt s xs 0) (subst (λ (n : ℕ). j < n) m h)
           ∙ ap (λ (n : ℕ). noteAt s ys (getD ys (n + j) 0)) (kind-from k)
 
-      waves-kept : wavesTo s ys (t .counts .waveforms) ≡ wavesTo s xs (t .counts .waveforms)
-      waves-kept =
-          same-waves s zs ys (by .outside) (t .counts .waveforms) (read .within .waveforms) ∙ same-waves s xs zs out (t .counts .waveforms) (read .within .waveforms)
-
       pub sorted : Sorted l s ys
       unfolding logIn noted
       sorted =
@@ -141,9 +133,6 @@ module _ (l : Lengths) (s xs : List ℕ) (t : Tally) (read : ReadWhole l s xs t)
             log = logOf s xs t;
             run = run;
             names = λ k. by-kind s ys k (notesTo s xs (t .names)) (λ (j : ℕ). getD ys (listFrom k + j) 0) (noteAt s xs 0) (each k);
-            waves =
-                ap reverse (sym waves-kept) ∙ waves-upTo s ys (t .counts .waveforms)
-                ∙ ap (upTo (waveAt s ys)) (sym (waves-length s xs (t .counts .waveforms)));
           }
 
       pub accepts : (r : Answer) (h : Held) → outcome l s ≡ passed h

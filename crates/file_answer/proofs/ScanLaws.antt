@@ -26,7 +26,7 @@ use Rattle.rules.specs.declared.Event.the-variants as event
 use Rattle.rules.specs.declared.Went.{Went}
 use Rattle.rules.specs.declared.Went.the-variants.{On, Stop}
 use Rattle.notes.specs.Noted.{Note, Log, Logged, going, full, withNote, logged, used, broken, outOfLines, runLog, emptyLog, nothingUsed}
-use Rattle.note_words.specs.Store.{mostNames, logIn, notesTo, wavesTo, storeLength}
+use Rattle.note_words.specs.Store.{mostNames, logIn, notesTo, storeLength}
 use Rattle.noted_events.specs.Events.{logOf, loggedAt, toldIs, Within, KeptCounts, KeptBy, Ready}
 use Rattle.noted_events.specs.declared.Told.the-variants.{Going, Full}
 use Rattle.file_answer.specs.Scans.{finishIs, textStep, changeStep, toldBy, standing, runFrom, Reached, Ground, Sound}
@@ -198,7 +198,7 @@ nothing-within =
     record { names = refl; components = omega arith; pins = omega arith; selectors = omega arith; choices = omega arith; models = omega arith; waveforms = omega arith }
 
 nothing-logged : (s xs : List ℕ) → logOf s xs (record { names = 0; counts = nothingUsed }) ≡ emptyLog
-unfolding logIn notesTo wavesTo
+unfolding logIn notesTo
 nothing-logged s xs = refl
 
 -- ---- at the top

@@ -1,7 +1,7 @@
 -- The names by kind and the waveforms, as lists: each is read where it lies.
-use Prim.Native.Nat.{ℕ, zero, suc, _+_, _<_}
+use Prim.Native.Nat.{ℕ, zero, suc, _<_}
 use mathlib.Core.Path.{_≡_, refl, sym, ap, _∙_}
-use mathlib.Core.List.{List, [], _∷_, _++_, reverse, reverse-cons}
+use mathlib.Core.List.{List, [], _∷_, reverse, reverse-cons}
 use mathlib.Core.Bool.{Bool, true}
 use native.Mathlib.Omega.{arith}
 use native.Mathlib.Nat.{not-suc-le-zero}
@@ -13,8 +13,8 @@ use Rattle.laws.proofs.Fronts.{all-append}
 use Rattle.rules.specs.Outline.{place}
 use Rattle.records.specs.declared.Kind.{Kind}
 use Rattle.records.specs.declared.Kind.the-variants.{OfComponent, OfPin, OfSelector, OfChoice, OfModel}
-use Rattle.notes.specs.Noted.{Note, Wave}
-use Rattle.note_words.specs.Store.{kindOf, kindAt, noteOf, noteAt, waveAt, wavesTo}
+use Rattle.notes.specs.Noted.{Note}
+use Rattle.note_words.specs.Store.{kindOf, kindAt, noteOf, noteAt}
 use Rattle.note_words.proofs.Laws.{note-kind}
 use Rattle.layout_by_notes.specs.Lies.{pick, isOf}
 use Rattle.file_answer.specs.Sorted.{upTo}
@@ -66,15 +66,3 @@ module _ (s xs : List ℕ) (k : Kind) (l : List Note) (f : ℕ → ℕ) (d : Not
   by-kind =
       all-upTo (reverse (pick (isOf k) l)) (λ (i : ℕ). noteOf s xs (f i) k) d
       (λ i h. each i h ∙ of-kind s xs (f i) k (ap (isOf k) (sym (each i h)) ∙ picked k l i d h))
-
--- ---- waveforms
-
-pub waves-upTo : (s xs : List ℕ) (n : ℕ) → reverse (wavesTo s xs n) ≡ upTo (waveAt s xs) n
-unfolding wavesTo upTo
-waves-upTo s xs zero = refl
-waves-upTo s xs (suc n) = reverse-cons (waveAt s xs n) (wavesTo s xs n) ∙ ap (λ (l : List Wave). l ++ (waveAt s xs n ∷ [])) (waves-upTo s xs n)
-
-pub waves-length : (s xs : List ℕ) (n : ℕ) → length (wavesTo s xs n) ≡ n
-unfolding wavesTo
-waves-length s xs zero = refl
-waves-length s xs (suc n) = ap suc (waves-length s xs n)

@@ -9,7 +9,7 @@ use native.Mathlib.Numerals.{add-one}
 use lib.ListN.{length, getD, set}
 use lib.Seq.{getD-set-same, getD-set-other}
 use lib.Dec.{eqb}
-use borrow.Author.Tests.{eq-eqb, ne-eqb, lt-ltb, le-ltb, eqb-true, eqb-false}
+use borrow.Author.Tests.{ne-eqb, lt-ltb, le-ltb, eqb-true, eqb-false}
 use Rattle.laws.specs.Lists.{eqs}
 use Rattle.laws.proofs.Tests.{by-test, by-order, cond-yes, cond-no, cond-map, never, impossible}
 use Rattle.laws.proofs.Same.{eqs-refl, eqs-eq}
@@ -115,7 +115,7 @@ module _ (xs : List ℕ) where
   pub cleared-outside : (n : ℕ) → n ≤ namesHeld → Outside xs (clearedTo xs n)
   unfolding clearedTo
   cleared-outside zero h = outside-refl xs
-  cleared-outside (suc n) h = outside-set xs (clearedTo xs n) (byKindFrom + n) 0 (cleared-outside n (omega (arith, h))) (omega arith) (omega (arith, h))
+  cleared-outside (suc n) h = outside-set xs (clearedTo xs n) (byKindFrom + n) 0 (cleared-outside n (omega (arith, h))) (omega arith)
 
   pub cleared-clear : (n : ℕ) → n ≤ namesHeld → storeLength ≤ length xs → Clear (clearedTo xs n) n
   unfolding clearedTo
@@ -209,7 +209,7 @@ module _ (s xs : List ℕ) (n : ℕ) (unique : clash (entriesTo s xs n) ≡ none
   mark-outside : (i : ℕ) (ys : List ℕ) (t : Found) → targetTo s xs i n ≡ t → Outside xs ys → Outside xs (withMark ys t)
   mark-outside i ys (At k) e o =
       let r = target-found s xs i n k e in
-      outside-set xs ys (byKindFrom + k) 1 o (omega arith) (omega (arith, r .0, small))
+      outside-set xs ys (byKindFrom + k) 1 o (omega arith)
   mark-outside i ys Nothing e o = o
 
 -- ---- the fault of a name, by its place

@@ -8,19 +8,18 @@ use lib.Seq.{getD-set-other}
 use Rattle.lines.specs.Places.{lineAt}
 use Rattle.rules.specs.Outline.{place}
 use Rattle.notes.specs.Noted.{entryOf}
-use Rattle.note_words.specs.Store.{namesHeld, wordsPerName, byKindFrom, wavesFrom, kindOf, nameWord, notedLine, nameAt, noteAt}
+use Rattle.note_words.specs.Store.{namesHeld, wordsPerName, byKindFrom, kindOf, nameWord, notedLine, nameAt, noteAt}
 use Rattle.note_words.proofs.Laws.{notes-agree, note-agree}
 use Rattle.name_checks.specs.Lookup.{placeAt, modelAt, entriesTo, Outside}
 
 pub outside-refl : (xs : List ℕ) → Outside xs xs
-outside-refl xs = record { long = refl; below = λ k a b. refl; behind = λ k a b. refl }
+outside-refl xs = record { long = refl; below = λ k a b. refl }
 
-pub outside-set : (xs ys : List ℕ) (p v : ℕ) → Outside xs ys → byKindFrom ≤ p → p < wavesFrom → Outside xs (set ys p v)
-outside-set xs ys p v o h g =
+pub outside-set : (xs ys : List ℕ) (p v : ℕ) → Outside xs ys → byKindFrom ≤ p → Outside xs (set ys p v)
+outside-set xs ys p v o h =
     record {
       long = length-set ys p v ∙ o .long;
       below = λ k a b. getD-set-other ys p k v 0 (λ e. omega (arith, b, h, e)) ∙ o .below k a b;
-      behind = λ k a b. getD-set-other ys p k v 0 (λ e. omega (arith, a, g, e)) ∙ o .behind k a b;
     }
 
 pub outside-note : (s xs ys : List ℕ) (i : ℕ) → Outside xs ys → i ≤ namesHeld → noteAt s ys i ≡ noteAt s xs i
@@ -48,7 +47,6 @@ outside-then xs ys zs o p =
     record {
       long = p .long ∙ o .long;
       below = λ k a b. p .below k a b ∙ o .below k a b;
-      behind = λ k a b. p .behind k a b ∙ o .behind k a b;
     }
 
 pub entries-outside : (s xs ys : List ℕ) (n : ℕ) → Outside xs ys → n ≤ namesHeld → entriesTo s ys n ≡ entriesTo s xs n

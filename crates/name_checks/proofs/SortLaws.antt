@@ -16,7 +16,7 @@ use Rattle.records.specs.Bounds.{most}
 use Rattle.records.specs.declared.Kind.{Kind}
 use Rattle.records.specs.declared.Kind.the-variants.{OfComponent, OfPin, OfSelector, OfChoice, OfModel}
 use Rattle.notes.specs.Noted.{Note}
-use Rattle.note_words.specs.Store.{namesHeld, byKindFrom, listFrom, wavesFrom, storeLength, kindOf, kindAt, noteAt, notesTo}
+use Rattle.note_words.specs.Store.{namesHeld, byKindFrom, listFrom, storeLength, kindOf, kindAt, noteAt, notesTo}
 use Rattle.layout_by_notes.specs.Lies.{pick, isOf}
 use Rattle.name_checks.specs.Lookup.{placeAt, entriesTo, Outside, howMany, kindFrom, kindRoom, sortedTo, Roomy, Sorted}
 use Rattle.name_checks.proofs.NoteLaws.{note-kind}
@@ -53,7 +53,7 @@ region-before k (suc l) h g =
     subst (λ (m : ℕ). kindFrom k + kindRoom k ≤ kindFrom (suc m)) (sym e) (omega (arith, r)))
     (λ a. omega (arith, region-before k l a (omega (arith, g)), region-next l (omega (arith, g))))
 
-region-bounds : (k : ℕ) → k ≤ 4 → (byKindFrom ≤ kindFrom k) × (kindFrom k + kindRoom k ≤ wavesFrom)
+region-bounds : (k : ℕ) → k ≤ 4 → (byKindFrom ≤ kindFrom k) × (kindFrom k + kindRoom k ≤ storeLength)
 unfolding kindFrom kindRoom kindOf
 region-bounds zero h = omega arith
 region-bounds (suc zero) h = omega arith
@@ -120,7 +120,7 @@ module _ (xs : List ℕ) where
 
   -- where it is written
   pub written-at : (i n : ℕ) → i < n → Roomy xs n
-      → (byKindFrom ≤ kindFrom (placeAt xs i) + howMany xs (placeAt xs i) i) × (kindFrom (placeAt xs i) + howMany xs (placeAt xs i) i < wavesFrom)
+      → (byKindFrom ≤ kindFrom (placeAt xs i) + howMany xs (placeAt xs i) i) × (kindFrom (placeAt xs i) + howMany xs (placeAt xs i) i < storeLength)
   written-at i n h r =
       let b = region-bounds (placeAt xs i) (kind-at-most xs i) in
       let m = room-next i n h r in
@@ -141,7 +141,7 @@ module _ (xs : List ℕ) where
   sorted-outside zero r = outside-refl xs
   sorted-outside (suc n) r =
       let w = written-at n (suc n) (omega arith) r in
-      outside-set xs (sortedTo xs n) (kindFrom (placeAt xs n) + howMany xs (placeAt xs n) n) n (sorted-outside n (roomy-before n (suc n) (omega arith) r)) (w .0) (w .1)
+      outside-set xs (sortedTo xs n) (kindFrom (placeAt xs n) + howMany xs (placeAt xs n) n) n (sorted-outside n (roomy-before n (suc n) (omega arith) r)) (w .0)
 
   -- the next name is written behind the others of its kind, and no turn writes among those written
   module _ (n : ℕ) (roomy : Roomy xs (suc n)) (long : storeLength ≤ length xs) where
@@ -248,7 +248,7 @@ sorted xs n h long r =
 pub record Turning (xs ys us : List ℕ) (i k r : ℕ) : Type 0 where
   pub few : getD us k 0 < most OfPin
   pub inside : r + getD us k 0 < length ys
-  pub low : r + getD us k 0 < wavesFrom
+  pub low : r + getD us k 0 < storeLength
   pub store : set ys (r + getD us k 0) i ≡ sortedTo xs (i + 1)
   pub counts : (l : ℕ) → l < 5 → getD (set us k (getD us k 0 + 1)) l 0 ≡ howMany xs l (i + 1)
 

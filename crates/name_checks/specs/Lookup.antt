@@ -20,7 +20,7 @@ use Rattle.records.specs.Bounds.{most}
 use Rattle.records.specs.declared.Kind.{Kind}
 use Rattle.records.specs.declared.Kind.the-variants.{OfComponent, OfPin, OfSelector, OfChoice, OfModel}
 use Rattle.notes.specs.Noted.{Note, entryOf}
-use Rattle.note_words.specs.Store.{byKindFrom, listFrom, wavesFrom, storeLength, kindOf, kindAt, notedLine, partStart, partEnd, nameAt, rowAt, noteAt, notesTo}
+use Rattle.note_words.specs.Store.{byKindFrom, listFrom, kindOf, kindAt, notedLine, partStart, partEnd, nameAt, rowAt, noteAt, notesTo}
 use Rattle.layout_by_notes.specs.Lies.{pick, isOf}
 use Rattle.name_checks.specs.declared.Clash.{Clash}
 use Rattle.name_checks.specs.declared.Clash.the-variants.{At, NoClash}
@@ -73,7 +73,6 @@ pub record Within (s : List ℕ) (a e : ℕ) (w : Word) : Type 0 where
 pub record Outside (xs ys : List ℕ) : Type 0 where
   pub long : length ys ≡ length xs
   pub below : (k : ℕ) → 0 ≤ k → k < byKindFrom → getD ys k 0 ≡ getD xs k 0
-  pub behind : (k : ℕ) → wavesFrom ≤ k → k < storeLength → getD ys k 0 ≡ getD xs k 0
 
 -- ---- names used twice, by the numbers of their kinds
 

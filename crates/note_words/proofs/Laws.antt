@@ -6,12 +6,11 @@ use mathlib.Core.Bool.{true, false, cond}
 use native.Mathlib.Omega.{arith}
 use native.Mathlib.Numerals.{add-one}
 use lib.ListN.{length, drop, getD, set, length-set, drop-of-length-le}
-use Rattle.cut_lines.specs.Cursors.{rest}
 use Rattle.records.specs.declared.Counts.{Counts}
 use Rattle.laws.proofs.Tests.{by-test, cond-yes, cond-no}
 use Rattle.records.specs.declared.Kind.{Kind}
 use Rattle.notes.specs.Noted.{Note}
-use Rattle.note_words.specs.Store.{namesHeld, mostNames, wordsPerName, wordsPerWave, wavesFrom, wordsOfSection, SectionFits, cursorAt, sectionFrom, sectionAt, wordsOfRow, RowFits, rowFrom, rowAt, kindOf, kindAt, nameWord, notedLine, partStart, partEnd, nameAt, isSection, noteOf, noteAt, waveWords, waveAt, notesTo, wavesTo, logIn}
+use Rattle.note_words.specs.Store.{wordsPerName, wordsOfSection, SectionFits, sectionFrom, sectionAt, wordsOfRow, RowFits, rowFrom, rowAt, kindOf, kindAt, nameWord, notedLine, partStart, partEnd, nameAt, isSection, noteOf, noteAt, notesTo, logIn}
 use Rattle.note_words.specs.declared.SectionNote.{SectionNote}
 use Rattle.note_words.specs.declared.RowNote.{RowNote}
 use lib.Seq.{sets, getD-set-same, getD-set-other, drop-cons}
@@ -81,18 +80,6 @@ unfolding notesTo
 notes-agree s xs ys zero h = refl
 notes-agree s xs ys (suc n) h =
     rw (note-agree s xs ys n (λ k a b. h k (omega arith) (omega (arith, b)))) rw (notes-agree s xs ys n (λ k a b. h k a (omega (arith, b)))) refl
-
-pub wave-agree : (s xs ys : List ℕ) (j : ℕ) → Agree (wavesFrom + wordsPerWave * j) (wavesFrom + wordsPerWave * j + wordsPerWave) xs ys → waveAt s xs j ≡ waveAt s ys j
-unfolding waveAt
-wave-agree s xs ys j h =
-    let w = wavesFrom + wordsPerWave * j in
-    rw (h (w + 0) (omega arith) (omega arith)) rw (h (w + 1) (omega arith) (omega arith)) rw (h (w + 2) (omega arith) (omega arith)) refl
-
-pub waves-agree : (s xs ys : List ℕ) (n : ℕ) → Agree wavesFrom (wavesFrom + wordsPerWave * n) xs ys → wavesTo s xs n ≡ wavesTo s ys n
-unfolding wavesTo
-waves-agree s xs ys zero h = refl
-waves-agree s xs ys (suc n) h =
-    rw (wave-agree s xs ys n (λ k a b. h k (omega (arith, a)) (omega (arith, b)))) rw (waves-agree s xs ys n (λ k a b. h k a (omega (arith, b)))) refl
 
 -- ---- what every note has, whatever its kind
 
@@ -169,32 +156,10 @@ module _ (s xs : List ℕ) (i : ℕ) (h : wordsPerName * i + wordsPerName ≤ le
         let ys = sets xs (wordsPerName * i) (wordsOfRow x) in
         ap (noteOf s ys i) (ap kindOf (row-kind x f) ∙ e) ∙ cond-no _ _ t ∙ ap (rowFrom s k) (row-put x f)
 
--- a name's note goes in front of the notes, and leaves the waveforms
-pub log-note : (s xs : List ℕ) (i : ℕ) (ws : List ℕ) (n : Note) (c : Counts) → i ≤ namesHeld → length ws ≡ wordsPerName → noteAt s (sets xs (wordsPerName * i) ws) i ≡ n
-    → logIn s (sets xs (wordsPerName * i) ws) (i + 1) c ≡ record { notes = n ∷ notesTo s xs i; waves = wavesTo s xs (c .waveforms); counts = c }
+-- a name's note goes in front of the notes
+pub log-note : (s xs : List ℕ) (i : ℕ) (ws : List ℕ) (n : Note) (c : Counts) → noteAt s (sets xs (wordsPerName * i) ws) i ≡ n
+    → logIn s (sets xs (wordsPerName * i) ws) (i + 1) c ≡ record { notes = n ∷ notesTo s xs i; counts = c }
 unfolding logIn notesTo
-log-note s xs i ws n c h six says =
+log-note s xs i ws n c says =
     rw (add-one i) rw says
-    rw (notes-agree s (sets xs (wordsPerName * i) ws) xs i (λ k a b. get-before xs ws (wordsPerName * i) k b))
-    rw (waves-agree s (sets xs (wordsPerName * i) ws) xs (c .waveforms) (λ k a b. get-behind xs ws (wordsPerName * i) k (omega (arith, a, h, six)))) refl
-
-wave-put : (s xs : List ℕ) (j at char row : ℕ) → wavesFrom + wordsPerWave * j + wordsPerWave ≤ length xs
-    → waveAt s (sets xs (wavesFrom + wordsPerWave * j) (waveWords at char row)) j ≡ record { from = rest s (cursorAt s at char); row = row }
-unfolding waveAt
-wave-put s xs j at char row h =
-    let w = wavesFrom + wordsPerWave * j in
-    let ys : List ℕ = sets xs w (waveWords at char row) in
-    let g : (k : ℕ) → k < wordsPerWave → getD ys (w + k) 0 ≡ getD (waveWords at char row) k 0 = λ k b. get-among xs (waveWords at char row) w k b h in
-    rw (g 0 (omega arith)) rw (g 1 (omega arith)) rw (g 2 (omega arith)) refl
-
--- a waveform's note goes in front of the waveforms, and leaves the names
-pub log-wave : (s xs : List ℕ) (n j at char row : ℕ) (c : Counts) → n ≤ mostNames → wavesFrom + wordsPerWave * j + wordsPerWave ≤ length xs → c .waveforms ≡ j + 1
-    → logIn s (sets xs (wavesFrom + wordsPerWave * j) (waveWords at char row)) n c
-    ≡ record { notes = notesTo s xs n; waves = record { from = rest s (cursorAt s at char); row = row } ∷ wavesTo s xs j; counts = c }
-unfolding logIn wavesTo
-log-wave s xs n j at char row c h g e =
-    let w = wavesFrom + wordsPerWave * j in
-    let ys : List ℕ = sets xs w (waveWords at char row) in
-    rw e rw (add-one j) rw (wave-put s xs j at char row g)
-    rw (notes-agree s ys xs n (λ k a b. get-before xs (waveWords at char row) w k (omega (arith, b, h))))
-    rw (waves-agree s ys xs j (λ k a b. get-before xs (waveWords at char row) w k b)) refl
+    rw (notes-agree s (sets xs (wordsPerName * i) ws) xs i (λ k a b. get-before xs ws (wordsPerName * i) k b)) refl

@@ -1,4 +1,4 @@
--- The store: six words a name, then the names by kind, then three words a waveform. A word is of two bytes.
+-- The store: six words a name, then the names by kind. A word is of two bytes.
 use Prim.Native.Nat.{ℕ, zero, suc, _+_, _-_, _*_, _/_, _%_, _≤_, _<_}
 use mathlib.Core.List.{List, [], _∷_}
 use mathlib.Core.Bool.{Bool, true, false, cond}
@@ -8,11 +8,11 @@ use Rattle.laws.specs.Lists.{part}
 use Rattle.lines.specs.Places.{lineAt}
 use Rattle.cut_lines.specs.Cursors.{rest}
 use Rattle.cut_lines.specs.declared.Cursor.{Cursor}
-use Rattle.records.specs.Bounds.{most, mostWaveforms}
+use Rattle.records.specs.Bounds.{most}
 use Rattle.records.specs.declared.Kind.{Kind}
 use Rattle.records.specs.declared.Kind.the-variants.{OfComponent, OfPin, OfSelector, OfChoice, OfModel}
 use Rattle.records.specs.declared.Counts.{Counts}
-use Rattle.notes.specs.Noted.{Note, Wave, Log}
+use Rattle.notes.specs.Noted.{Note, Log}
 use Rattle.note_words.specs.declared.SectionNote.{SectionNote}
 use Rattle.note_words.specs.declared.RowNote.{RowNote}
 
@@ -29,9 +29,6 @@ mostNames = namesHeld + 1
 abbrev pub wordsPerName : ℕ
 wordsPerName = 6
 
-abbrev pub wordsPerWave : ℕ
-wordsPerWave = 3
-
 abbrev pub byKindFrom : ℕ
 byKindFrom = wordsPerName * mostNames
 
@@ -43,11 +40,8 @@ listFrom OfSelector = byKindFrom + most OfComponent + most OfPin
 listFrom OfChoice = byKindFrom + most OfComponent + most OfPin + most OfSelector
 listFrom OfModel = byKindFrom + most OfComponent + most OfPin + most OfSelector + most OfChoice
 
-abbrev pub wavesFrom : ℕ
-wavesFrom = byKindFrom + namesHeld
-
 abbrev pub storeLength : ℕ
-storeLength = wavesFrom + wordsPerWave * mostWaveforms
+storeLength = byKindFrom + namesHeld
 
 -- ---- two numbers in a word
 
@@ -151,27 +145,11 @@ noteOf s xs i k = cond (isSection k) (sectionFrom s k (sectionAt xs i)) (rowFrom
 unfoldable pub noteAt : List ℕ → List ℕ → ℕ → Note
 noteAt s xs i = noteOf s xs i (kindAt xs i)
 
--- ---- a waveform's note: its texts from its place on
-
-abbrev pub waveWords : ℕ → ℕ → ℕ → List ℕ
-waveWords at char row = at ∷ char ∷ row ∷ []
-
--- word k of its three
-abbrev pub waveWord : List ℕ → ℕ → ℕ → ℕ
-waveWord xs j k = getD xs (wavesFrom + wordsPerWave * j + k) 0
-
-unfoldable pub waveAt : List ℕ → List ℕ → ℕ → Wave
-waveAt s xs j = record { from = rest s (cursorAt s (waveWord xs j 0) (waveWord xs j 1)); row = waveWord xs j 2 }
-
 -- ---- all of them, the latest first
 
 unfoldable pub notesTo : List ℕ → List ℕ → ℕ → List Note
 notesTo s xs zero = []
 notesTo s xs (suc n) = noteAt s xs n ∷ notesTo s xs n
 
-unfoldable pub wavesTo : List ℕ → List ℕ → ℕ → List Wave
-wavesTo s xs zero = []
-wavesTo s xs (suc n) = waveAt s xs n ∷ wavesTo s xs n
-
 unfoldable pub logIn : List ℕ → List ℕ → ℕ → Counts → Log
-logIn s xs n c = record { notes = notesTo s xs n; waves = wavesTo s xs (c .waveforms); counts = c }
+logIn s xs n c = record { notes = notesTo s xs n; counts = c }

@@ -1,16 +1,15 @@
-// The store of what is noted of a file, in words of two bytes: six a name, then the names by kind, then three a waveform. No line's number is noted:
+// The store of what is noted of a file, in words of two bytes: six a name, then the names by kind. No line's number is noted:
 // it is counted from the place where the line begins.
 ghost use mathlib.Core.Path.{_≡_};
 ghost use Prim.Native.Nat.{_+_, _*_, _≤_, _<_};
 ghost use lib.ListN.{length, getD};
 ghost use lib.Seq.{sets};
-ghost use Rattle.note_words.specs.Store.{paired, wordsOfSection, SectionFits, wordsOfRow, RowFits, waveWords, wordsPerName, wordsPerWave, wavesFrom};
+ghost use Rattle.note_words.specs.Store.{paired, wordsOfSection, SectionFits, wordsOfRow, RowFits, wordsPerName};
 use records::MOST_CHOICES;
 use records::MOST_COMPONENTS;
 use records::MOST_MODELS;
 use records::MOST_PINS;
 use records::MOST_SELECTORS;
-use records::MOST_WAVEFORMS;
 
 // ---- where things lie
 
@@ -39,11 +38,7 @@ pub const CHOICES_FROM: usize = SELECTORS_FROM + MOST_SELECTORS;
 
 pub const MODELS_FROM: usize = CHOICES_FROM + MOST_CHOICES;
 
-pub const WAVES_FROM: usize = MODELS_FROM + MOST_MODELS;
-
-pub const WORDS_PER_WAVE: usize = 3;
-
-pub const STORE_LENGTH: usize = WAVES_FROM + WORDS_PER_WAVE * MOST_WAVEFORMS;
+pub const STORE_LENGTH: usize = MODELS_FROM + MOST_MODELS;
 
 // ---- which word says what
 
@@ -83,13 +78,6 @@ pub const SECTION_PLACE: usize = 5;
 pub const ROW_MODEL: usize = 3;
 
 const UNUSED: u16 = 0;
-
-// Of a waveform.
-pub const WAVE_AT: usize = 0;
-
-pub const WAVE_COMMENT: usize = 1;
-
-pub const WAVE_ROW: usize = 2;
 
 // ---- words
 
@@ -179,14 +167,4 @@ pub fn put_row(notes: &mut [u16], i: usize, x: RowNote)
     let model = pair(x.model - x.at, x.model_end - x.model);
     let words = [x.at as u16, kind, name, model, UNUSED, UNUSED];
     put_words(notes, WORDS_PER_NAME * i, &words);
-}
-
-// Notes the waveform at place j: where its keyword line begins, the comment character there, its first row's place.
-pub fn put_wave(notes: &mut [u16], j: usize, at: usize, comment: u8, row: usize)
-    requires { ⌜ wavesFrom + wordsPerWave * j + wordsPerWave ≤ length (now notes) ⌝ }
-    requires { ⌜ (at < 65536) × (row < 65536) ⌝ }
-    ensures { λ _. ⌜ now (notes .exit) ≡ sets (now (notes .entry)) (wavesFrom + wordsPerWave * j) (waveWords at comment row) ⌝ }
-{
-    let words = [at as u16, comment as u16, row as u16];
-    put_words(notes, WAVES_FROM + WORDS_PER_WAVE * j, &words);
 }

@@ -23,11 +23,10 @@ use Rattle.records.specs.declared.Kind.the-variants.{OfComponent, OfPin, OfSele
 use Rattle.rules.specs.declared.Event.the-variants.{WaveformOpened, TableRow, Ended}
 use Rattle.records.specs.declared.Lengths.{Lengths}
 use Rattle.notes.specs.Noted.{Note, used, oneMore, moreWaveforms, moreRows, sections, rowNote, going, full, withNote}
-use Rattle.notes.proofs.Settles.{more-waveforms}
-use Rattle.note_words.specs.Store.{namesHeld, wordsPerName, wordsPerWave, wavesFrom, wordsOfSection, SectionFits, cursorAt, sectionFrom, wordsOfRow, RowFits, rowFrom, kindOf, isSection, noteAt, waveWords, logIn}
+use Rattle.note_words.specs.Store.{namesHeld, wordsPerName, wordsOfSection, SectionFits, cursorAt, sectionFrom, wordsOfRow, RowFits, rowFrom, kindOf, isSection, noteAt, logIn}
 use Rattle.note_words.specs.declared.SectionNote.{SectionNote}
 use Rattle.note_words.specs.declared.RowNote.{RowNote}
-use Rattle.note_words.proofs.Laws.{section-said, row-said, log-note, log-wave}
+use Rattle.note_words.proofs.Laws.{section-said, row-said, log-note}
 use Rattle.noted_events.specs.Places.{FirstIn}
 use Rattle.noted_events.specs.Events.{logOf, toldIs, loggedAt, sectionIn, rowIn, counted, Within, KeptCounts, Ready}
 use Rattle.noted_events.specs.declared.Spot.{Spot}
@@ -57,14 +56,13 @@ module _ (l : Lengths) (t : Tally) (k : Kind) where
   counted-going h = sym (cond-no _ _ (lt-leb (bound l k) (used (t .counts) k) h))
 
 -- the words that are written for a name say its note
-name-told : (s xs ws : List ℕ) (l : Lengths) (t : Tally) (n : Note) → Within t → length ws ≡ wordsPerName → noteAt s (sets xs (wordsPerName * t .names) ws) (t .names) ≡ n
+name-told : (s xs ws : List ℕ) (l : Lengths) (t : Tally) (n : Note) → noteAt s (sets xs (wordsPerName * t .names) ws) (t .names) ≡ n
     → withNote l (logOf s xs t) n ≡ toldIs s (sets xs (wordsPerName * t .names) ws) (n .line) (counted l t (n .kind))
 unfolding withNote logIn counted
-name-told s xs ws l t n within six says =
-    let held = names-small t within in
+name-told s xs ws l t n says =
     by-test (leb (bound l (n .kind)) (used (t .counts) (n .kind)))
-    (λ h. rw h rw (log-note s xs (t .names) ws n (t .counts) held six says) refl)
-    (λ h. rw h rw (log-note s xs (t .names) ws n (oneMore (t .counts) (n .kind)) held six says) rw (more-waveforms (t .counts) (n .kind)) refl)
+    (λ h. rw h rw (log-note s xs (t .names) ws n (t .counts) says) refl)
+    (λ h. rw h rw (log-note s xs (t .names) ws n (oneMore (t .counts) (n .kind)) says) refl)
 
 -- ---- the bounds
 
@@ -131,7 +129,7 @@ module _ (s xs : List ℕ) (l : Lengths) (t : Tally) (p : Spot) (ready : Ready s
       let y = sectionIn n p a e (t .counts) start row in
       let behind : drop 1 (rest s (cursorAt s (p .start) (p .next .comment))) ≡ rest s (p .next) = ap (drop 1) here-at in
       rw (written, counts, is, sym text, sym behind, line-at)
-      (name-told s xs (wordsOfSection y) l t (sectionFrom s k y) (ready .within) refl (section-said s xs (t .names) name-fits k y (subst SectionFits is fits) of kinds))
+      (name-told s xs (wordsOfSection y) l t (sectionFrom s k y) (section-said s xs (t .names) name-fits k y (subst SectionFits is fits) of kinds))
 
   pub told-row : (k : Kind) (n : ℕ) (name model : Word) (m : ℕ) {x : RowNote} {ys : List ℕ} {r : Told} → x ≡ rowIn n p name model → RowFits x → kindOf n ≡ k → isSection k ≡ false
       → part (name .start) (name .end) s ≡ word 0 (words (part (p .start) (p .end) s)) → part (model .start) (model .end) s ≡ word m (words (part (p .start) (p .end) s))
@@ -140,7 +138,7 @@ module _ (s xs : List ℕ) (l : Lengths) (t : Tally) (p : Spot) (ready : Ready s
   told-row k n name model m is fits of kinds named says written counts =
       let y = rowIn n p name model in
       rw (written, counts, is, sym named, sym says, line-at)
-      (name-told s xs (wordsOfRow y) l t (rowFrom s k y) (ready .within) refl (row-said s xs (t .names) name-fits k y (subst RowFits is fits) of kinds))
+      (name-told s xs (wordsOfRow y) l t (rowFrom s k y) (row-said s xs (t .names) name-fits k y (subst RowFits is fits) of kinds))
 
 pub third-in : (s : List ℕ) (a e : ℕ) (x y z : Word) → FirstIn s a e x → FirstIn s (x .end) e y → FirstIn s (y .end) e z → part (z .start) (z .end) s ≡ word 2 (words (part a e s))
 unfolding word
@@ -156,14 +154,9 @@ module _ (s xs : List ℕ) (l : Lengths) (t : Tally) (p : Spot) (ready : Ready s
   waveform-full h = rw (le-leb (min mostWaveforms (l .waveforms)) (t .counts .waveforms) h) refl
 
   pub waveform-going : t .counts .waveforms < min mostWaveforms (l .waveforms)
-      → loggedAt l s xs t p WaveformOpened
-      ≡ going (logOf s (sets xs (wavesFrom + wordsPerWave * t .counts .waveforms) (waveWords (p .start) (p .next .comment) (t .counts .rows))) (record { names = t .names; counts = moreWaveforms (t .counts) }))
+      → loggedAt l s xs t p WaveformOpened ≡ going (logOf s xs (record { names = t .names; counts = moreWaveforms (t .counts) }))
   unfolding logIn
-  waveform-going h =
-      let n : t .names ≤ namesHeld = names-small t (ready .within) in
-      rw (lt-leb (min mostWaveforms (l .waveforms)) (t .counts .waveforms) h)
-      rw (log-wave s xs (t .names) (t .counts .waveforms) (p .start) (p .next .comment) (t .counts .rows) (moreWaveforms (t .counts)) (omega (arith, n)) (omega (arith, h, ready .store)) refl)
-      rw (here-at s xs l t p ready) refl
+  waveform-going h = rw (lt-leb (min mostWaveforms (l .waveforms)) (t .counts .waveforms) h) refl
 
   pub kept-waveform : t .counts .waveforms < min mostWaveforms (l .waveforms) → KeptCounts t (record { names = t .names; counts = moreWaveforms (t .counts) })
   kept-waveform h =

@@ -23,7 +23,6 @@ use note_words::RowNote;
 use note_words::SectionNote;
 use note_words::put_row;
 use note_words::put_section;
-use note_words::put_wave;
 use records::Counts;
 use records::Kind;
 use records::Lengths;
@@ -151,9 +150,9 @@ fn note_choice(notes: &mut [u16], src: &[u8], l: Lengths, t: Tally, p: Spot) -> 
     count_name(l, t, Kind::OfChoice)
 }
 
-fn note_waveform(notes: &mut [u16], src: &[u8], l: Lengths, t: Tally, p: Spot) -> Told
+fn count_waveform(src: &[u8], notes: &[u16], l: Lengths, t: Tally, p: Spot) -> Told
     requires { ⌜ Ready (now src) (now notes) t p ⌝ }
-    ensures { λ r. ⌜ loggedAt l (now (src .entry)) (now (notes .entry)) t p WaveformOpened ≡ toldIs (now (src .entry)) (now (notes .exit)) (p .line) r ⌝ }
+    ensures { λ r. ⌜ loggedAt l (now (src .entry)) (now (notes .entry)) t p WaveformOpened ≡ toldIs (now (src .entry)) (now (notes .entry)) (p .line) r ⌝ }
     ensures { λ r. ⌜ KeptBy t r ⌝ }
 {
     let c = t.counts;
@@ -161,8 +160,6 @@ fn note_waveform(notes: &mut [u16], src: &[u8], l: Lengths, t: Tally, p: Spot) -
     if waveform_bound(l) <= j {
         return Told::Full(17, t);
     }
-    let next = p.next;
-    put_wave(notes, j, p.start, next.comment, c.rows);
     let mut d = c;
     d.waveforms = j + 1;
     Told::Going(Tally {
@@ -215,7 +212,7 @@ pub fn note_event(notes: &mut [u16], src: &[u8], l: Lengths, t: Tally, p: Spot, 
         Event::Opened(o) => note_section(notes, src, l, t, p, o),
         Event::PinRow => note_pin(notes, src, l, t, p),
         Event::ChoiceRow => note_choice(notes, src, l, t, p),
-        Event::WaveformOpened => note_waveform(notes, src, l, t, p),
+        Event::WaveformOpened => count_waveform(src, notes, l, t, p),
         Event::TableRow => count_row(src, notes, l, t, p),
         Event::Ended(alone) => end_file(src, notes, l, t, p, alone),
     }
