@@ -17,7 +17,7 @@ use Rattle.lines.specs.declared.Bytes.the-variants.{Clean}
 use Rattle.records.specs.declared.Lengths.{Lengths}
 use Rattle.rules.specs.declared.Stage.the-variants.{BeforeVersion}
 use Rattle.notes.specs.Noted.{entryOf, heldOf, runLog, emptyLog, whole, clash}
-use Rattle.note_words.specs.Store.{waveAt, notesTo, logIn}
+use Rattle.note_words.specs.Store.{notesTo, logIn}
 use Rattle.layout_by_notes.specs.Lies.{noted, Lies}
 use Rattle.layout_by_notes.proofs.Tables.{lies}
 use Rattle.noted_events.specs.Events.{logOf}
@@ -28,11 +28,11 @@ use Rattle.file_answer.specs.declared.Ending.{Ending}
 use Rattle.file_answer.specs.declared.Ending.the-variants.{Whole, Broken}
 use Rattle.component_records.specs.Views.{headerLaid}
 use Rattle.file_answer.specs.Answered.{refusal, answerOf, answerFor, verdictOf}
-use Rattle.file_answer.specs.Sorted.{upTo, Sorted, SortedFor, Outlines, ReadWhole}
+use Rattle.file_answer.specs.Sorted.{Sorted, SortedFor, Outlines, ReadWhole}
 use Rattle.records.specs.declared.Answer.{Answer}
 use Rattle.records.specs.declared.Verdict.the-variants.{Accepted}
 use Rattle.file_answer.proofs.Laws.{all-texts, used-twice, broken-off, read-through}
-use Rattle.file_answer.proofs.SortedLaws.{by-kind, waves-upTo, waves-length}
+use Rattle.file_answer.proofs.SortedLaws.{by-kind}
 
 pub first-placed : (s : List ℕ) (c : Cursor) → c ≡ firstCursor → Placed s c
 first-placed s c e = subst (Placed s) (sym e) (record { within = zero-le; lines = omega arith })
@@ -64,7 +64,6 @@ module _ (l : Lengths) (s xs : List ℕ) (t : Tally) (read : ReadWhole l s xs t)
         log = logOf s xs t;
         run = run;
         names = by-kind s xs (t .names) (t .counts) (read .filed);
-        waves = waves-upTo s xs (t .counts .waveforms) ∙ ap (upTo (waveAt s xs)) (sym (waves-length s xs (t .counts .waveforms)));
       }
 
   pub accepts : (r : Answer) (h : Held) → outcome l s ≡ passed h

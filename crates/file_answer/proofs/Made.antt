@@ -78,7 +78,7 @@ module _ (l : Lengths) (s ns : List ℕ) (sorted : Sorted l s ns) where
       ap (flatMap f) (sorted .names OfModel ∙ ap (upTo (noteBy s ns OfModel)) (sym n)) ∙ sym (joined-upTo f s ns (length (file .models)))
 
   pub waveforms-made : file .waveforms ≡ waveformsAt s ns (length (file .models))
-  waveforms-made = lie .waveformsByModel ∙ by-models waveformsNoted
+  waveforms-made = lie .waveforms ∙ by-models waveformsNoted
 
   pub rows-made : file .rows ≡ rowsAt s ns (length (file .models))
   rows-made = lie .rows ∙ by-models rowsNoted

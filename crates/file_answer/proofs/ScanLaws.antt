@@ -28,7 +28,7 @@ use Rattle.rules.specs.declared.Event.the-variants as event
 use Rattle.rules.specs.declared.Went.{Went}
 use Rattle.rules.specs.declared.Went.the-variants.{On, Stop}
 use Rattle.notes.specs.Noted.{Note, Log, Logged, going, full, withNote, logged, used, broken, outOfLines, runLog, emptyLog, nothingUsed}
-use Rattle.note_words.specs.Store.{mostNames, logIn, notesTo, wavesTo, storeLength}
+use Rattle.note_words.specs.Store.{mostNames, logIn, notesTo, storeLength}
 use Rattle.note_words.proofs.Laws.{filed-none}
 use Rattle.noted_events.specs.Events.{logOf, loggedAt, toldIs, Within, KeptCounts, KeptBy, Ready}
 use Rattle.noted_events.specs.declared.Told.the-variants.{Going, Full}
@@ -208,7 +208,7 @@ none-used OfChoice = refl
 none-used OfModel = refl
 
 nothing-logged : (s xs : List ℕ) → logOf s xs (record { names = 0; counts = nothingUsed }) ≡ emptyLog
-unfolding logIn notesTo wavesTo
+unfolding logIn notesTo
 nothing-logged s xs = refl
 
 -- ---- at the top

@@ -1,4 +1,4 @@
--- The notes of a kind and the waveforms, as lists: each is read where it lies.
+-- The notes of a kind as a list: each is read where it lies.
 use Prim.Native.Nat.{ℕ, zero, suc, _+_, _≤_, _<_}
 use mathlib.Core.Path.{_≡_, refl, sym, ap, _∙_}
 use mathlib.Core.List.{List, [], _∷_, _++_, reverse, reverse-cons}
@@ -13,8 +13,8 @@ use Rattle.rules.specs.Outline.{place}
 use Rattle.records.specs.declared.Kind.{Kind}
 use Rattle.records.specs.declared.Kind.the-variants.{OfComponent, OfPin, OfSelector, OfChoice, OfModel}
 use Rattle.records.specs.declared.Counts.{Counts}
-use Rattle.notes.specs.Noted.{Note, Wave}
-use Rattle.note_words.specs.Store.{liesAt, kindAt, noteOf, noteAt, howMany, Filed, notesTo, waveAt, wavesTo}
+use Rattle.notes.specs.Noted.{Note}
+use Rattle.note_words.specs.Store.{liesAt, kindAt, noteOf, noteAt, howMany, Filed, notesTo}
 use Rattle.note_words.proofs.Laws.{note-kind}
 use Rattle.layout_by_notes.specs.Lies.{pick, isOf}
 use Rattle.from_notes.specs.Made.{noteBy}
@@ -73,15 +73,3 @@ module _ (s xs : List ℕ) (n : ℕ) (c : Counts) (filed : Filed xs n c) (k : Ki
   by-kind =
       let all = picked n (omega arith) in
       all ∙ ap (upTo (noteBy s xs k)) (sym (ap length all ∙ upTo-length (noteBy s xs k) (howMany xs k n)))
-
--- ---- waveforms
-
-pub waves-upTo : (s xs : List ℕ) (n : ℕ) → reverse (wavesTo s xs n) ≡ upTo (waveAt s xs) n
-unfolding wavesTo upTo
-waves-upTo s xs zero = refl
-waves-upTo s xs (suc n) = reverse-cons (waveAt s xs n) (wavesTo s xs n) ∙ ap (λ (l : List Wave). l ++ (waveAt s xs n ∷ [])) (waves-upTo s xs n)
-
-pub waves-length : (s xs : List ℕ) (n : ℕ) → length (wavesTo s xs n) ≡ n
-unfolding wavesTo
-waves-length s xs zero = refl
-waves-length s xs (suc n) = ap suc (waves-length s xs n)

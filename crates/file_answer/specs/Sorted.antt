@@ -1,7 +1,7 @@
--- What is noted of an accepted file, for those who fill the tables: its names by kind, and its waveforms.
+-- What is noted of an accepted file, for those who fill the tables: its names by kind.
 use Prim.Native.Nat.{ℕ, zero, suc}
 use mathlib.Core.Path.{_≡_}
-use mathlib.Core.List.{List, [], _∷_, _++_, map, reverse}
+use mathlib.Core.List.{List, [], _∷_, _++_, map}
 use mathlib.Core.Option.{none}
 use lib.ListN.{length}
 use Rattle.lines.specs.Lines.{bytesFault}
@@ -12,7 +12,7 @@ use Rattle.records.specs.declared.Kind.{Kind}
 use Rattle.records.specs.declared.Lengths.{Lengths}
 use Rattle.rules.specs.declared.Stage.the-variants.{BeforeVersion}
 use Rattle.notes.specs.Noted.{Log, entryOf, runLog, emptyLog, whole, clash}
-use Rattle.note_words.specs.Store.{waveAt, notesTo}
+use Rattle.note_words.specs.Store.{notesTo}
 use Rattle.noted_events.specs.Events.{logOf, Within, FiledBy}
 use Rattle.noted_events.specs.declared.Tally.{Tally}
 use Rattle.layout_by_notes.specs.Lies.{noted}
@@ -25,13 +25,12 @@ unfoldable pub upTo : {A : Type 0} → (ℕ → A) → ℕ → List A
 upTo f zero = []
 upTo f (suc n) = upTo f n ++ (f n ∷ [])
 
--- the store holds the file's names by kind, in file order, and its waveforms
+-- the store holds the file's names by kind, in file order
 pub record Sorted (l : Lengths) (s xs : List ℕ) : Type 0 where
   pub past : ℕ
   pub log : Log
   pub run : runLog l past BeforeVersion emptyLog (textsOf s) ≡ whole log
   pub names : (k : Kind) → noted k log ≡ upTo (noteBy s xs k) (length (noted k log))
-  pub waves : reverse (log .waves) ≡ upTo (waveAt s xs) (length (log .waves))
 
 abbrev pub SortedFor : Lengths → List ℕ → List ℕ → Outcome → Type 0
 SortedFor l s xs (passed h) = Sorted l s xs

@@ -17,7 +17,7 @@ use note_words::WORDS_PER_ROW;
 use note_words::WORDS_PER_SECTION;
 
 // The word i places behind a place; 0 past the end.
-pub fn word_behind(notes: &[u16], from: usize, i: usize) -> usize
+fn word_behind(notes: &[u16], from: usize, i: usize) -> usize
     ensures { λ r. ⌜ r ≡ getD (now (notes .entry)) (from + i) 0 ⌝ }
     ensures { λ r. ⌜ r < 65536 ⌝ }
 {

@@ -24,16 +24,15 @@ use Rattle.layout_by_notes.specs.Lies.{pick, isOf, Bounded, Fits}
 -- ---- the log behind a line, where there is room
 
 abbrev oneNoted : Log → Note → Log
-oneNoted h n = record { notes = n ∷ h .notes; waves = h .waves; counts = oneMore (h .counts) (n .kind) }
+oneNoted h n = record { notes = n ∷ h .notes; counts = oneMore (h .counts) (n .kind) }
 
 abbrev pub logAfter : Log → Text → List Text → Event → Log
 logAfter h t ts Quiet = h
 logAfter h t ts (Opened o) = oneNoted h (sectionNote (h .counts) (lineOf t) (argument (textOf t)) ts o)
 logAfter h t ts PinRow = oneNoted h (rowNote OfPin (lineOf t) 2 (textOf t))
 logAfter h t ts ChoiceRow = oneNoted h (rowNote OfChoice (lineOf t) 0 (textOf t))
-logAfter h t ts WaveformOpened =
-    record { notes = h .notes; waves = record { from = t ∷ ts; row = h .counts .rows } ∷ h .waves; counts = moreWaveforms (h .counts) }
-logAfter h t ts TableRow = record { notes = h .notes; waves = h .waves; counts = moreRows (h .counts) }
+logAfter h t ts WaveformOpened = record { notes = h .notes; counts = moreWaveforms (h .counts) }
+logAfter h t ts TableRow = record { notes = h .notes; counts = moreRows (h .counts) }
 logAfter h t ts (Ended alone) = h
 
 abbrev pub Room : Lengths → Counts → Event → Type 0
@@ -80,11 +79,10 @@ pub record Counted (h : Log) : Type 0 where
   pub selectors : h .counts .selectors ≡ length (pick (isOf OfSelector) (h .notes))
   pub choices : h .counts .choices ≡ length (pick (isOf OfChoice) (h .notes))
   pub models : h .counts .models ≡ length (pick (isOf OfModel) (h .notes))
-  pub waveforms : h .counts .waveforms ≡ length (h .waves)
 
 pub none-counted : Counted emptyLog
 unfolding pick
-none-counted = record { components = refl; pins = refl; selectors = refl; choices = refl; models = refl; waveforms = refl }
+none-counted = record { components = refl; pins = refl; selectors = refl; choices = refl; models = refl }
 
 pub counted-after : (h : Log) (t : Text) (ts : List Text) (e : Event) → Counted h → Counted (logAfter h t ts e)
 unfolding pick

@@ -1,16 +1,13 @@
 -- What is noted, and what is ahead, make up the tables, before a text as behind it: a law for each kind of line, and for each table's keyword.
 use Prim.Native.Nat.{ℕ, suc, _+_}
 use mathlib.Core.Path.{_≡_, refl, sym, ap, subst, _∙_}
-use mathlib.Core.List.{List, [], _∷_, _++_, map, flatMap, reverse}
-use mathlib.Core.Option.{Option, some}
+use mathlib.Core.List.{List, [], _∷_, _++_, map, flatMap}
 use native.Mathlib.Omega.{arith}
 use lib.ListN.{length, length-append}
 use Rattle.laws.specs.Bytes.{isBlank}
 use Rattle.laws.specs.Lists.{eqs, oneOf}
 use Rattle.laws.specs.Said.{Said, says}
 use Rattle.words.specs.Words.{words, grown, ontoWord}
-use Rattle.keywords.specs.declared.Keyword.{Keyword}
-use Rattle.keywords.specs.declared.Keyword.the-variants as key
 use Rattle.keywords.specs.declared.ModelPart.the-variants.{Current, Waveform}
 use Rattle.keywords.specs.declared.CurrentTable.{CurrentTable}
 use Rattle.keywords.specs.declared.CurrentTable.the-variants.{Pulldown, Pullup, GndClamp, PowerClamp}
@@ -20,14 +17,14 @@ use Rattle.cut_lines.specs.Texts.{Text, plain}
 use Rattle.line_rules.specs.Fields.{rowOf}
 use Rattle.rules.specs.Component.{pinIn}
 use Rattle.rules.specs.Reading.{ontoRows, rowsIn, under, choiceIn, edgeOf, waveformIn, TableIs, sectionsIn}
-use Rattle.rules.specs.Keys.{keyAt}
 use Rattle.layout.specs.Laid.{Laid, tables, rowsOf, waveformsLaid, laidFrom}
 use Rattle.records.specs.declared.Kind.the-variants.{OfComponent, OfPin, OfSelector, OfChoice, OfModel}
 use Rattle.records.specs.declared.Row.{Row}
+use Rattle.records.specs.declared.Waveform as laidWaveform
 use Rattle.rules.specs.declared.Event.{Event}
 use Rattle.rules.specs.declared.Event.the-variants.{WaveformOpened}
 use Rattle.notes.specs.Noted.{Log, sections, moreRows}
-use Rattle.layout_by_notes.specs.Lies.{pick, isOf, noted, componentNoted, pinNoted, selectorNoted, choiceNoted, modelNoted, rowsNoted, waveformsNoted, waveformFrom, waveNoted, keyEdge}
+use Rattle.layout_by_notes.specs.Lies.{pick, isOf, noted, componentNoted, pinNoted, selectorNoted, choiceNoted, modelNoted, rowsNoted, waveformsNoted}
 use Rattle.layout_by_notes.proofs.Lists.{latest-then}
 use Rattle.layout_by_notes.proofs.Keys.{Gives, rows, Open, LineGives, quiet, pin, choice, row, fixture}
 use Rattle.layout_by_notes.proofs.Ahead.{tableOf, Ahead, gathered, ahead}
@@ -42,16 +39,16 @@ finished x h =
     (map selectorNoted (noted OfSelector h))
     (map choiceNoted (noted OfChoice h) ++ map choiceIn (x .choiceLines))
     (map modelNoted (noted OfModel h))
-    (map waveNoted (reverse (h .waves)) ++ waveformsLaid (x .tables) (h .counts .rows + length (x .openRows)))
+    (flatMap waveformsNoted (noted OfModel h))
     (flatMap rowsNoted (noted OfModel h))
 
 -- the rows counted so far and those ahead are all rows of the noted models
 abbrev pub Filled : Ahead → Log → Type 0
 Filled x h = h .counts .rows + (length (x .openRows) + length (flatMap rowsOf (x .tables))) ≡ length (flatMap rowsNoted (noted OfModel h))
 
--- the waveforms so far and those ahead are all waveforms of the noted models
+-- and so are the waveforms
 abbrev pub Waved : Ahead → Log → Type 0
-Waved x h = finished x h .waveforms ≡ flatMap waveformsNoted (noted OfModel h)
+Waved x h = h .counts .waveforms + length (waveformsLaid (x .tables) (h .counts .rows + length (x .openRows))) ≡ length (flatMap waveformsNoted (noted OfModel h))
 
 -- the tables of the whole file, as they are seen from a text on
 abbrev pub outlook : Open → List Text → Log → Laid
@@ -66,14 +63,11 @@ same-laid c p s o m w r =
 pub record Carried (x : Ahead) (h : Log) (y : Ahead) (g : Log) : Type 0 where
   pub tables : finished x h ≡ finished y g
   pub places : sections (h .counts) ≡ sections (g .counts)
-  pub models : noted OfModel h ≡ noted OfModel g
   pub filled : Filled x h → Filled y g
-
-waved-on : {x y : Ahead} {h g : Log} → Carried x h y g → Waved x h → Waved y g
-waved-on c v = sym (ap (λ (a : Laid). a .waveforms) (c .tables)) ∙ v ∙ ap (flatMap waveformsNoted) (c .models)
+  pub waved : Waved x h → Waved y g
 
 pub nothing-moves : {x : Ahead} {h : Log} → Carried x h x h
-nothing-moves = record { tables = refl; places = refl; models = refl; filled = λ f. f }
+nothing-moves = record { tables = refl; places = refl; filled = λ f. f; waved = λ v. v }
 
 -- ---- a line
 
@@ -81,15 +75,15 @@ nothing-moves = record { tables = refl; places = refl; models = refl; filled = �
 row-carried : (p c : List (List ℕ)) (rs more : List Row) (tb : List TableIs) (h : Log) → length rs ≡ suc (length more)
     → Carried (record { pinLines = p; choiceLines = c; openRows = rs; tables = tb }) h
     (record { pinLines = p; choiceLines = c; openRows = more; tables = tb })
-    (record { notes = h .notes; waves = h .waves; counts = moreRows (h .counts) })
+    (record { notes = h .notes; counts = moreRows (h .counts) })
 unfolding finished noted sections
 row-carried p c rs more tb h e =
     let n : h .counts .rows + length rs ≡ h .counts .rows + 1 + length more = omega arith in
     record {
-      tables = same-laid refl refl refl refl refl (ap (λ (k : ℕ). map waveNoted (reverse (h .waves)) ++ waveformsLaid tb k) n) refl;
+      tables = refl;
       places = refl;
-      models = refl;
       filled = λ f. omega arith;
+      waved = λ v. ap (λ (k : ℕ). h .counts .waveforms + length (waveformsLaid tb k)) (sym n) ∙ v;
     }
 
 onto-one : (x : Said Row) (r : Row) (more : List Row) → x ≡ says r → length (ontoRows x more) ≡ suc (length more)
@@ -107,15 +101,15 @@ line-carried pin k ls ps tb h ts =
     record {
       tables = same-laid refl (latest-then pinNoted _ (pick (isOf OfPin) (h .notes)) _) refl refl refl refl refl;
       places = refl;
-      models = refl;
       filled = λ f. f;
+      waved = λ v. v;
     }
 line-carried choice k ls ps tb h ts =
     record {
       tables = same-laid refl refl refl (latest-then choiceNoted _ (pick (isOf OfChoice) (h .notes)) _) refl refl refl;
       places = refl;
-      models = refl;
       filled = λ f. f;
+      waved = λ v. v;
     }
 line-carried {w} (row {r = r} e) k ls ps tb h ts = row-carried ps [] (ontoRows (rowOf (words w)) (rowsIn ls)) (rowsIn ls) tb h (onto-one _ r _ e)
 line-carried {w} (fixture e) k ls ps tb h ts =
@@ -133,7 +127,7 @@ pub carried-on : (o : Open) (t : Text) (ts : List Text) (h : Log) (u : Open) (e 
 carried-on o t ts h u e p q c f v = (
   (λ i. laidFrom ((ap (λ (y : Ahead). finished y h) p ∙ c .tables) i) (c .places i) (q i)),
   c .filled (subst (λ (y : Ahead). Filled y h) p f),
-  waved-on c (subst (λ (y : Ahead). Waved y h) p v),
+  c .waved (subst (λ (y : Ahead). Waved y h) p v),
 )
 
 -- ---- a keyword inside a section
@@ -158,38 +152,30 @@ pub current-carried : (t : CurrentTable) (ls : List (List ℕ)) (tb : List Table
     → Carried (record { pinLines = []; choiceLines = []; openRows = []; tables = tableOf (Current t) ls ∷ tb }) h (gathered rows ls [] tb) h
 unfolding finished flatMap
 current-carried t ls tb h =
-    let before : List _ = map waveNoted (reverse (h .waves)) in
     let z : h .counts .rows + 0 ≡ h .counts .rows = omega arith in
     record {
-      tables =
-          same-laid refl refl refl refl refl
-          (ap (λ (j : ℕ). before ++ waveformsLaid (tableOf (Current t) ls ∷ tb) j) z
-          ∙ ap (λ (l : List _). before ++ l) (waveform-none t ls tb (h .counts .rows)))
-          refl;
+      tables = refl;
       places = refl;
-      models = refl;
       filled = λ f. omega (arith, length-append (rowsIn ls) (flatMap rowsOf tb));
+      waved = λ v.
+          ap (λ (l : List laidWaveform.Waveform). h .counts .waveforms + length l) (sym (waveform-none t ls tb (h .counts .rows)))
+          ∙ ap (λ (j : ℕ). h .counts .waveforms + length (waveformsLaid (tableOf (Current t) ls ∷ tb) j)) (sym z) ∙ v;
     }
 
--- a waveform's keyword: the same, and the waveform is noted
-pub waveform-carried : (t : Text) (ts : List Text) (e : Edge) (tb : List TableIs) (h : Log) → keyAt t ≡ some (key.InModel (Waveform e))
+-- a waveform's keyword: the same, and the waveform is counted
+pub waveform-carried : (t : Text) (ts : List Text) (e : Edge) (tb : List TableIs) (h : Log)
     → Carried (record { pinLines = []; choiceLines = []; openRows = []; tables = tableOf (Waveform e) (under ts) ∷ tb }) h
     (gathered rows (under ts) [] tb) (logAfter h t ts WaveformOpened)
-unfolding finished noted sections flatMap waveNoted waveformFrom
-waveform-carried t ts e tb h q =
+unfolding finished noted sections flatMap
+waveform-carried t ts e tb h =
     let n : ℕ = h .counts .rows in
     let rs : List Row = rowsIn (under ts) in
-    let before : List _ = map waveNoted (reverse (h .waves)) in
     let z : n + 0 ≡ n = omega arith in
     record {
-      tables =
-          same-laid refl refl refl refl refl
-          (ap (λ (j : ℕ). before ++ waveformsLaid (tableOf (Waveform e) (under ts) ∷ tb) j) z
-          ∙ ap (λ (l : List _). before ++ l) (waveform-some e (under ts) tb n)
-          ∙ ap (λ (y : Option Keyword). before ++ (waveformIn n (keyEdge y) (under ts) ∷ waveformsLaid tb (n + length rs))) (sym q)
-          ∙ latest-then waveNoted (record { from = t ∷ ts; row = n }) (h .waves) (waveformsLaid tb (n + length rs)))
-          refl;
+      tables = refl;
       places = refl;
-      models = refl;
       filled = λ f. omega (arith, length-append rs (flatMap rowsOf tb));
+      waved = λ v.
+          let all = ap (λ (j : ℕ). h .counts .waveforms + length (waveformsLaid (tableOf (Waveform e) (under ts) ∷ tb) j)) (sym z) ∙ v in
+          omega (arith, all, ap length (waveform-some e (under ts) tb n));
     }

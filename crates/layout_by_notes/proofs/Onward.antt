@@ -71,7 +71,7 @@ module _ (k : ℕ) (w : List ℕ) (ts : List Text) (h : Log) (c : Counted h) whe
       inside k w ts q v (some Model) g (record { within = some Model; gives = nothing }) Quiet h refl nothing-moves
   key-onward (ofModel (Waveform e)) g q v =
       inside k w ts q v (some Model) g (record { within = some Model; gives = rows }) WaveformOpened h refl
-      (waveform-carried (plain k w) ts e (tablesAhead ts) h q)
+      (waveform-carried (plain k w) ts e (tablesAhead ts) h)
   key-onward {x} (ofEnd {alone = alone}) g q v =
       inside k w ts q v x g closed (Ended alone) h refl (subst (λ (y : Ahead). Carried y h noneAhead h) (sym (none-after x)) nothing-moves)
 

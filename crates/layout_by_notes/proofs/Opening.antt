@@ -12,7 +12,7 @@ use Rattle.keywords.specs.declared.Section.the-variants.{Component, Selector, M
 use Rattle.cut_lines.specs.Texts.{Text, plain}
 use Rattle.rules.specs.Reading.{pinsIn, componentIn, choiceIn, choicesIn, modelIn, isWithin, sectionsIn}
 use Rattle.rules.specs.Keys.{sectionIn}
-use Rattle.layout.specs.Laid.{Laid, tableAt, waveformsLaid, withSection, laidFrom}
+use Rattle.layout.specs.Laid.{tableAt, waveformsLaid, withSection, laidFrom}
 use Rattle.records.specs.Stored.{nameLaid}
 use Rattle.records.specs.declared.Kind.the-variants.{OfComponent, OfPin, OfSelector, OfChoice, OfModel}
 use Rattle.records.specs.declared.Row.{Row}
@@ -21,7 +21,7 @@ use Rattle.records.specs.declared.Selector as laidSelector
 use Rattle.records.specs.declared.Model as laidModel
 use Rattle.rules.specs.declared.Event.the-variants.{Opened}
 use Rattle.notes.specs.Noted.{Note, Log, sections, sectionNote}
-use Rattle.layout_by_notes.specs.Lies.{pick, isOf, noted, componentNoted, pinNoted, selectorNoted, choiceNoted, modelNoted, rowsNoted, waveformsNoted, waveNoted}
+use Rattle.layout_by_notes.specs.Lies.{pick, isOf, noted, componentNoted, pinNoted, selectorNoted, choiceNoted, modelNoted, rowsNoted, waveformsNoted}
 use Rattle.layout_by_notes.proofs.Lists.{latest-last, latest-length-only, latest-flat}
 use Rattle.layout_by_notes.proofs.Keys.{Open, sectionOpens}
 use Rattle.layout_by_notes.proofs.Ahead.{tablesAhead, Ahead, noneAhead, ahead, under-within}
@@ -70,28 +70,31 @@ module _ (k : ℕ) (w : List ℕ) (ts : List Text) (h : Log) (c : Counted h) whe
   unfolding noted flatMap
   rows-so-far f = omega arith
 
+  waves-so-far : Waved noneAhead h → length (flatMap waveformsNoted (reverse (pick (isOf OfModel) (h .notes)))) ≡ h .counts .waveforms
+  unfolding noted waveformsLaid
+  waves-so-far v = omega arith
+
   -- its tables are those ahead, and their rows start where the rows so far end
-  model-laid : Filled noneAhead h
+  model-laid : Filled noneAhead h → Waved noneAhead h
       → withSection (finished noneAhead h) (sections (h .counts)) (sectionIn (argument w) own Model)
       ≡ finished (ahead (sectionOpens Model) ts) (logAfter h (plain k w) ts (Opened Model))
-  unfolding finished noted pick modelNoted rowsNoted waveformsLaid flatMap
-  model-laid f =
+  unfolding finished noted pick modelNoted rowsNoted waveformsNoted flatMap
+  model-laid f v =
       let read : ℕ → ℕ → laidModel.Model = λ row n.
       modelIn (sections (h .counts)) (tableAt (tablesAhead ts) row) (record { start = n; count = length (waveformsLaid (tablesAhead ts) row) }) (word 0 (words (argument w))) own
       in
       let models : List Note = pick (isOf OfModel) (h .notes) in
       let before : List _ = map modelNoted (reverse models) in
       let laidRows : List Row = flatMap rowsNoted (reverse models) in
-      let laidWaveforms : List _ = map waveNoted (reverse (h .waves)) in
+      let laidWaveforms : List _ = flatMap waveformsNoted (reverse models) in
       let row : length laidRows ≡ h .counts .rows = rows-so-far f in
-      let place : length laidRows ≡ h .counts .rows + 0 = omega arith in
-      let start : length (laidWaveforms ++ []) ≡ h .counts .waveforms = latest-length-only waveNoted (h .waves) ∙ sym (c .waveforms) in
+      let start : length laidWaveforms ≡ h .counts .waveforms = waves-so-far v in
       same-laid refl refl refl refl
-      (ap (λ (n : ℕ). before ++ (read n (length (laidWaveforms ++ [])) ∷ [])) row
+      (ap (λ (n : ℕ). before ++ (read n (length laidWaveforms) ∷ [])) row
       ∙ ap (λ (n : ℕ). before ++ (read (h .counts .rows) n ∷ [])) start
       ∙ latest-last modelNoted (sectionNote (h .counts) k (argument w) ts Model) models)
-      (ap (λ (l : List _). l ++ waveformsLaid (tablesAhead ts) (length laidRows)) (append-nil laidWaveforms)
-      ∙ ap (λ (n : ℕ). laidWaveforms ++ waveformsLaid (tablesAhead ts) n) place)
+      (ap (λ (n : ℕ). laidWaveforms ++ waveformsLaid (tablesAhead ts) n) row
+      ∙ latest-flat waveformsNoted (sectionNote (h .counts) k (argument w) ts Model) models)
       (latest-flat rowsNoted (sectionNote (h .counts) k (argument w) ts Model) models)
 
   -- the rows of the new model are all ahead
@@ -106,19 +109,20 @@ module _ (k : ℕ) (w : List ℕ) (ts : List Text) (h : Log) (c : Counted h) whe
 
   -- its waveforms are all ahead
   model-waved : Filled noneAhead h → Waved noneAhead h → Waved (ahead (sectionOpens Model) ts) (logAfter h (plain k w) ts (Opened Model))
-  unfolding finished noted pick waveformsNoted
+  unfolding noted pick waveformsNoted
   model-waved f v =
       let models : List Note = pick (isOf OfModel) (h .notes) in
-      let row : length (flatMap rowsNoted (reverse models)) ≡ h .counts .rows = rows-so-far f in
-      sym (ap (λ (a : Laid). a .waveforms) (model-laid f))
-      ∙ ap (λ (l : List _). l ++ waveformsLaid (tablesAhead ts) (length (finished noneAhead h .rows))) v
-      ∙ ap (λ (n : ℕ). flatMap waveformsNoted (reverse models) ++ waveformsLaid (tablesAhead ts) n) row
-      ∙ latest-flat waveformsNoted (sectionNote (h .counts) k (argument w) ts Model) models
+      let n : Note = sectionNote (h .counts) k (argument w) ts Model in
+      let z : h .counts .rows + 0 ≡ h .counts .rows = omega arith in
+      let e = ap length (latest-flat waveformsNoted n models) in
+      let d = length-append (flatMap waveformsNoted (reverse models)) (waveformsNoted n) in
+      let q = ap (λ (j : ℕ). length (waveformsLaid (tablesAhead ts) j)) z in
+      omega (arith, e, d, q, waves-so-far v)
 
   -- the section is laid, and its note with what is ahead is the same
   opened-on : (o : Open) (s : Section) → ahead o (plain k w ∷ ts) ≡ noneAhead
       → sectionsIn (plain k w ∷ ts) ≡ sectionIn (argument w) own s ∷ sectionsIn ts
-      → (Filled noneAhead h → withSection (finished noneAhead h) (sections (h .counts)) (sectionIn (argument w) own s)
+      → (Filled noneAhead h → Waved noneAhead h → withSection (finished noneAhead h) (sections (h .counts)) (sectionIn (argument w) own s)
       ≡ finished (ahead (sectionOpens s) ts) (logAfter h (plain k w) ts (Opened s)))
       → sections (h .counts) + 1 ≡ sections (logAfter h (plain k w) ts (Opened s) .counts)
       → (Filled noneAhead h → Filled (ahead (sectionOpens s) ts) (logAfter h (plain k w) ts (Opened s)))
@@ -126,10 +130,11 @@ module _ (k : ℕ) (w : List ℕ) (ts : List Text) (h : Log) (c : Counted h) whe
       → Onward o (plain k w) ts h (sectionOpens s) (Opened s)
   unfolding laidFrom
   opened-on o s p q laying n filling waving f v =
-      let g : Filled noneAhead h = subst (λ (y : Ahead). Filled y h) p f in (
-        (λ i. laidFrom (finished (p i) h) (sections (h .counts)) (q i)) ∙ (λ i. laidFrom (laying g i) (n i) (sectionsIn ts)),
+      let g : Filled noneAhead h = subst (λ (y : Ahead). Filled y h) p f in
+      let d : Waved noneAhead h = subst (λ (y : Ahead). Waved y h) p v in (
+        (λ i. laidFrom (finished (p i) h) (sections (h .counts)) (q i)) ∙ (λ i. laidFrom (laying g d i) (n i) (sectionsIn ts)),
         filling g,
-        waving g (subst (λ (y : Ahead). Waved y h) p v),
+        waving g d,
       )
 
   pub section-onward : (o : Open) (s : Section) → ahead o (plain k w ∷ ts) ≡ noneAhead
@@ -137,7 +142,7 @@ module _ (k : ℕ) (w : List ℕ) (ts : List Text) (h : Log) (c : Counted h) whe
       → Onward o (plain k w) ts h (sectionOpens s) (Opened s)
   unfolding sections noted pick
   section-onward o Component p q =
-      opened-on o Component p q (λ f. component-laid) (omega arith) (λ f. f) (λ f v. sym (ap (λ (a : Laid). a .waveforms) component-laid) ∙ v)
+      opened-on o Component p q (λ f v. component-laid) (omega arith) (λ f. f) (λ f v. v)
   section-onward o Selector p q =
-      opened-on o Selector p q (λ f. selector-laid) (omega arith) (λ f. f) (λ f v. sym (ap (λ (a : Laid). a .waveforms) selector-laid) ∙ v)
+      opened-on o Selector p q (λ f v. selector-laid) (omega arith) (λ f. f) (λ f v. v)
   section-onward o Model p q = opened-on o Model p q model-laid (omega arith) model-filled model-waved

@@ -1,7 +1,7 @@
 -- An accepted file lies in the tables as noted, and within them: one induction over the texts, for whatever a step keeps.
 use Prim.Native.Nat.{ℕ}
 use mathlib.Core.Path.{_≡_, refl, sym, ap, subst, _∙_}
-use mathlib.Core.List.{List, [], _∷_, map, flatMap, reverse, append-nil}
+use mathlib.Core.List.{List, [], _∷_, map, flatMap, append-nil}
 use native.Mathlib.Omega.{arith}
 use lib.ListN.{length}
 use Rattle.cut_lines.specs.Texts.{Text}
@@ -16,7 +16,7 @@ use Rattle.rules.specs.declared.Event.{Event}
 use Rattle.rules.specs.declared.Went.{Went}
 use Rattle.rules.specs.declared.Went.the-variants.{On, Stop}
 use Rattle.notes.specs.Noted.{Log, emptyLog, sections, Logged, going, full, logged, Finish, whole, broken, outOfLines, afterLogged, afterWent, runLog}
-use Rattle.layout_by_notes.specs.Lies.{pick, isOf, noted, componentNoted, pinNoted, selectorNoted, choiceNoted, modelNoted, waveNoted, Lies, Bounded, Fits}
+use Rattle.layout_by_notes.specs.Lies.{pick, isOf, noted, componentNoted, pinNoted, selectorNoted, choiceNoted, modelNoted, Lies, Bounded, Fits}
 use Rattle.layout_by_notes.proofs.Goes.{Goes}
 use Rattle.layout_by_notes.proofs.Keys.{Open, closed, openAt, Stepped, text-goes}
 use Rattle.layout_by_notes.proofs.Lists.{latest-length, latest-length-only}
@@ -83,14 +83,14 @@ lies-at-end : (g : Log) → Counted g → Filled noneAhead g → Waved noneAhead
 unfolding finished noted waveformsLaid flatMap
 lies-at-end g c f v =
     let rest : g .counts .rows ≡ length (finished noneAhead g .rows) = omega arith in
+    let waved : g .counts .waveforms ≡ length (finished noneAhead g .waveforms) = omega arith in
     record {
       components = refl;
       pins = append-nil (map pinNoted (noted OfPin g));
       selectors = refl;
       choices = append-nil (map choiceNoted (noted OfChoice g));
       models = refl;
-      waveforms = append-nil (map waveNoted (reverse (g .waves)));
-      waveformsByModel = v;
+      waveforms = refl;
       rows = refl;
       counts =
           λ i.
@@ -100,7 +100,7 @@ lies-at-end g c f v =
             selectors = (c .selectors ∙ sym (latest-length selectorNoted (pick (isOf OfSelector) (g .notes)))) i;
             choices = (c .choices ∙ sym (latest-length-only choiceNoted (pick (isOf OfChoice) (g .notes)))) i;
             models = (c .models ∙ sym (latest-length modelNoted (pick (isOf OfModel) (g .notes)))) i;
-            waveforms = (c .waveforms ∙ sym (latest-length-only waveNoted (g .waves))) i;
+            waveforms = waved i;
             rows = rest i;
           };
     }

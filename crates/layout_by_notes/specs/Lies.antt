@@ -1,20 +1,15 @@
 -- What the notes of an accepted file say of the lent tables: a record for each note, read from the texts that stand behind its keyword.
-use Prim.Native.Nat.{ℕ, _≤_, min}
+use Prim.Native.Nat.{_≤_, min}
 use mathlib.Core.Path.{_≡_}
 use mathlib.Core.List.{List, [], _∷_, map, flatMap, reverse}
 use mathlib.Core.Bool.{Bool, cond}
-use mathlib.Core.Option.{Option}
 use lib.ListN.{length}
 use Rattle.laws.specs.Lists.{front}
-use Rattle.keywords.specs.declared.Keyword.{Keyword}
-use Rattle.keywords.specs.declared.ModelPart.{ModelPart}
-use Rattle.keywords.specs.declared.ModelPart.the-variants.{VoltageRange, TemperatureRange, Current, Ramp, Waveform}
 use Rattle.cut_lines.specs.Texts.{Text}
 use Rattle.rules.specs.Component.{pinIn}
 use Rattle.rules.specs.Outline.{is}
 use Rattle.rules.specs.Whole.{bound}
-use Rattle.rules.specs.Reading.{under, isWithin, pinsIn, componentIn, choiceIn, choicesIn, modelIn, TableIs, tablesIn, waveformIn}
-use Rattle.rules.specs.Keys.{keyAt, byKeyword}
+use Rattle.rules.specs.Reading.{isWithin, pinsIn, componentIn, choiceIn, choicesIn, modelIn, TableIs, tablesIn}
 use Rattle.layout.specs.Laid.{Laid, countsOf, rowsOf, tableAt, waveformsLaid}
 use Rattle.records.specs.Bounds.{mostWaveforms}
 use Rattle.records.specs.Stored.{nameLaid}
@@ -28,10 +23,8 @@ use Rattle.records.specs.declared.Pin.{Pin}
 use Rattle.records.specs.declared.Selector.{Selector}
 use Rattle.records.specs.declared.Choice.{Choice}
 use Rattle.records.specs.declared.Model.{Model}
-use Rattle.records.specs.declared.Edge.{Edge}
-use Rattle.records.specs.declared.Edge.the-variants.{Rising}
-use Rattle.records.specs.declared.Waveform as laidWaveform
-use Rattle.notes.specs.Noted.{Note, entryOf, Wave, Log}
+use Rattle.records.specs.declared.Waveform.{Waveform}
+use Rattle.notes.specs.Noted.{Note, entryOf, Log}
 
 -- ---- the notes of one kind, in file order
 
@@ -76,29 +69,8 @@ unfoldable pub rowsNoted : Note → List Row
 rowsNoted n = flatMap rowsOf (tablesNoted n)
 
 -- its waveforms, in its tables
-unfoldable pub waveformsNoted : Note → List laidWaveform.Waveform
+unfoldable pub waveformsNoted : Note → List Waveform
 waveformsNoted n = waveformsLaid (tablesNoted n) (n .row)
-
--- ---- the record of a waveform's note: its texts begin with its keyword
-
--- the edge that a waveform's keyword says; of any other keyword, some edge
-abbrev pub partEdge : ModelPart → Edge
-partEdge VoltageRange = Rising
-partEdge TemperatureRange = Rising
-partEdge (Current t) = Rising
-partEdge Ramp = Rising
-partEdge (Waveform e) = e
-
-abbrev pub keyEdge : Option Keyword → Edge
-keyEdge k = byKeyword Rising (λ p. Rising) (λ o. Rising) (λ p. Rising) partEdge Rising k
-
--- row is the place of its first row
-unfoldable pub waveformFrom : ℕ → List Text → laidWaveform.Waveform
-waveformFrom row [] = waveformIn row Rising []
-waveformFrom row (t ∷ ts) = waveformIn row (keyEdge (keyAt t)) (under ts)
-
-unfoldable pub waveNoted : Wave → laidWaveform.Waveform
-waveNoted w = waveformFrom (w .row) (w .from)
 
 -- ---- the tables lie as noted
 
@@ -108,8 +80,7 @@ pub record Lies (g : Log) (a : Laid) : Type 0 where
   pub selectors : a .selectors ≡ map selectorNoted (noted OfSelector g)
   pub choices : a .choices ≡ map choiceNoted (noted OfChoice g)
   pub models : a .models ≡ map modelNoted (noted OfModel g)
-  pub waveforms : a .waveforms ≡ map waveNoted (reverse (g .waves))
-  pub waveformsByModel : a .waveforms ≡ flatMap waveformsNoted (noted OfModel g)
+  pub waveforms : a .waveforms ≡ flatMap waveformsNoted (noted OfModel g)
   pub rows : a .rows ≡ flatMap rowsNoted (noted OfModel g)
   pub counts : g .counts ≡ countsOf a
 

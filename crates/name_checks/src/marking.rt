@@ -4,7 +4,6 @@ ghost use mathlib.Core.Bool.{_&&_};
 ghost use mathlib.Core.Option.{none};
 ghost use Prim.Native.Nat.{_≤_, _<_};
 ghost use lib.Dec.{ltb};
-ghost use Rattle.name_table.specs.declared.Found.the-variants.{Nothing};
 ghost use Rattle.notes.specs.Noted.{clash};
 ghost use Rattle.note_words.specs.Store.{namesHeld, notedLine};
 ghost use Rattle.name_checks.specs.declared.Last.the-variants.{Faulty};

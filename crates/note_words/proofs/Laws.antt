@@ -1,5 +1,5 @@
 -- Laws of `specs/Store.antt`: where the notes of the kinds lie, what is read where words were written, and where none were.
-use Prim.Native.Nat.{ℕ, zero, suc, _+_, _*_, _/_, _%_, _≤_, _<_}
+use Prim.Native.Nat.{ℕ, zero, suc, _+_, _/_, _%_, _≤_, _<_}
 use mathlib.Core.Path.{_≡_, refl, sym, ap, _∙_, subst}
 use mathlib.Core.List.{List, [], _∷_}
 use mathlib.Core.Bool.{true, false}
@@ -8,7 +8,6 @@ use native.Mathlib.Numerals.{add-one}
 use lib.ListN.{length, drop, getD, set, length-set, drop-of-length-le}
 use lib.Dec.{eqb}
 use borrow.Author.Tests.{eq-eqb, lt-ltb, le-ltb}
-use Rattle.cut_lines.specs.Cursors.{rest}
 use Rattle.records.specs.Bounds.{most}
 use Rattle.records.specs.declared.Counts.{Counts}
 use Rattle.laws.proofs.Tests.{by-test, by-order, cond-yes, cond-no}
@@ -17,7 +16,7 @@ use Rattle.records.specs.declared.Kind.the-variants.{OfComponent, OfPin, OfSele
 use Rattle.rules.specs.Outline.{place}
 use Rattle.notes.specs.Noted.{used, oneMore, Note}
 use Rattle.notes.proofs.Settles.{one-more}
-use Rattle.note_words.specs.Store.{namesHeld, wordsPerSection, wordsPerRow, wordsPerWave, isSection, wordsPer, areaFrom, liesAt, kindBy, orderFrom, wavesFrom, storeLength, wordsOfSection, SectionFits, cursorAt, sectionFrom, sectionAt, wordsOfRow, RowFits, rowFrom, rowAt, wordOf, partStart, partEnd, noteOf, notedAt, kindAt, notedLine, nameAt, noteAt, withName, howMany, Filed, waveWords, waveAt, notesTo, wavesTo, logIn}
+use Rattle.note_words.specs.Store.{namesHeld, wordsPerSection, wordsPerRow, isSection, wordsPer, areaFrom, liesAt, kindBy, orderFrom, storeLength, wordsOfSection, SectionFits, sectionFrom, sectionAt, wordsOfRow, RowFits, rowFrom, rowAt, wordOf, partStart, partEnd, noteOf, notedAt, kindAt, notedLine, nameAt, noteAt, withName, howMany, Filed, notesTo, logIn}
 use Rattle.note_words.specs.declared.SectionNote.{SectionNote}
 use Rattle.note_words.specs.declared.RowNote.{RowNote}
 use lib.Seq.{sets, length-sets, getD-set-same, getD-set-other, drop-cons}
@@ -151,7 +150,7 @@ unfolding howMany
 filed-none xs c h = record { lies = λ i g. absurd (omega (arith, g)); counted = λ k. sym (h k) }
 
 -- waveforms and table rows are counted apart from the names
-pub used-other : (c : Counts) (waveforms rows : ℕ) (k : Kind)
+used-other : (c : Counts) (waveforms rows : ℕ) (k : Kind)
     → used c k ≡ used (record { components = c .components; pins = c .pins; selectors = c .selectors; choices = c .choices; models = c .models; waveforms = waveforms; rows = rows }) k
 used-other c waveforms rows OfComponent = refl
 used-other c waveforms rows OfPin = refl
@@ -195,23 +194,6 @@ module _ (s xs ys : List ℕ) (n : ℕ) (c : Counts) (filed : Filed xs n c) (sam
   notes-same zero h = refl
   notes-same (suc m) h = rw (note-same m (omega (arith, h))) rw (notes-same m (omega (arith, h))) refl
 
--- ---- stores that hold the same words in a region
-
-abbrev Agree : ℕ → ℕ → List ℕ → List ℕ → Type 0
-Agree a b xs ys = (k : ℕ) → a ≤ k → k < b → getD xs k 0 ≡ getD ys k 0
-
-pub wave-agree : (s xs ys : List ℕ) (j : ℕ) → Agree (wavesFrom + wordsPerWave * j) (wavesFrom + wordsPerWave * j + wordsPerWave) xs ys → waveAt s xs j ≡ waveAt s ys j
-unfolding waveAt
-wave-agree s xs ys j h =
-    let w = wavesFrom + wordsPerWave * j in
-    rw (h (w + 0) (omega arith) (omega arith)) rw (h (w + 1) (omega arith) (omega arith)) rw (h (w + 2) (omega arith) (omega arith)) refl
-
-pub waves-agree : (s xs ys : List ℕ) (n : ℕ) → Agree wavesFrom (wavesFrom + wordsPerWave * n) xs ys → wavesTo s xs n ≡ wavesTo s ys n
-unfolding wavesTo
-waves-agree s xs ys zero h = refl
-waves-agree s xs ys (suc n) h =
-    rw (wave-agree s xs ys n (λ k a b. h k (omega (arith, a)) (omega (arith, b)))) rw (waves-agree s xs ys n (λ k a b. h k a (omega (arith, b)))) refl
-
 -- ---- what every note has, whatever its kind
 
 module _ (s xs : List ℕ) (a : ℕ) (k : Kind) where
@@ -242,9 +224,6 @@ module _ (xs : List ℕ) (i a : ℕ) (ws : List ℕ) (ends : a + length ws ≤ o
 
   put-order : (j : ℕ) → j < i → notedAt put j ≡ notedAt xs j
   put-order j h = getD-set-other (sets xs a ws) (orderFrom + i) (orderFrom + j) a 0 (λ e. omega (arith, h, e)) ∙ get-behind xs ws a (orderFrom + j) (omega (arith, ends))
-
-  put-waves : (k : ℕ) → wavesFrom ≤ k → getD put k 0 ≡ getD xs k 0
-  put-waves k h = getD-set-other (sets xs a ws) (orderFrom + i) k a 0 (λ e. omega (arith, h, few, e)) ∙ get-behind xs ws a k (omega (arith, h, ends))
 
   put-word : (b : ℕ) → b < length ws → wordOf put a b ≡ getD ws b 0
   put-word b h = getD-set-other (sets xs a ws) (orderFrom + i) (a + b) a 0 (λ e. omega (arith, h, ends, e)) ∙ get-among xs ws a b h (omega (arith, ends, store))
@@ -329,42 +308,12 @@ module _ (xs : List ℕ) (n : ℕ) (c : Counts) (filed : Filed xs n c) (room : (
         counted = λ x. rw (add-one n) rw kind-new rw (many x) (sym (one-more c k x));
       }
 
-  -- in front of the notes, and the waveforms stay
+  -- in front of the notes
   pub log-note : (s : List ℕ) (note : Note) (d : Counts) → noteAt s more n ≡ note
-      → logIn s more (n + 1) d ≡ record { notes = note ∷ notesTo s xs n; waves = wavesTo s xs (d .waveforms); counts = d }
+      → logIn s more (n + 1) d ≡ record { notes = note ∷ notesTo s xs n; counts = d }
   unfolding logIn notesTo
   log-note s note d says =
       rw (add-one n) rw says
       rw (notes-same s xs more n c filed order-same
       (λ m j b h g. put-other xs n (liesAt k (used c k)) ws ends few store (liesAt m j + b) (lies-below m j b (omega (arith, room m, h)) g)
-      (λ e f. lie-apart c m k j b e room h g (subst (λ (w : ℕ). e < w) size f))) n (omega arith))
-      rw (waves-agree s more xs (d .waveforms) (λ w a b. put-waves xs n (liesAt k (used c k)) ws ends few store w a)) refl
-
-wave-put : (s xs : List ℕ) (j at char row : ℕ) → wavesFrom + wordsPerWave * j + wordsPerWave ≤ length xs
-    → waveAt s (sets xs (wavesFrom + wordsPerWave * j) (waveWords at char row)) j ≡ record { from = rest s (cursorAt s at char); row = row }
-unfolding waveAt
-wave-put s xs j at char row h =
-    let w = wavesFrom + wordsPerWave * j in
-    let ys : List ℕ = sets xs w (waveWords at char row) in
-    let g : (k : ℕ) → k < wordsPerWave → getD ys (w + k) 0 ≡ getD (waveWords at char row) k 0 = λ k b. get-among xs (waveWords at char row) w k b h in
-    rw (g 0 (omega arith)) rw (g 1 (omega arith)) rw (g 2 (omega arith)) refl
-
--- a waveform's note goes in front of the waveforms, and leaves the names
-module _ (s xs : List ℕ) (n j at char row : ℕ) (c d : Counts) (filed : Filed xs n c) (room : (x : Kind) → used c x ≤ most x) (few : n ≤ namesHeld)
-    (store : wavesFrom + wordsPerWave * j + wordsPerWave ≤ length xs) (e : d .waveforms ≡ j + 1) where
-  abbrev waved : List ℕ
-  waved = sets xs (wavesFrom + wordsPerWave * j) (waveWords at char row)
-
-  order-waved : (i : ℕ) → i < n → notedAt waved i ≡ notedAt xs i
-  order-waved i h = get-before xs (waveWords at char row) (wavesFrom + wordsPerWave * j) (orderFrom + i) (omega (arith, h, few))
-
-  pub filed-wave : ((k : Kind) → used c k ≡ used d k) → Filed waved n d
-  filed-wave same = filed-same xs waved n order-waved c d filed same
-
-  pub log-wave : logIn s waved n d ≡ record { notes = notesTo s xs n; waves = record { from = rest s (cursorAt s at char); row = row } ∷ wavesTo s xs j; counts = d }
-  unfolding logIn wavesTo
-  log-wave =
-      let w = wavesFrom + wordsPerWave * j in
-      rw e rw (add-one j) rw (wave-put s xs j at char row store)
-      rw (notes-same s xs waved n c filed order-waved (λ k i b h g. get-before xs (waveWords at char row) w (liesAt k i + b) (omega (arith, lies-below k i b (omega (arith, room k, h)) g))) n (omega arith))
-      rw (waves-agree s waved xs j (λ k a b. get-before xs (waveWords at char row) w k b)) refl
+      (λ e f. lie-apart c m k j b e room h g (subst (λ (w : ℕ). e < w) size f))) n (omega arith)) refl

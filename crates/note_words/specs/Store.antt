@@ -1,5 +1,4 @@
--- The store: an area of notes for each kind, then the names in file order, a word each that says where its note lies, then three words a waveform. A word is
--- of two bytes.
+-- The store: an area of notes for each kind, then the names in file order, a word each that says where its note lies. A word is of two bytes.
 use Prim.Native.Nat.{ℕ, zero, suc, _+_, _-_, _*_, _/_, _%_, _≤_, _<_}
 use mathlib.Core.Path.{_≡_}
 use mathlib.Core.List.{List, [], _∷_}
@@ -11,12 +10,12 @@ use Rattle.laws.specs.Lists.{part}
 use Rattle.lines.specs.Places.{lineAt}
 use Rattle.cut_lines.specs.Cursors.{rest}
 use Rattle.cut_lines.specs.declared.Cursor.{Cursor}
-use Rattle.records.specs.Bounds.{most, mostWaveforms}
+use Rattle.records.specs.Bounds.{most}
 use Rattle.records.specs.declared.Kind.{Kind}
 use Rattle.records.specs.declared.Kind.the-variants.{OfComponent, OfPin, OfSelector, OfChoice, OfModel}
 use Rattle.records.specs.declared.Counts.{Counts}
 use Rattle.rules.specs.Outline.{place}
-use Rattle.notes.specs.Noted.{used, Note, Wave, Log}
+use Rattle.notes.specs.Noted.{used, Note, Log}
 use Rattle.note_words.specs.declared.SectionNote.{SectionNote}
 use Rattle.note_words.specs.declared.RowNote.{RowNote}
 
@@ -35,9 +34,6 @@ wordsPerSection = 5
 
 abbrev pub wordsPerRow : ℕ
 wordsPerRow = 4
-
-abbrev pub wordsPerWave : ℕ
-wordsPerWave = 3
 
 -- the other kinds are those of rows
 abbrev pub isSection : Kind → Bool
@@ -77,11 +73,8 @@ kindBy a =
 abbrev pub orderFrom : ℕ
 orderFrom = areaFrom OfModel + areaOf OfModel
 
-abbrev pub wavesFrom : ℕ
-wavesFrom = orderFrom + mostNames
-
 abbrev pub storeLength : ℕ
-storeLength = wavesFrom + wordsPerWave * mostWaveforms
+storeLength = orderFrom + mostNames
 
 -- ---- two numbers in a word
 
@@ -195,27 +188,11 @@ pub record Filed (xs : List ℕ) (n : ℕ) (c : Counts) : Type 0 where
   pub lies : (i : ℕ) → i < n → notedAt xs i ≡ liesAt (kindAt xs i) (howMany xs (kindAt xs i) i)
   pub counted : (k : Kind) → howMany xs k n ≡ used c k
 
--- ---- a waveform's note: its texts from its place on
-
-abbrev pub waveWords : ℕ → ℕ → ℕ → List ℕ
-waveWords at char row = at ∷ char ∷ row ∷ []
-
--- word k of its three
-abbrev pub waveWord : List ℕ → ℕ → ℕ → ℕ
-waveWord xs j k = getD xs (wavesFrom + wordsPerWave * j + k) 0
-
-unfoldable pub waveAt : List ℕ → List ℕ → ℕ → Wave
-waveAt s xs j = record { from = rest s (cursorAt s (waveWord xs j 0) (waveWord xs j 1)); row = waveWord xs j 2 }
-
 -- ---- all of them, the latest first
 
 unfoldable pub notesTo : List ℕ → List ℕ → ℕ → List Note
 notesTo s xs zero = []
 notesTo s xs (suc n) = noteAt s xs n ∷ notesTo s xs n
 
-unfoldable pub wavesTo : List ℕ → List ℕ → ℕ → List Wave
-wavesTo s xs zero = []
-wavesTo s xs (suc n) = waveAt s xs n ∷ wavesTo s xs n
-
 unfoldable pub logIn : List ℕ → List ℕ → ℕ → Counts → Log
-logIn s xs n c = record { notes = notesTo s xs n; waves = wavesTo s xs (c .waveforms); counts = c }
+logIn s xs n c = record { notes = notesTo s xs n; counts = c }

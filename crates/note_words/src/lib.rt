@@ -1,16 +1,15 @@
-// The store of what is noted of a file, in words of two bytes: an area of notes for each kind, then the names in file order, then three words a waveform. No
-// line's number is noted: it is counted from the place where the line begins.
+// The store of what is noted of a file, in words of two bytes: an area of notes for each kind, then the names in file order. No line's number is noted: it is
+// counted from the place where the line begins.
 ghost use mathlib.Core.Path.{_≡_};
 ghost use Prim.Native.Nat.{_+_, _*_, _≤_, _<_};
 ghost use lib.ListN.{length, getD};
 ghost use lib.Seq.{sets};
-ghost use Rattle.note_words.specs.Store.{namesHeld, wordsPerSection, wordsPerRow, orderFrom, storeLength, paired, wordsOfSection, SectionFits, wordsOfRow, RowFits, withName, waveWords, wordsPerWave, wavesFrom};
+ghost use Rattle.note_words.specs.Store.{namesHeld, wordsPerSection, wordsPerRow, orderFrom, storeLength, paired, wordsOfSection, SectionFits, wordsOfRow, RowFits, withName};
 use records::MOST_CHOICES;
 use records::MOST_COMPONENTS;
 use records::MOST_MODELS;
 use records::MOST_PINS;
 use records::MOST_SELECTORS;
-use records::MOST_WAVEFORMS;
 
 // ---- where things lie
 
@@ -42,11 +41,7 @@ pub const MODELS_FROM: usize = CHOICES_FROM + WORDS_PER_ROW * (MOST_CHOICES + 1)
 // The names in file order: where the note of each lies.
 pub const ORDER_FROM: usize = MODELS_FROM + WORDS_PER_SECTION * (MOST_MODELS + 1);
 
-pub const WAVES_FROM: usize = ORDER_FROM + MOST_NAMES;
-
-pub const WORDS_PER_WAVE: usize = 3;
-
-pub const STORE_LENGTH: usize = WAVES_FROM + WORDS_PER_WAVE * MOST_WAVEFORMS;
+pub const STORE_LENGTH: usize = ORDER_FROM + MOST_NAMES;
 
 // ---- which word says what
 
@@ -72,13 +67,6 @@ pub const ROW_MODEL: usize = 2;
 // The length of its text, which begins where the line does.
 pub const ROW_TEXT: usize = 3;
 
-// Of a waveform.
-pub const WAVE_AT: usize = 0;
-
-pub const WAVE_COMMENT: usize = 1;
-
-pub const WAVE_ROW: usize = 2;
-
 // ---- words
 
 // The word at a place; 0 past the end.
@@ -100,7 +88,7 @@ fn pair(high: usize, low: usize) -> u16
     (high * PAIR + low) as u16
 }
 
-pub fn put_words(notes: &mut [u16], at: usize, words: &[u16])
+fn put_words(notes: &mut [u16], at: usize, words: &[u16])
     requires { ⌜ at + length (now words) ≤ length (now notes) ⌝ }
     ensures { λ _. ⌜ now (notes .exit) ≡ sets (now (notes .entry)) at (now (words .entry)) ⌝ }
 {
@@ -159,14 +147,4 @@ pub fn put_row(notes: &mut [u16], i: usize, a: usize, x: RowNote)
     let words = [x.at as u16, name, model, (x.text_end - x.at) as u16];
     put_words(notes, a, &words);
     notes[ORDER_FROM + i] = a as u16;
-}
-
-// Notes the waveform at place j: where its keyword line begins, the comment character there, its first row's place.
-pub fn put_wave(notes: &mut [u16], j: usize, at: usize, comment: u8, row: usize)
-    requires { ⌜ wavesFrom + wordsPerWave * j + wordsPerWave ≤ length (now notes) ⌝ }
-    requires { ⌜ (at < 65536) × (row < 65536) ⌝ }
-    ensures { λ _. ⌜ now (notes .exit) ≡ sets (now (notes .entry)) (wavesFrom + wordsPerWave * j) (waveWords at comment row) ⌝ }
-{
-    let words = [at as u16, comment as u16, row as u16];
-    put_words(notes, WAVES_FROM + WORDS_PER_WAVE * j, &words);
 }

@@ -1,11 +1,11 @@
 -- Laws of `specs/Events.antt`: the log with one thing more is the store with its words written.
-use Prim.Native.Nat.{ℕ, _+_, _*_, _≤_, _<_, min}
+use Prim.Native.Nat.{ℕ, _+_, _≤_, _<_, min}
 use mathlib.Core.Path.{_≡_, refl, sym, ap, _∙_, subst}
 use mathlib.Core.List.{List, [], _∷_}
 use mathlib.Core.Bool.{Bool, true, false, cond}
 use native.Mathlib.Omega.{arith}
 use lib.ListN.{length, drop}
-use lib.Seq.{sets, getD-drop}
+use lib.Seq.{getD-drop}
 use lib.Dec.{leb}
 use borrow.Author.Tests.{le-leb, lt-leb, leb-false, eq-eqb, ne-eqb}
 use Rattle.laws.specs.Lists.{part}
@@ -23,11 +23,11 @@ use Rattle.records.specs.declared.Kind.the-variants.{OfComponent, OfPin, OfSele
 use Rattle.rules.specs.declared.Event.the-variants.{WaveformOpened, TableRow, Ended}
 use Rattle.records.specs.declared.Lengths.{Lengths}
 use Rattle.notes.specs.Noted.{Note, used, oneMore, moreWaveforms, moreRows, sections, rowNote, going, full, withNote}
-use Rattle.notes.proofs.Settles.{more-waveforms, more-rows}
-use Rattle.note_words.specs.Store.{namesHeld, wordsPerSection, wordsPerRow, wordsPerWave, isSection, wordsPer, liesAt, wavesFrom, wordsOfSection, SectionFits, cursorAt, sectionFrom, wordsOfRow, RowFits, rowFrom, noteAt, withName, waveWords, logIn}
+use Rattle.notes.proofs.Settles.{more-rows}
+use Rattle.note_words.specs.Store.{namesHeld, wordsPerSection, wordsPerRow, isSection, wordsPer, liesAt, wordsOfSection, SectionFits, cursorAt, sectionFrom, wordsOfRow, RowFits, rowFrom, noteAt, withName, logIn}
 use Rattle.note_words.specs.declared.SectionNote.{SectionNote}
 use Rattle.note_words.specs.declared.RowNote.{RowNote}
-use Rattle.note_words.proofs.Laws.{used-other, filed-other, section-said, row-said, filed-more, log-note, filed-wave, log-wave}
+use Rattle.note_words.proofs.Laws.{filed-other, section-said, row-said, filed-more, log-note}
 use Rattle.noted_events.specs.Places.{FirstIn}
 use Rattle.noted_events.specs.Events.{logOf, toldIs, loggedAt, sectionIn, rowIn, counted, Within, KeptCounts, KeptBy, Ready}
 use Rattle.noted_events.specs.declared.Spot.{Spot}
@@ -88,7 +88,7 @@ module _ (s xs ws : List ℕ) (l : Lengths) (t : Tally) (p : Spot) (n : Note) (r
       let log = log-note xs (t .names) (t .counts) (ready .filed) (used-most t (ready .within)) (names-small t (ready .within)) (ready .store) k ws size s n in
       by-test (leb (bound l k) (used (t .counts) k))
       (λ h. rw h rw (log (t .counts) says) refl)
-      (λ h. rw h rw (log (oneMore (t .counts) k) says) rw (more-waveforms (t .counts) k) refl)
+      (λ h. rw h rw (log (oneMore (t .counts) k) says) refl)
 
   name-kept : KeptBy more t (counted l t k)
   unfolding counted
@@ -186,21 +186,16 @@ module _ (s xs : List ℕ) (l : Lengths) (t : Tally) (p : Spot) (ready : Ready s
   waveform-full h = rw (le-leb (min mostWaveforms (l .waveforms)) (t .counts .waveforms) h) refl
 
   pub waveform-going : t .counts .waveforms < min mostWaveforms (l .waveforms)
-      → loggedAt l s xs t p WaveformOpened
-      ≡ going (logOf s (sets xs (wavesFrom + wordsPerWave * t .counts .waveforms) (waveWords (p .start) (p .next .comment) (t .counts .rows))) (record { names = t .names; counts = moreWaveforms (t .counts) }))
+      → loggedAt l s xs t p WaveformOpened ≡ going (logOf s xs (record { names = t .names; counts = moreWaveforms (t .counts) }))
   unfolding logIn
-  waveform-going h =
-      rw (lt-leb (min mostWaveforms (l .waveforms)) (t .counts .waveforms) h)
-      rw (log-wave s xs (t .names) (t .counts .waveforms) (p .start) (p .next .comment) (t .counts .rows) (t .counts) (moreWaveforms (t .counts)) (ready .filed) (used-most t (ready .within)) (names-small t (ready .within)) (omega (arith, h, ready .store)) refl)
-      rw (here-at s xs l t p ready) refl
+  waveform-going h = rw (lt-leb (min mostWaveforms (l .waveforms)) (t .counts .waveforms) h) refl
 
-  pub kept-waveform : t .counts .waveforms < min mostWaveforms (l .waveforms)
-      → KeptCounts (sets xs (wavesFrom + wordsPerWave * t .counts .waveforms) (waveWords (p .start) (p .next .comment) (t .counts .rows))) t (record { names = t .names; counts = moreWaveforms (t .counts) })
+  pub kept-waveform : t .counts .waveforms < min mostWaveforms (l .waveforms) → KeptCounts xs t (record { names = t .names; counts = moreWaveforms (t .counts) })
   kept-waveform h =
       let w : Within t = ready .within in
       record {
         within = record { names = w .names; components = w .components; pins = w .pins; selectors = w .selectors; choices = w .choices; models = w .models; waveforms = omega (arith, h) };
-        filed = filed-wave s xs (t .names) (t .counts .waveforms) (p .start) (p .next .comment) (t .counts .rows) (t .counts) (moreWaveforms (t .counts)) (ready .filed) (used-most t (ready .within)) (names-small t (ready .within)) (omega (arith, h, ready .store)) refl (used-other (t .counts) (t .counts .waveforms + 1) (t .counts .rows));
+        filed = filed-other xs (t .names) (t .counts) (t .counts .waveforms + 1) (t .counts .rows) (ready .filed);
         rows = omega arith;
       }
 

@@ -1,11 +1,11 @@
 -- Laws on where a word or an argument of a line lies in the file.
-use Prim.Native.Nat.{ℕ, zero, suc, _+_, _-_, _≤_, _<_}
+use Prim.Native.Nat.{ℕ, _+_, _-_, _≤_, _<_}
 use Prim.Native.Char.{code}
 use mathlib.Core.Path.{_≡_, refl, sym, ap, _∙_}
-use mathlib.Core.List.{List, [], _∷_}
+use mathlib.Core.List.{List}
 use native.Mathlib.Omega.{arith}
-use lib.ListN.{length, take, drop, drop-of-length-le}
-use lib.Seq.{take-take, drop-drop, take-nil}
+use lib.ListN.{length, drop, drop-of-length-le}
+use lib.Seq.{drop-drop}
 use Rattle.laws.specs.Lists.{part, front, after, other}
 use Rattle.laws.specs.Bytes.{isBlank}
 use Rattle.laws.proofs.Lists.{part-length, part-from, part-part}

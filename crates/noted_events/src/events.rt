@@ -25,7 +25,6 @@ use note_words::WORDS_PER_ROW;
 use note_words::WORDS_PER_SECTION;
 use note_words::put_row;
 use note_words::put_section;
-use note_words::put_wave;
 use records::Counts;
 use records::Kind;
 use records::Lengths;
@@ -147,18 +146,16 @@ fn note_choice(notes: &mut [u16], src: &[u8], l: Lengths, t: Tally, p: Spot) -> 
     count_name(l, t, Kind::OfChoice)
 }
 
-fn note_waveform(notes: &mut [u16], src: &[u8], l: Lengths, t: Tally, p: Spot) -> Told
+fn count_waveform(src: &[u8], notes: &[u16], l: Lengths, t: Tally, p: Spot) -> Told
     requires { ⌜ Ready (now src) (now notes) t p ⌝ }
-    ensures { λ r. ⌜ loggedAt l (now (src .entry)) (now (notes .entry)) t p WaveformOpened ≡ toldIs (now (src .entry)) (now (notes .exit)) (p .line) r ⌝ }
-    ensures { λ r. ⌜ KeptBy (now (notes .exit)) t r ⌝ }
+    ensures { λ r. ⌜ loggedAt l (now (src .entry)) (now (notes .entry)) t p WaveformOpened ≡ toldIs (now (src .entry)) (now (notes .entry)) (p .line) r ⌝ }
+    ensures { λ r. ⌜ KeptBy (now (notes .entry)) t r ⌝ }
 {
     let c = t.counts;
     let j = c.waveforms;
     if waveform_bound(l) <= j {
         return Told::Full(17, t);
     }
-    let next = p.next;
-    put_wave(notes, j, p.start, next.comment, c.rows);
     let mut d = c;
     d.waveforms = j + 1;
     Told::Going(Tally {
@@ -211,7 +208,7 @@ pub fn note_event(notes: &mut [u16], src: &[u8], l: Lengths, t: Tally, p: Spot, 
         Event::Opened(o) => note_section(notes, src, l, t, p, o),
         Event::PinRow => note_pin(notes, src, l, t, p),
         Event::ChoiceRow => note_choice(notes, src, l, t, p),
-        Event::WaveformOpened => note_waveform(notes, src, l, t, p),
+        Event::WaveformOpened => count_waveform(src, notes, l, t, p),
         Event::TableRow => count_row(src, notes, l, t, p),
         Event::Ended(alone) => end_file(src, notes, l, t, p, alone),
     }

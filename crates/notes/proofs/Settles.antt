@@ -151,7 +151,7 @@ module _ (l : Lengths) (past : ℕ) where
 
   -- the log with a note more, and room for it
   abbrev grown : Log → Note → Log
-  grown g n = record { notes = n ∷ g .notes; waves = g .waves; counts = oneMore (g .counts) (n .kind) }
+  grown g n = record { notes = n ∷ g .notes; counts = oneMore (g .counts) (n .kind) }
 
   held-grown : (g : Log) (n : Note) → record { entries = entryOf n ∷ entries g; waveforms = g .counts .waveforms; rows = g .counts .rows } ≡ heldOf (grown g n)
   held-grown g n = rw (more-waveforms (g .counts) (n .kind)) rw (more-rows (g .counts) (n .kind)) refl
@@ -180,10 +180,10 @@ module _ (l : Lengths) (past : ℕ) where
   settles-event g t ts go og kept ih c n ChoiceRow = settles-note g _ go og kept ih c n
   settles-event g t ts go og kept ih c n WaveformOpened =
       by-test (leb (min mostWaveforms (l .waveforms)) (g .counts .waveforms)) (λ u. rw u rw n refl)
-      (λ u. rw u (ih (record { notes = g .notes; waves = record { from = t ∷ ts; row = g .counts .rows } ∷ g .waves; counts = moreWaveforms (g .counts) }) (λ k. waveform-used (g .counts) k ∙ c k) n))
+      (λ u. rw u (ih (record { notes = g .notes; counts = moreWaveforms (g .counts) }) (λ k. waveform-used (g .counts) k ∙ c k) n))
   settles-event g t ts go og kept ih c n TableRow =
       by-test (leb (l .rows) (g .counts .rows)) (λ u. rw u rw n refl)
-      (λ u. rw u (ih (record { notes = g .notes; waves = g .waves; counts = moreRows (g .counts) }) (λ k. row-used (g .counts) k ∙ c k) n))
+      (λ u. rw u (ih (record { notes = g .notes; counts = moreRows (g .counts) }) (λ k. row-used (g .counts) k ∙ c k) n))
   settles-event g t ts go og kept ih c n (Ended true) =
       by-test (eqb (g .counts .components) 0) (λ u. rw (sym (c OfComponent)) rw u rw n refl) (λ u. rw (sym (c OfComponent)) rw u (ih g c n))
   settles-event g t ts go og kept ih c n (Ended false) =

@@ -72,19 +72,13 @@ pub record Note : Type 0 where
 abbrev pub entryOf : Note → Entry
 entryOf n = record { kind = n .kind; line = n .line; name = n .name; names = n .names }
 
--- a note of a waveform: the texts from its keyword on, and the place of its first row
-pub record Wave : Type 0 where
-  pub from : List Text
-  pub row : ℕ
-
 -- the latest first
 pub record Log : Type 0 where
   pub notes : List Note
-  pub waves : List Wave
   pub counts : Counts
 
 abbrev pub emptyLog : Log
-emptyLog = record { notes = []; waves = []; counts = nothingUsed }
+emptyLog = record { notes = []; counts = nothingUsed }
 
 abbrev pub heldOf : Log → Held
 heldOf g = record { entries = map entryOf (g .notes); waveforms = g .counts .waveforms; rows = g .counts .rows }
@@ -112,8 +106,8 @@ pub data Logged : Type 0 where
 unfoldable pub withNote : Lengths → Log → Note → Logged
 withNote l g n =
     cond (leb (bound l (n .kind)) (used (g .counts) (n .kind)))
-    (full 17 (n .line) (record { notes = n ∷ g .notes; waves = g .waves; counts = g .counts }))
-    (going (record { notes = n ∷ g .notes; waves = g .waves; counts = oneMore (g .counts) (n .kind) }))
+    (full 17 (n .line) (record { notes = n ∷ g .notes; counts = g .counts }))
+    (going (record { notes = n ∷ g .notes; counts = oneMore (g .counts) (n .kind) }))
 
 abbrev pub logged : Lengths → Log → Text → List Text → Event → Logged
 logged l g t ts Quiet = going g
@@ -122,10 +116,10 @@ logged l g t ts PinRow = withNote l g (rowNote OfPin (lineOf t) 2 (textOf t))
 logged l g t ts ChoiceRow = withNote l g (rowNote OfChoice (lineOf t) 0 (textOf t))
 logged l g t ts WaveformOpened =
     cond (leb (min mostWaveforms (l .waveforms)) (g .counts .waveforms)) (full 17 (lineOf t) g)
-    (going (record { notes = g .notes; waves = record { from = t ∷ ts; row = g .counts .rows } ∷ g .waves; counts = moreWaveforms (g .counts) }))
+    (going (record { notes = g .notes; counts = moreWaveforms (g .counts) }))
 logged l g t ts TableRow =
     cond (leb (l .rows) (g .counts .rows)) (full 18 (lineOf t) g)
-    (going (record { notes = g .notes; waves = g .waves; counts = moreRows (g .counts) }))
+    (going (record { notes = g .notes; counts = moreRows (g .counts) }))
 logged l g t ts (Ended alone) =
     cond (eqb (g .counts .components) 0) (full 9 (lineOf t) g)
     (cond alone (going g) (full 10 (lineOf t) g))

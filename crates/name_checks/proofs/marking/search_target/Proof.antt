@@ -8,9 +8,6 @@ use Rattle.name_checks.specs.Lookup.{targetTo}
 use Rattle.name_checks.proofs.TargetLaws.{turn-here, turn-sooner, target-none}
 use Rattle.name_checks.proofs.marking.search_target.Statement.{statement}
 use Rattle.name_checks.proofs.marking.search_target.Tie as tie
-use Rattle.name_checks.proofs.marking.search_target.Reads as reads
-use Rattle.name_checks.proofs.marking.search_target.Lts as lts
-use Rattle.name_checks.proofs.marking.names_it.Reads as names-it-reads
 
 abbrev Inv-loop : tie.InvT-loop
 Inv-loop src notes n i j₀ j = (j ≤ n) × (targetTo src notes i j ≡ targetTo src notes i n)

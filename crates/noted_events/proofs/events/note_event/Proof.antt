@@ -30,8 +30,8 @@ note-choice-requires c κs = search needs
 enum-told-4 : tie.Need-enum-told-4
 enum-told-4 c = search needs
 
-note-waveform-requires : tie.Need-note-waveform-requires
-note-waveform-requires c κs = search needs
+count-waveform-requires : tie.Need-count-waveform-requires
+count-waveform-requires c κs = search needs
 
 enum-told-5 : tie.Need-enum-told-5
 enum-told-5 c = search needs
@@ -72,7 +72,7 @@ same-length-4 : tie.Need-same-length-4
 same-length-4 c = search needs
 
 returns-5 : tie.Need-returns-5
-returns-5 c = (rw (c .before .before .before .before .enum-told4 .given .1) (c .before .before .note-waveform .ensures .0), c .before .before .note-waveform .ensures .1)
+returns-5 c = (rw (c .before .before .enum-told4 .given .1) (c .count-waveform .ensures .0), c .count-waveform .ensures .1)
 
 same-length-5 : tie.Need-same-length-5
 same-length-5 c = search needs
@@ -98,7 +98,7 @@ note-event-spec =
     enum-told-3
     note-choice-requires
     enum-told-4
-    note-waveform-requires
+    count-waveform-requires
     enum-told-5
     count-row-requires
     enum-known-e-2
