@@ -179,13 +179,13 @@ static bool records(void)
 
 /* ---- one file */
 
-static uint64_t line;
+static uint64_t line, column;
 static uint8_t checked, filled;
 static size_t check_stack, fill_stack;
 
 static void check(void)
 {
-    checked = check_only(bytes, length, &line);
+    checked = check_only(bytes, length, &line, &column);
 }
 
 static void fill(void)
@@ -205,12 +205,12 @@ static bool agree(void)
     before = tables;
     check_stack = larger(check_stack, stack_of(check));
     fill_stack = larger(fill_stack, stack_of(fill));
-    if (filled != fault || checked != fault || line != tables.answer.line)
+    if (filled != fault || checked != fault || line != tables.answer.line || column != tables.answer.column)
         return false;
     if (fault == NO_FAULT)
-        return line == 0 && records();
+        return line == 0 && column == 0 && records();
     before.answer = tables.answer;
-    return line == file.line && tables.answer.pins == 0 && memcmp(&before, &tables, sizeof tables) == 0;
+    return line == file.line && column == file.column && tables.answer.pins == 0 && memcmp(&before, &tables, sizeof tables) == 0;
 }
 
 int main(int count, char **paths)

@@ -37,8 +37,8 @@ static uint64_t pass(void)
 
 static uint64_t check(void)
 {
-    uint64_t line;
-    return check_only(bytes, length, &line);
+    uint64_t line, column;
+    return check_only(bytes, length, &line, &column);
 }
 
 static uint64_t fill(void)

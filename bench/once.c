@@ -21,9 +21,9 @@ int main(int count, char **words)
         return 2;
     }
     size_t length = fread(bytes, 1, sizeof bytes, file);
-    uint64_t line;
+    uint64_t line, column;
     if (strcmp(words[1], "check") == 0)
-        return check_only(bytes, length, &line);
+        return check_only(bytes, length, &line, &column);
     if (strcmp(words[1], "fill") == 0)
         return read_into(&tables, bytes, length);
     if (strcmp(words[1], "second") == 0)

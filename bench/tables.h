@@ -25,10 +25,10 @@ static inline uint8_t read_into(struct tables *t, const uint8_t *bytes, size_t l
                          t->rows, sizeof t->rows / 8, &t->answer);
 }
 
-static inline uint8_t check_only(const uint8_t *bytes, size_t length, uint64_t *line)
+static inline uint8_t check_only(const uint8_t *bytes, size_t length, uint64_t *line, uint64_t *column)
 {
     return olhovest_check(bytes, length, OLHOVEST_COMPONENTS, OLHOVEST_PINS, OLHOVEST_SELECTORS, OLHOVEST_CHOICES,
-                          OLHOVEST_MODELS, OLHOVEST_WAVEFORMS, ROWS, line);
+                          OLHOVEST_MODELS, OLHOVEST_WAVEFORMS, ROWS, line, column);
 }
 
 #endif

@@ -18,9 +18,11 @@
  * A program that meets its library as it runs compares olhovest_version() with OLHOVEST_VERSION.
  *
  *    2  a model has its capacitance by structure
+ *    3  a fault tells its column
  */
-#define OLHOVEST_VERSION 2
-#define olhovest_read olhovest_read_2
+#define OLHOVEST_VERSION 3
+#define olhovest_check olhovest_check_3
+#define olhovest_read olhovest_read_3
 #define olhovest_find_model olhovest_find_model_2
 #define olhovest_model_of_pin olhovest_model_of_pin_2
 
@@ -37,6 +39,9 @@
  *    8 given twice                       19 no [End] (last line plus 1)
  *    9 required part missing             20 Vinl not below Vinh
  *   10 wrong word, name or word count    21 keyword that the standard does not have
+ *
+ * 10, 11 and 12 tell the column, counted in bytes from 1, of the first character of the leftmost word at fault; where a word is
+ * missing, the column after the last character before comment and blanks. All others tell column 0.
  */
 
 /* How many words of eight bytes each record is; the library counts on it. */
@@ -48,7 +53,7 @@ enum {
     OLHOVEST_MODEL_WORDS = 70,
     OLHOVEST_WAVEFORM_WORDS = 12,
     OLHOVEST_ROW_WORDS = 4,
-    OLHOVEST_ANSWER_WORDS = 40
+    OLHOVEST_ANSWER_WORDS = 41
 };
 
 /* The bounds of a file. A table that is lent longer is used up to its bound; a shorter one has its length as the bound. */
@@ -153,9 +158,9 @@ struct olhovest_waveform {
     struct olhovest_span rows;
 };
 
-/* What is answered beside the fault: its line; how many records of each table are used; the header's texts. */
+/* What is answered beside the fault: its line and column; how many records of each table are used; the header's texts. */
 struct olhovest_answer {
-    uint64_t line;
+    uint64_t line, column;
     uint64_t components, pins, selectors, choices, models, waveforms, rows;
     struct olhovest_text file_name, file_rev;
 };
@@ -179,18 +184,19 @@ uint64_t olhovest_version(void);
 
 /*
  * Whether a file of `length` bytes would be accepted, if tables of so many records (and rows) were lent. Answers the
- * fault, and writes its line to `line`: 0 and 0 if the file is accepted. Writes nothing else.
+ * fault, and writes its line to `line` and its column to `column`: all 0 if the file is accepted. Writes nothing else.
  */
 uint8_t olhovest_check(const uint8_t *bytes, size_t length, size_t components, size_t pins, size_t selectors,
-                       size_t choices, size_t models, size_t waveforms, size_t rows, uint64_t *line);
+                       size_t choices, size_t models, size_t waveforms, size_t rows, uint64_t *line,
+                       uint64_t *column);
 
 /*
  * Reads a file of `length` bytes into the lent tables. Behind each table stands how many words of eight bytes it has:
  * OLHOVEST_WORDS(count, type) for `count` records; words behind the last whole record are left alone.
  *
  * Answers the fault, and writes all of `answer`. Accepted (0): the tables hold the file's records from the front,
- * answer->components, .. say how many, and what lies behind those is as it was. Refused: answer->line is the line told,
- * the counts are 0, the texts are empty, and every table is as it was.
+ * answer->components, .. say how many, and what lies behind those is as it was. Refused: answer->line and answer->column
+ * are the line and the column told, the counts are 0, the texts are empty, and every table is as it was.
  *
  * The bytes, the tables and the answer do not overlap. A table without words may be NULL.
  */

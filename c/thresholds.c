@@ -27,7 +27,8 @@ int main(void)
                                   sizeof selectors / 8, choices, sizeof choices / 8, models, sizeof models / 8,
                                   waveforms, sizeof waveforms / 8, rows, sizeof rows / 8, &answer);
     if (fault != 0) {
-        printf("refused: %d in line %llu\n", fault, (unsigned long long)answer.line);
+        printf("refused: %d in line %llu, column %llu\n", fault, (unsigned long long)answer.line,
+               (unsigned long long)answer.column);
         return 1;
     }
     for (size_t pin = 0; pin < answer.pins; pin++) {

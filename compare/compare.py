@@ -6,7 +6,7 @@ from collections import Counter
 from itertools import islice
 
 import maker
-from records import answers, verdict
+from records import answers, opening, verdict
 from reduce import reduce_and_show
 
 CHUNK = 250
@@ -49,7 +49,7 @@ def main():
         if dumps[0] != dumps[1] or verdict(dumps[0]) not in MEANINGS:
             wrong.append((number, record))
             if len(wrong) <= MOST_SHOWN:
-                print(f'record {number} ({record.label}): {verdict(dumps[0])} and {verdict(dumps[1])}')
+                print(f'record {number} ({record.label}): {opening(dumps[0])} and {opening(dumps[1])}')
     print('\n'.join(table(met)))
     if wrong:
         number, record = min(wrong, key=lambda pair: len(pair[1].data))

@@ -8,7 +8,7 @@ from itertools import islice
 
 from making.damages_of_places import CARRIED_NAMES
 from making.hierarchy import HIERARCHY
-from records import Record, answers, verdict
+from records import Record, answers, opening, verdict
 
 CHUNK = 500
 LONGEST = 118  # a line's 120 characters without the brackets
@@ -77,7 +77,7 @@ def main():
                 passed += 1
             else:
                 failed += 1
-                print(f'[{name}]: {verdict(dumps[0])} and {verdict(dumps[1])}')
+                print(f'[{name}]: {opening(dumps[0])} and {opening(dumps[1])}')
     print(f'keywords: {passed} passed, {failed} failed')
     return 1 if failed else 0
 

@@ -20,7 +20,7 @@ for i, record in enumerate(maker.records(1, 500)):
     open(f"{sys.argv[1]}/{i}.ibs", "wb").write(record.data)
 END
 files=("$out"/files/*.ibs "$out"/made/*.ibs crates/listing/stdin)
-[ ! -d "$cases" ] || files+=("$cases"/{,after-02/,after-01/,after-03/}*.ibs)
+[ ! -d "$cases" ] || files+=("$cases"/{,after-02/,after-01/,after-03/,after-06/}*.ibs)
 
 # hold WHAT WANTED FOUND: one comparison
 hold() {
@@ -52,10 +52,10 @@ counted() {
     failed=$((failed + $(sed -E 's/.* ([0-9]+) failed$/\1/' <<<"${line:-none: 1 failed}")))
 }
 
-for name in olhovest_read olhovest_find_model olhovest_model_of_pin; do
-    hold "a program for other models that calls $name" "undefined reference to \`$name'" "$(links "$name")"
+for name in olhovest_check olhovest_read olhovest_find_model olhovest_model_of_pin; do
+    hold "a program for other records that calls $name" "undefined reference to \`$name'" "$(links "$name")"
 done
-hold 'a program that calls what has not moved' links "$(links olhovest_check)"
+hold 'a program that calls what has not moved' links "$(links olhovest_find_pin)"
 hold 'the sizes in the header' "$(sizes crates/record_words/specs/Records.antt '^([a-z]+)Size = ([0-9]+)$')" \
     "$(sizes c/olhovest.h '^    OLHOVEST_([A-Z]+)_WORDS = ([0-9]+),?$' | grep -v ^answer)"
 printf '#include <stdint.h>\nuint64_t other_version(void);\nuint64_t other_version(void) { return 1; }\n' >"$out/other.c"

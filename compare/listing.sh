@@ -1,5 +1,5 @@
 #!/usr/bin/env bash
-# Document 01's listing: its file and the three variants, and its examples of numbers, each as a pin's resistance in that file.
+# Document 01's listing: its file and the three variants, its examples of numbers, each as the package's resistance in that file, and lines at fault with their columns.
 set -u
 cd "$(dirname "$0")/.." || exit 2
 file=crates/listing/stdin
@@ -19,17 +19,17 @@ expect() {
 }
 
 expect "the file" $'OK 1 2 0 1 0\nP 1 DOOR in1 8e-1 2e0\nP 2 VSS GND NA NA' listing <"$file"
-expect "line 14 as an output" "NO 9 13" listing < <(sed '14s/Input/Output/' "$file")
-expect "line 12 with GNDX" "NO 15 12" listing < <(sed '12s/GND/GNDX/' "$file")
-expect "line 11 with GND" "NO 16 13" listing < <(sed '11s/in1/GND/' "$file")
-expect "an empty file" "NO 19 1" listing </dev/null
+expect "line 14 as an output" "NO 9 13 0" listing < <(sed '14s/Input/Output/' "$file")
+expect "line 12 with GNDX" "NO 15 12 0" listing < <(sed '12s/GND/GNDX/' "$file")
+expect "line 11 with GND" "NO 16 13 0" listing < <(sed '11s/in1/GND/' "$file")
+expect "an empty file" "NO 19 1 0" listing </dev/null
 
 # a number of the paper's, and how it is written, or its fault
 while read -r word wanted; do
     fault=$wanted
     case $wanted in
     *e*) wanted=$(programs/run dump <"$file" | sed "s/^R_PKG .*/R_PKG $wanted NA NA/") ;;
-    *) wanted="NO $fault 7" ;;
+    *) wanted="NO $fault 7 7" ;;
     esac
     expect "$word" "$wanted" dump < <(sed "7s/250m/$word/" "$file")
 done <<'NUMBERS'
@@ -49,6 +49,52 @@ done <<'NUMBERS'
 1e-41 12
 0e99 0e0
 NUMBERS
+
+# a line of the file, what stands there instead (`·` is a blank, `\n` a line end, `\t` a tab), and what is told of it: number, line, column
+while read -r place number line column text; do
+    text=${text//·/ }
+    expect "$text" "NO $number $line $column" listing < <(awk -v place="$place" -v text="$text" 'NR == place { print text; next } 1' "$file")
+done <<'COLUMNS'
+11 10 11 7 1 DOOR
+11 10 11 12 1 DOOR in1 x y
+11 10 11 1 123456789 DOOR
+11 10 11 8 1 DOOR NA x
+10 10 11 14 [Pin] signal_name model_name R_pin L_pin C_pin\n1 a out1 1 NA   | 2p
+10 12 11 12 [Pin] signal_name model_name R_pin L_pin C_pin\n1 a out1 1 1e99 x
+10 10 10 35 [Pin] signal_name model_name R_pin
+10 10 10 30 [Pin] signal_name model_name x
+7 10 7 11 R_pkg 1  2   | 3
+7 10 7 14 R_pkg 1 2 3  4 5
+7 10 7 10 R_pkg x 1
+7 10 7 6 R_pkg=1 NA NA
+7 11 7 7 R_pkg =1 NA NA
+7 10 7 14 R_pkg = 1 NA NA
+7 10 7 10 ·\tR_pkg 1·
+15 10 15 5 Vinl
+15 10 15 6 Vinl 1
+15 10 15 6 Vinl 1 = 2
+15 10 15 7 Vinl =
+15 11 15 6 Vinl=x
+15 11 15 6 Vinl==1
+15 11 15 8 Vinl = 1=
+15 10 15 10 Vinl = = 1
+15 10 15 10 Vinl = 1 = 2
+14 10 14 11 Model_type=Input
+14 10 14 12 Model_type = Input
+17 11 18 14 [Ramp]\ndV/dt_r 1/1n 1/x NA
+17 10 18 16 [Ramp]\ndV/dt_r 1 / 1n NA NA
+17 10 18 6 [Pulldown]\n0 1 2
+17 10 18 2 [Pulldown]\nx
+17 10 18 4 [Rising Waveform]\n= 1
+4 10 4 12 [Component]  | none
+13 10 13 13 [Model] in1 x
+13 10 13 9 [Model] NA x
+16 11 16 17 [Voltage Range] NA NA NA
+17 10 17 7 [End] x
+4 10 4 17 [Comment Char]··
+4 10 4 23 [Comment Char] !_char | x
+4 10 4 16 [Comment Char] !_char!x
+COLUMNS
 
 echo "listing: $passed passed, $failed failed"
 [ "$failed" -eq 0 ]

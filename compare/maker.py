@@ -3,6 +3,7 @@
 import argparse
 import sys
 
+import making.damages_of_lines
 import making.damages_of_places
 import making.damages_of_words
 from making.damages_of_bytes import LONGEST_RECORD
@@ -21,7 +22,7 @@ FULL = {'components': 8, 'pins': 512, 'selectors': 32, 'choices': 256, 'models':
 def make(dice):
     """One record; its label names the damages."""
     draft = Draft(dice)
-    stages = [dice.weighted(DAMAGES)[0] for _ in range(dice.weighted([(33, 0), (40, 1), (18, 2), (9, 3)]))]
+    stages = [dice.weighted(DAMAGES)[0] for _ in range(dice.weighted([(30, 0), (48, 1), (15, 2), (7, 3)]))]
     if not stages:
         enlarge(draft)
     label = []

@@ -29,8 +29,8 @@ def split(output):
     dumps, lines, current = [], output.splitlines(keepends=True), []
     for line in lines:
         current.append(line)
-        opening = current[0]
-        if opening.startswith(b'NO ') or line == b'END\n' or not opening.startswith(b'OK '):
+        first = current[0]
+        if first.startswith(b'NO ') or line == b'END\n' or not first.startswith(b'OK '):
             dumps.append(b''.join(current))
             current = []
     return dumps + ([b''.join(current)] if current else [])
@@ -53,9 +53,14 @@ def answers(command, records, seconds=60):
     return answers(command, records[:middle], seconds) + answers(command, records[middle:], seconds)
 
 
+def opening(dump):
+    """The dump's first line: what it tells of a refused file, or the counts of an accepted one."""
+    return dump.split(b'\n', 1)[0].decode('latin-1')
+
+
 def verdict(dump):
     """OK, the fault's number, or FAILED."""
-    found = re.fullmatch(rb'NO ([0-9]+) [0-9]+\n', dump)
+    found = re.fullmatch(rb'NO ([0-9]+) [0-9]+ [0-9]+\n', dump)
     if found:
         return int(found.group(1))
     return 'OK' if dump.startswith(b'OK ') and dump.endswith(b'END\n') else 'FAILED'

@@ -166,13 +166,18 @@ static void put_model(FILE *out, const struct file *file, uint32_t number)
     put_waveforms(out, file, model);
 }
 
+static void put_refusal(FILE *out, int fault, const struct file *file)
+{
+    fprintf(out, "NO %d %" PRIu32 " %" PRIu32 "\n", fault, file->line, file->column);
+}
+
 void write_dump(FILE *out, int fault, const struct file *file)
 {
     static void (*const put_section[])(FILE *, const struct file *, uint32_t) = {
         [COMPONENT_SECTION] = put_component, [SELECTOR_SECTION] = put_selector, [MODEL_SECTION] = put_model,
     };
     if (fault != NO_FAULT) {
-        fprintf(out, "NO %d %" PRIu32 "\n", fault, file->line);
+        put_refusal(out, fault, file);
         return;
     }
     fprintf(out, "OK %" PRIu32 " %" PRIu32 " %" PRIu32 " %" PRIu32, file->component_count, file->pin_count,
@@ -202,7 +207,7 @@ void write_listing(FILE *out, int fault, const struct file *file)
 {
     static const struct cell missing[2] = { { .given = false }, { .given = false } };
     if (fault != NO_FAULT) {
-        fprintf(out, "NO %d %" PRIu32 "\n", fault, file->line);
+        put_refusal(out, fault, file);
         return;
     }
     fprintf(out, "OK %" PRIu32 " %" PRIu32 " %" PRIu32 " %" PRIu32 " %" PRIu32 "\n", file->component_count,

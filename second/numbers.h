@@ -133,19 +133,20 @@ static inline enum fault read_cell(struct text *rest, bool may_miss, struct cell
 }
 
 /* As many cells as there must be words: "on a line all 10s first, then the words from the left". */
-static inline enum fault read_cells(struct text rest, unsigned count, bool first_may_miss, struct cell *cells)
+static inline struct flaw read_cells(struct text rest, unsigned count, bool first_may_miss, struct cell *cells)
 {
-    enum fault leftmost = NO_FAULT;
+    struct flaw leftmost = no_flaw;
     for (unsigned i = 0; i < count; i++) {
         skip_blanks(&rest);
         if (is_empty(rest))
-            return WRONG_WORD;
+            return wrong_word(rest.end);
+        const uint8_t *word = rest.start;
         enum fault fault = read_cell(&rest, i > 0 || first_may_miss, &cells[i]);
-        if (leftmost == NO_FAULT)
-            leftmost = fault;
+        if (fault != NO_FAULT && leftmost.fault == NO_FAULT)
+            leftmost = (struct flaw){ fault, word };
     }
-    skip_blanks(&rest);
-    return is_empty(rest) ? leftmost : WRONG_WORD;
+    struct flaw surplus = expect_end(rest);
+    return surplus.fault == NO_FAULT ? leftmost : surplus;
 }
 
 /*

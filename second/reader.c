@@ -95,17 +95,19 @@ struct reader {
     struct used_names names;
 };
 
+/* Tells a fault that is no word's: at this line, without a column. */
 static enum fault tell(struct reader *reader, enum fault fault, uint32_t line)
 {
     reader->file->line = line;
+    reader->file->column = 0;
     return fault;
 }
 
 /* ---- Named lines ---- */
 
 /* "whose name (the text up to a blank or `=`) is none of theirs is fault 10"; given twice comes before wrong words. */
-static enum fault take_name(struct reader *reader, struct text *line, const struct name *names, unsigned count,
-                            unsigned *which)
+static struct flaw take_name(struct reader *reader, struct text *line, const struct name *names, unsigned count,
+                             unsigned *which)
 {
     struct text name = *line;
     while (line->start < line->end && !is_blank(*line->start) && *line->start != '=')
@@ -113,93 +115,93 @@ static enum fault take_name(struct reader *reader, struct text *line, const stru
     name.end = line->start;
     *which = find_name(name, names, count);
     if (*which == count)
-        return WRONG_WORD;
+        return wrong_word(name.start);
     if (reader->named >> *which & 1)
-        return GIVEN_TWICE;
+        return flaw_of_line(GIVEN_TWICE);
     reader->named |= 1u << *which;
-    return NO_FAULT;
+    return no_flaw;
 }
 
 /* One word out of a list of them; `from` is 1 where the list begins with "not given". */
-static enum fault read_option(struct text rest, const struct name *options, unsigned from, unsigned count,
-                              uint8_t *option)
+static struct flaw read_option(struct text rest, const struct name *options, unsigned from, unsigned count,
+                               uint8_t *option)
 {
     struct text word;
-    if (!only_word(rest, &word))
-        return WRONG_WORD;
+    next_word(&rest, &word);
     unsigned found = from + find_name(word, options + from, count - from);
     if (found == count)
-        return WRONG_WORD;
+        return wrong_word(word.start);
     *option = (uint8_t)found;
-    return NO_FAULT;
+    return expect_end(rest);
 }
 
-/* `R_pkg=1`: the first word is not the name. */
+/* `R_pkg=1`: the `=` right behind the name is a word where none may stand. */
 static bool runs_on(struct text rest)
 {
     return !is_empty(rest) && *rest.start == '=';
 }
 
-static enum fault read_corners(struct text rest, struct cell corners[CORNERS])
+static struct flaw read_corners(struct text rest, struct cell corners[CORNERS])
 {
-    return runs_on(rest) ? WRONG_WORD : read_cells(rest, CORNERS, false, corners);
+    return runs_on(rest) ? wrong_word(rest.start) : read_cells(rest, CORNERS, false, corners);
 }
 
 /* "name, `=`, number, blanks free around it": after the first `=` exactly one word, and that a number. */
-static enum fault read_value(struct text rest, struct cell *cell)
+static struct flaw read_value(struct text rest, struct cell *cell)
 {
     skip_blanks(&rest);
-    if (is_empty(rest) || *rest.start != '=')
-        return WRONG_WORD;
+    if (!runs_on(rest))
+        return wrong_word(rest.start);
     rest.start++;
     return read_cells(rest, 1, false, cell);
 }
 
-static enum fault read_slopes(struct text rest, struct slope slopes[CORNERS])
+/* Three dV/dt words; 13 of a divisor comes after 11 and 12 of all words. */
+static struct flaw read_slopes(struct text rest, struct slope slopes[CORNERS])
 {
-    struct text words[CORNERS], more;
     if (runs_on(rest))
-        return WRONG_WORD;
-    for (unsigned i = 0; i < CORNERS; i++)
-        if (!next_word(&rest, &words[i]))
-            return WRONG_WORD;
-    if (next_word(&rest, &more))
-        return WRONG_WORD;
+        return wrong_word(rest.start);
+    struct flaw leftmost = no_flaw;
+    bool not_above_zero = false;
     for (unsigned i = 0; i < CORNERS; i++) {
-        enum fault fault = read_slope(words[i], i != TYP, &slopes[i]);
-        if (fault != NO_FAULT)
-            return fault;
+        struct text word;
+        if (!next_word(&rest, &word))
+            return wrong_word(word.start);
+        enum fault fault = read_slope(word, i != TYP, &slopes[i]);
+        if (fault != NO_FAULT && leftmost.fault == NO_FAULT)
+            leftmost = (struct flaw){ fault, word.start };
+        not_above_zero |= slopes[i].divisor.given && slopes[i].divisor.whole <= 0;
     }
-    for (unsigned i = 0; i < CORNERS; i++)      /* after 11 and 12 of all words */
-        if (slopes[i].divisor.given && slopes[i].divisor.whole <= 0)
-            return WRONG_ROWS;
-    return NO_FAULT;
+    struct flaw surplus = expect_end(rest);
+    if (surplus.fault != NO_FAULT)
+        return surplus;
+    return leftmost.fault == NO_FAULT && not_above_zero ? flaw_of_line(WRONG_ROWS) : leftmost;
 }
 
-static enum fault read_component_line(struct reader *reader, struct text line)
+static struct flaw read_component_line(struct reader *reader, struct text line)
 {
     unsigned which;
-    enum fault fault = take_name(reader, &line, component_names, COUNT(component_names), &which);
-    if (fault != NO_FAULT)
-        return fault;
+    struct flaw flaw = take_name(reader, &line, component_names, COUNT(component_names), &which);
+    if (flaw.fault != NO_FAULT)
+        return flaw;
     struct component *component = reader->component;
     uint8_t *location = which == 0 ? &component->si_location : &component->timing_location;
     return read_option(line, second_locations, 0, LOCATIONS, location);
 }
 
-static enum fault read_package_line(struct reader *reader, struct text line)
+static struct flaw read_package_line(struct reader *reader, struct text line)
 {
     unsigned which;
-    enum fault fault = take_name(reader, &line, package_names, COUNT(package_names), &which);
-    return fault != NO_FAULT ? fault : read_corners(line, reader->component->package[which]);
+    struct flaw flaw = take_name(reader, &line, package_names, COUNT(package_names), &which);
+    return flaw.fault != NO_FAULT ? flaw : read_corners(line, reader->component->package[which]);
 }
 
-static enum fault read_model_line(struct reader *reader, struct text line)
+static struct flaw read_model_line(struct reader *reader, struct text line)
 {
     unsigned which;
-    enum fault fault = take_name(reader, &line, model_names, COUNT(model_names), &which);
-    if (fault != NO_FAULT)
-        return fault;
+    struct flaw flaw = take_name(reader, &line, model_names, COUNT(model_names), &which);
+    if (flaw.fault != NO_FAULT)
+        return flaw;
     struct model *model = reader->model;
     switch (which) {
     case MODEL_TYPE_LINE:
@@ -214,96 +216,112 @@ static enum fault read_model_line(struct reader *reader, struct text line)
     }
 }
 
-static enum fault read_ramp_line(struct reader *reader, struct text line)
+static struct flaw read_ramp_line(struct reader *reader, struct text line)
 {
     unsigned which;
-    enum fault fault = take_name(reader, &line, ramp_names, COUNT(ramp_names), &which);
-    if (fault != NO_FAULT)
-        return fault;
+    struct flaw flaw = take_name(reader, &line, ramp_names, COUNT(ramp_names), &which);
+    if (flaw.fault != NO_FAULT)
+        return flaw;
     struct ramp *ramp = &reader->model->ramp;
     return which < 2 ? read_slopes(line, ramp->slopes[which]) : read_value(line, &ramp->load);
 }
 
 /* ---- Rows ---- */
 
-/* "pin, signal, model; under the long heading three cells may follow". */
-static enum fault read_pin(struct reader *reader, struct text line)
+/* "POWER, GND and NC need no model; NA and CIRCUITCALL are fault 10." */
+static bool read_pin_model(struct text word, struct pin *pin)
 {
-    struct file *file = reader->file;
-    struct pin spare, *pin = file->pin_count < reader->lent.pins ? &file->pins[file->pin_count] : &spare;
-    if (!next_word(&line, &pin->name) || !next_word(&line, &pin->signal) || !next_word(&line, &pin->model))
-        return WRONG_WORD;
-    enum reserved reserved = find_reserved(pin->model);
-    if (!is_row_name(pin->name, MAX_PIN_NAME) || length_of(pin->signal) > MAX_NAME
-        || !is_row_name(pin->model, MAX_NAME) || reserved == NA_WORD || reserved == CIRCUITCALL_WORD)
-        return WRONG_WORD;
-    if (reserved != NOT_RESERVED) {
+    enum reserved reserved = find_reserved(word);
+    pin->model = word;
+    pin->section = reserved == NOT_RESERVED ? UNKNOWN_SECTION : NO_SECTION;
+    if (reserved < NA_WORD) {
         pin->model.start = (const uint8_t *)reserved_names[reserved].spelling;
         pin->model.end = pin->model.start + reserved_names[reserved].length;
     }
+    return is_row_name(word, MAX_NAME) && reserved != NA_WORD && reserved != CIRCUITCALL_WORD;
+}
+
+/* "pin, signal, model; under the long heading three cells may follow"; a missing word is no name. */
+static struct flaw read_pin_words(struct text line, bool long_heading, struct pin *pin)
+{
+    struct text model;
+    next_word(&line, &pin->name);
+    next_word(&line, &pin->signal);
+    next_word(&line, &model);
+    if (!is_row_name(pin->name, MAX_PIN_NAME))
+        return wrong_word(pin->name.start);
+    if (!fits(pin->signal, MAX_NAME))
+        return wrong_word(pin->signal.start);
+    if (!read_pin_model(model, pin))
+        return wrong_word(model.start);
     memset(pin->cells, 0, sizeof pin->cells);
-    if (!is_empty(line)) {
-        enum fault fault = reader->long_heading ? read_cells(line, 3, true, pin->cells) : WRONG_WORD;
-        if (fault != NO_FAULT)
-            return fault;
-    }
+    return long_heading && !is_empty(line) ? read_cells(line, 3, true, pin->cells) : expect_end(line);
+}
+
+/* "a lent list of pin records, one record a row"; the row's own faults come before the want of room. */
+static struct flaw read_pin(struct reader *reader, struct text line)
+{
+    struct file *file = reader->file;
+    struct pin spare, *pin = file->pin_count < reader->lent.pins ? &file->pins[file->pin_count] : &spare;
+    struct flaw flaw = read_pin_words(line, reader->long_heading, pin);
+    if (flaw.fault != NO_FAULT)
+        return flaw;
     pin->line = reader->line;
-    pin->section = reserved == NOT_RESERVED ? UNKNOWN_SECTION : NO_SECTION;
     if (!use_name(&reader->names, SECTION_GROUPS + file->section_count, pin->name, 0))
-        return NAME_USED;
+        return flaw_of_line(NAME_USED);
     if (pin == &spare)
-        return BOUND_PASSED;
+        return flaw_of_line(BOUND_PASSED);
     file->pin_count++;
     reader->component->pin_count++;
-    return NO_FAULT;
+    return no_flaw;
 }
 
 /* "rows of a model name and a free description, maybe empty". */
-static enum fault read_choice(struct reader *reader, struct text line)
+static struct flaw read_choice(struct reader *reader, struct text line)
 {
     struct file *file = reader->file;
     struct text model;
     next_word(&line, &model);
     skip_blanks(&line);
     if (!is_model_name(model))
-        return WRONG_WORD;
+        return wrong_word(model.start);
     if (!use_name(&reader->names, SECTION_GROUPS + file->section_count, model, 0))
-        return NAME_USED;
+        return flaw_of_line(NAME_USED);
     if (file->choice_count >= reader->lent.choices)
-        return BOUND_PASSED;
+        return flaw_of_line(BOUND_PASSED);
     file->choices[file->choice_count++] = (struct choice){ model, line, reader->line, UNKNOWN_SECTION };
     reader->selector->choice_count++;
-    return NO_FAULT;
+    return no_flaw;
 }
 
 /* "the first column rises strictly"; a row's own faults come before the want of room. */
-static enum fault read_row(struct reader *reader, struct text line)
+static struct flaw read_row(struct reader *reader, struct text line)
 {
     struct file *file = reader->file;
     struct table *table = reader->table;
     struct row spare, *row = file->row_count < reader->lent.rows ? &file->rows[file->row_count] : &spare;
-    enum fault fault = read_cells(line, 1 + CORNERS, false, row->cells);
-    if (fault != NO_FAULT)
-        return fault;
+    struct flaw flaw = read_cells(line, 1 + CORNERS, false, row->cells);
+    if (flaw.fault != NO_FAULT)
+        return flaw;
     if (table->count > 0 && compare(&file->rows[file->row_count - 1].cells[0], &row->cells[0]) >= 0)
-        return WRONG_ROWS;
+        return flaw_of_line(WRONG_ROWS);
     if (row == &spare)
-        return ROWS_TOO_FEW;
+        return flaw_of_line(ROWS_TOO_FEW);
     file->row_count++;
     table->count++;
-    return NO_FAULT;
+    return no_flaw;
 }
 
 /* "A line whose first word begins with a letter is such a line [named], and 7 after the first row." */
-static enum fault read_waveform_line(struct reader *reader, struct text line)
+static struct flaw read_waveform_line(struct reader *reader, struct text line)
 {
     if (!is_letter(*line.start))
         return read_row(reader, line);
     if (reader->table->count > 0)
-        return OUT_OF_PLACE;
+        return flaw_of_line(OUT_OF_PLACE);
     unsigned which;
-    enum fault fault = take_name(reader, &line, fixture_names, COUNT(fixture_names), &which);
-    return fault != NO_FAULT ? fault : read_value(line, &reader->waveform->fixtures[which]);
+    struct flaw flaw = take_name(reader, &line, fixture_names, COUNT(fixture_names), &which);
+    return flaw.fault != NO_FAULT ? flaw : read_value(line, &reader->waveform->fixtures[which]);
 }
 
 /* ---- What a line closes ---- */
@@ -421,81 +439,98 @@ static void open_section(struct reader *reader, enum section_kind kind, uint32_t
     open_list(reader, lists[kind]);
 }
 
-static enum fault open_component(struct reader *reader, struct text name)
+static struct flaw open_component(struct reader *reader, struct text name)
 {
     struct file *file = reader->file;
-    if (is_empty(name) || length_of(name) > MAX_NAME)
-        return WRONG_WORD;
+    if (!fits(name, MAX_NAME))
+        return wrong_word(name.start);
     if (!use_name(&reader->names, COMPONENT_GROUP, name, 0))
-        return NAME_USED;
+        return flaw_of_line(NAME_USED);
     if (file->component_count >= reader->lent.components)
-        return BOUND_PASSED;
+        return flaw_of_line(BOUND_PASSED);
     open_section(reader, COMPONENT_SECTION, file->component_count);
     reader->component = &file->components[file->component_count++];
     *reader->component = (struct component){ .name = name, .first_pin = file->pin_count };
-    return NO_FAULT;
+    return no_flaw;
 }
 
 /* "one word, 1 to 40"; models and selectors are unique together. */
-static enum fault take_model_name(struct reader *reader, struct text argument, struct text *name)
+static struct flaw take_model_name(struct reader *reader, struct text argument, struct text *name)
 {
-    if (!only_word(argument, name) || !is_model_name(*name))
-        return WRONG_WORD;
-    return use_name(&reader->names, MODEL_GROUP, *name, reader->file->section_count) ? NO_FAULT : NAME_USED;
+    next_word(&argument, name);
+    if (!is_model_name(*name))
+        return wrong_word(name->start);
+    struct flaw surplus = expect_end(argument);
+    if (surplus.fault != NO_FAULT)
+        return surplus;
+    bool fresh = use_name(&reader->names, MODEL_GROUP, *name, reader->file->section_count);
+    return fresh ? no_flaw : flaw_of_line(NAME_USED);
 }
 
-static enum fault open_selector(struct reader *reader, struct text argument)
+static struct flaw open_selector(struct reader *reader, struct text argument)
 {
     struct file *file = reader->file;
     struct text name;
-    enum fault fault = take_model_name(reader, argument, &name);
-    if (fault != NO_FAULT)
-        return fault;
+    struct flaw flaw = take_model_name(reader, argument, &name);
+    if (flaw.fault != NO_FAULT)
+        return flaw;
     if (file->selector_count >= reader->lent.selectors)
-        return BOUND_PASSED;
+        return flaw_of_line(BOUND_PASSED);
     open_section(reader, SELECTOR_SECTION, file->selector_count);
     reader->selector = &file->selectors[file->selector_count++];
     *reader->selector = (struct selector){ .name = name, .first_choice = file->choice_count };
-    return NO_FAULT;
+    return no_flaw;
 }
 
-static enum fault open_model(struct reader *reader, struct text argument)
+static struct flaw open_model(struct reader *reader, struct text argument)
 {
     struct file *file = reader->file;
     struct text name;
-    enum fault fault = take_model_name(reader, argument, &name);
-    if (fault != NO_FAULT)
-        return fault;
+    struct flaw flaw = take_model_name(reader, argument, &name);
+    if (flaw.fault != NO_FAULT)
+        return flaw;
     if (file->model_count >= reader->lent.models)
-        return BOUND_PASSED;
+        return flaw_of_line(BOUND_PASSED);
     open_section(reader, MODEL_SECTION, file->model_count);
     reader->model = &file->models[file->model_count++];
     *reader->model = (struct model){ .name = name, .first_waveform = file->waveform_count };
-    return NO_FAULT;
+    return no_flaw;
 }
 
 /* "one word: 1 to 40 of [these characters] then `.ibs`". */
-static enum fault read_file_name(struct reader *reader, struct text argument)
+static bool is_file_name(struct text word)
 {
     static const char marks[] = "_^$~!#%&-{})(@'`";
-    struct text word;
-    if (!only_word(argument, &word) || length_of(word) < 5 || length_of(word) > MAX_NAME + 4
-        || memcmp(word.end - 4, ".ibs", 4) != 0)
-        return WRONG_WORD;
+    if (length_of(word) < 5 || length_of(word) > MAX_NAME + 4 || memcmp(word.end - 4, ".ibs", 4) != 0)
+        return false;
     for (const uint8_t *at = word.start; at < word.end - 4; at++)
         if (!((unsigned)*at - 'a' < 26 || (unsigned)*at - '0' < 10 || memchr(marks, *at, sizeof marks - 1) != NULL))
-            return WRONG_WORD;
-    reader->file->file_name = word;
-    return NO_FAULT;
+            return false;
+    return true;
 }
 
-static enum fault read_text(struct text argument, size_t longest, struct text *text)
+static struct flaw read_file_name(struct reader *reader, struct text argument)
+{
+    struct text *name = &reader->file->file_name;
+    next_word(&argument, name);
+    return is_file_name(*name) ? expect_end(argument) : wrong_word(name->start);
+}
+
+static struct flaw read_version(struct text argument)
+{
+    struct text word;
+    next_word(&argument, &word);
+    return same_bytes(word, "5.0", 3) ? expect_end(argument) : wrong_word(word.start);
+}
+
+/* An argument that may hold blanks is one word. */
+static struct flaw read_text(struct text argument, size_t longest, struct text *text)
 {
     *text = argument;
-    return is_empty(argument) || length_of(argument) > longest ? WRONG_WORD : NO_FAULT;
+    return fits(argument, longest) ? no_flaw : wrong_word(argument.start);
 }
 
-static enum fault read_pin_heading(struct reader *reader, struct text heading)
+static struct flaw read_pin_heading(struct reader *reader, struct text heading)
 {
     static const struct name columns[] = {
         NAME("signal_name"), NAME("model_name"), NAME("R_pin"), NAME("L_pin"), NAME("C_pin"),
@@ -504,13 +539,13 @@ static enum fault read_pin_heading(struct reader *reader, struct text heading)
     unsigned count = 0;
     for (; next_word(&heading, &word); count++)
         if (count == COUNT(columns) || !same_bytes(word, columns[count].spelling, columns[count].length))
-            return WRONG_WORD;
+            return wrong_word(word.start);
     if (count != 2 && count != COUNT(columns))
-        return WRONG_WORD;
+        return wrong_word(heading.end);
     reader->long_heading = count > 2;
     reader->component->first_pin = reader->file->pin_count;
     open_list(reader, PIN_ROWS);
-    return NO_FAULT;
+    return no_flaw;
 }
 
 static void open_table(struct reader *reader, struct table *table, enum list list)
@@ -521,48 +556,48 @@ static void open_table(struct reader *reader, struct table *table, enum list lis
 }
 
 /* "16 waveforms a model, 1,024 in all". */
-static enum fault open_waveform(struct reader *reader, bool rising)
+static struct flaw open_waveform(struct reader *reader, bool rising)
 {
     struct file *file = reader->file;
     if (reader->model->waveform_count >= MAX_MODEL_WAVEFORMS || file->waveform_count >= reader->lent.waveforms)
-        return BOUND_PASSED;
+        return flaw_of_line(BOUND_PASSED);
     reader->waveform = &file->waveforms[file->waveform_count++];
     *reader->waveform = (struct waveform){ .rising = rising };
     reader->model->waveform_count++;
     open_table(reader, &reader->waveform->table, WAVEFORM_LINES);
-    return NO_FAULT;
+    return no_flaw;
 }
 
 /* "Keywords without an argument named here take none." */
-static enum fault read_bare_keyword(struct reader *reader, enum keyword keyword, struct text argument)
+static struct flaw read_bare_keyword(struct reader *reader, enum keyword keyword, struct text argument)
 {
     if (!is_empty(argument))
-        return WRONG_WORD;
+        return wrong_word(argument.start);
     switch (keyword) {
     case PACKAGE:
         open_list(reader, PACKAGE_LINES);
-        return NO_FAULT;
+        return no_flaw;
     case RAMP:
         reader->model->ramp.given = true;
         open_list(reader, RAMP_LINES);
-        return NO_FAULT;
+        return no_flaw;
     case RISING_WAVEFORM:
     case FALLING_WAVEFORM:
         return open_waveform(reader, keyword == RISING_WAVEFORM);
     case END:
         reader->place = AFTER_END;
-        return NO_FAULT;
+        return no_flaw;
     default:
         open_table(reader, &reader->model->tables[PULLDOWN_TABLE + (keyword - PULLDOWN)], CURRENT_ROWS);
-        return NO_FAULT;
+        return no_flaw;
     }
 }
 
-static enum fault read_argument(struct reader *reader, enum keyword keyword, struct text argument)
+static struct flaw read_argument(struct reader *reader, enum keyword keyword, struct text argument)
 {
     switch (keyword) {
     case IBIS_VER:
-        return same_bytes(argument, "5.0", 3) ? NO_FAULT : WRONG_WORD;
+        return read_version(argument);
     case FILE_NAME:
         return read_file_name(reader, argument);
     case FILE_REV:
@@ -573,7 +608,7 @@ static enum fault read_argument(struct reader *reader, enum keyword keyword, str
     case DISCLAIMER:
     case COPYRIGHT:
         open_list(reader, TEXT_LINES);
-        return NO_FAULT;
+        return no_flaw;
     case COMPONENT:
         return open_component(reader, argument);
     case MANUFACTURER:
@@ -622,20 +657,9 @@ static enum fault tell_unknown(struct text spelling)
     return find_name(spelling, hierarchy_names, HIERARCHY_NAMES) < HIERARCHY_NAMES ? NOT_CARRIED : OUTSIDE_HIERARCHY;
 }
 
-/* At a keyword line: what it closes, then 5, 6 or 21, 7, 8, then its argument. */
-static enum fault read_keyword_line(struct reader *reader, struct text line)
+/* What stands before the argument's own faults: 7, what a section keyword closes, and 8. */
+static enum fault place_keyword(struct reader *reader, enum keyword keyword)
 {
-    uint8_t spelling[LONGEST_KEYWORD + 1];
-    size_t length;
-    enum fault fault = close_list(reader);
-    if (fault != NO_FAULT)
-        return fault;
-    if (!take_keyword(&line, spelling, &length))
-        return BADLY_FORMED;
-    struct text name = { spelling, spelling + length };
-    enum keyword keyword = find_name(name, keyword_names, KEYWORDS);
-    if (keyword == KEYWORDS)
-        return tell_unknown(name);
     if (reader->place == BEFORE_VERSION) {
         if (keyword != IBIS_VER)
             return OUT_OF_PLACE;
@@ -643,7 +667,7 @@ static enum fault read_keyword_line(struct reader *reader, struct text line)
         reader->section_line = reader->line;
     }
     if (keyword_places[keyword] == ANY_PLACE) {
-        fault = close_section(reader);
+        enum fault fault = close_section(reader);
         if (fault != NO_FAULT)
             return fault;
         if (keyword == END && reader->file->component_count == 0)
@@ -655,6 +679,24 @@ static enum fault read_keyword_line(struct reader *reader, struct text line)
     if (reader->given & bit & ~repeated_keywords)
         return GIVEN_TWICE;
     reader->given |= bit;
+    return NO_FAULT;
+}
+
+/* At a keyword line: what it closes, then 5, 6 or 21, 7, 8, then its argument. */
+static struct flaw read_keyword_line(struct reader *reader, struct text line)
+{
+    uint8_t spelling[LONGEST_KEYWORD + 1];
+    size_t length;
+    enum fault fault = close_list(reader);
+    if (fault != NO_FAULT)
+        return flaw_of_line(fault);
+    if (!take_keyword(&line, spelling, &length))
+        return flaw_of_line(BADLY_FORMED);
+    struct text name = { spelling, spelling + length };
+    enum keyword keyword = find_name(name, keyword_names, KEYWORDS);
+    fault = keyword == KEYWORDS ? tell_unknown(name) : place_keyword(reader, keyword);
+    if (fault != NO_FAULT)
+        return flaw_of_line(fault);
     skip_blanks(&line);
     return read_argument(reader, keyword, line);
 }
@@ -677,36 +719,41 @@ static bool is_comment_char(struct text line)
     return true;
 }
 
-/* Nothing is cut here, and nothing closed. */
-static enum fault read_comment_char(struct reader *reader, struct text line)
+/* "one of [these] and `_char`". */
+static bool is_change(struct text word)
 {
     static const char characters[] = "!\"#$%&'()*,:;<>?@\\^`{|}~";
-    line.start += COMMENT_CHAR_LENGTH;
-    if (reader->place == AFTER_END)
-        return OUT_OF_PLACE;
-    if (!is_empty(line) && !is_blank(*line.start))
-        return BADLY_FORMED;
-    if (reader->place == BEFORE_VERSION)
-        return OUT_OF_PLACE;
-    skip_blanks(&line);
-    if (length_of(line) < 6 || memchr(characters, *line.start, sizeof characters - 1) == NULL
-        || memcmp(line.start + 1, "_char", 5) != 0)
-        return WRONG_WORD;
-    uint8_t character = *line.start;
-    const uint8_t *after = line.start += 6;
-    skip_blanks(&line);
-    if (!is_empty(line) && (line.start == after || *line.start != character))
-        return WRONG_WORD;
-    reader->comment = character;
-    return NO_FAULT;
+    return length_of(word) == 6 && memchr(characters, *word.start, sizeof characters - 1) != NULL
+           && memcmp(word.start + 1, "_char", 5) == 0;
 }
 
-static enum fault read_plain_line(struct reader *reader, struct text line)
+/* Nothing is cut here, and nothing closed. */
+static struct flaw read_comment_char(struct reader *reader, struct text line)
+{
+    struct text word;
+    line.start += COMMENT_CHAR_LENGTH;
+    if (reader->place == AFTER_END)
+        return flaw_of_line(OUT_OF_PLACE);
+    if (!is_empty(line) && !is_blank(*line.start))
+        return flaw_of_line(BADLY_FORMED);
+    if (reader->place == BEFORE_VERSION)
+        return flaw_of_line(OUT_OF_PLACE);
+    next_word(&line, &word);
+    if (!is_change(word))
+        return wrong_word(word.start);
+    skip_blanks(&line);
+    if (!is_empty(line) && *line.start != *word.start)
+        return wrong_word(line.start);
+    reader->comment = *word.start;
+    return no_flaw;
+}
+
+static struct flaw read_plain_line(struct reader *reader, struct text line)
 {
     skip_blanks(&line);
     switch (reader->list) {
     case TEXT_LINES:
-        return NO_FAULT;
+        return no_flaw;
     case COMPONENT_LINES:
         return read_component_line(reader, line);
     case PACKAGE_LINES:
@@ -724,14 +771,13 @@ static enum fault read_plain_line(struct reader *reader, struct text line)
     case WAVEFORM_LINES:
         return read_waveform_line(reader, line);
     default:
-        return OUT_OF_PLACE;
+        return flaw_of_line(OUT_OF_PLACE);
     }
 }
 
 /* "A line is cut at its first [comment character], then trailing blanks are cut. A line left empty is skipped." */
-static enum fault read_line(struct reader *reader, struct text line)
+static struct flaw read_line(struct reader *reader, struct text line)
 {
-    reader->file->line = reader->line;
     if (is_comment_char(line))
         return read_comment_char(reader, line);
     const uint8_t *comment = memchr(line.start, reader->comment, length_of(line));
@@ -740,9 +786,9 @@ static enum fault read_line(struct reader *reader, struct text line)
     while (line.end > line.start && is_blank(line.end[-1]))
         line.end--;
     if (is_empty(line))
-        return NO_FAULT;
+        return no_flaw;
     if (reader->place == AFTER_END)
-        return OUT_OF_PLACE;
+        return flaw_of_line(OUT_OF_PLACE);
     return *line.start == '[' ? read_keyword_line(reader, line) : read_plain_line(reader, line);
 }
 
@@ -783,6 +829,17 @@ static enum fault check_line(struct text line, bool ended)
     return ended ? NO_FAULT : LINE_NOT_ENDED;
 }
 
+/* Reads the line and tells its own number and the column of its flaw, unless what it closes tells another line. */
+static enum fault tell_line(struct reader *reader, struct text line)
+{
+    struct file *file = reader->file;
+    file->line = reader->line;
+    struct flaw flaw = read_line(reader, line);
+    if (flaw.at != NULL)
+        file->column = (uint32_t)(flaw.at - line.start) + 1;
+    return flaw.fault;
+}
+
 /* "2, 3, 4 over all lines; then lines from the top": after the first fault of a line, the rest is only checked. */
 static enum fault read_lines(struct reader *reader, const uint8_t *at, const uint8_t *end)
 {
@@ -797,7 +854,7 @@ static enum fault read_lines(struct reader *reader, const uint8_t *at, const uin
         if (fault != NO_FAULT)
             return tell(reader, fault, reader->line);
         if (first == NO_FAULT)
-            first = read_line(reader, line);
+            first = tell_line(reader, line);
         at = feed + 1;
     }
     if (first == NO_FAULT && reader->place != AFTER_END)
@@ -862,7 +919,7 @@ static size_t least(size_t lent, size_t bound)
 
 static void begin(struct reader *reader, const struct lengths *lent, struct file *file)
 {
-    file->line = 0;
+    file->line = file->column = 0;
     file->section_count = file->component_count = file->pin_count = file->selector_count = 0;
     file->choice_count = file->model_count = file->waveform_count = file->row_count = 0;
     reader->file = file;

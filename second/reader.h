@@ -56,6 +56,15 @@ struct text {
     const uint8_t *start, *end;
 };
 
+/*
+ * A fault and, of 10, 11 and 12, its place: where the leftmost word at fault begins or, for a missing word, the end of
+ * the line as it was cut. Other faults have none.
+ */
+struct flaw {
+    enum fault fault;
+    const uint8_t *at;
+};
+
 /* A fixed spelling. */
 struct name {
     const char *spelling;
@@ -163,7 +172,7 @@ struct section {
 
 /* All that is kept. The caller sets `rows` to the row store it lends; the rest is filled here. */
 struct file {
-    uint32_t line;                              /* the line told with a fault */
+    uint32_t line, column;                      /* told with a fault; the column counts from 1, or is 0 */
     struct text file_name, file_rev;
     uint32_t section_count, component_count, pin_count, selector_count, choice_count, model_count;
     uint32_t waveform_count, row_count;
@@ -185,7 +194,7 @@ extern const struct name second_enables[ENABLES];
 
 /*
  * Reads the file. Gives NO_FAULT, and then `file` holds all that is kept, its texts pointing into `bytes`; or the
- * fault's number, and then file->line is the line told and nothing else in `file` or its rows means anything.
+ * fault's number, and then file->line and file->column are told and nothing else in `file` or its rows means anything.
  */
 int second_read(const uint8_t *bytes, size_t length, const struct lengths *lent, struct file *file);
 

@@ -1,4 +1,4 @@
-/* The words of a line, the names they may spell, and the reserved words. */
+/* The words of a line, the flaws that words have, the names they may spell, and the reserved words. */
 #ifndef SECOND_WORDS_H
 #define SECOND_WORDS_H
 
@@ -53,6 +53,7 @@ static inline void skip_word(struct text *rest)
         rest->start++;
 }
 
+/* Where there is none, the word is empty and at the line's end: the place that is told of a missing word. */
 static inline bool next_word(struct text *rest, struct text *word)
 {
     skip_blanks(rest);
@@ -62,10 +63,25 @@ static inline bool next_word(struct text *rest, struct text *word)
     return !is_empty(*word);
 }
 
-static inline bool only_word(struct text rest, struct text *word)
+static const struct flaw no_flaw = { NO_FAULT, NULL };
+
+/* A fault that tells no column. */
+static inline struct flaw flaw_of_line(enum fault fault)
 {
-    struct text more;
-    return next_word(&rest, word) && !next_word(&rest, &more);
+    return (struct flaw){ fault, NULL };
+}
+
+/* A word that begins here is wrong or one too many, or one is missing and this is the line's end. */
+static inline struct flaw wrong_word(const uint8_t *at)
+{
+    return (struct flaw){ WRONG_WORD, at };
+}
+
+/* "of surplus words the first is at fault". */
+static inline struct flaw expect_end(struct text rest)
+{
+    skip_blanks(&rest);
+    return is_empty(rest) ? no_flaw : wrong_word(rest.start);
 }
 
 static inline bool same_bytes(struct text text, const void *bytes, size_t length)
@@ -99,10 +115,16 @@ static inline enum reserved find_reserved(struct text word)
     return i;
 }
 
-/* "No pin, model or selector name begins with `[`"; a word is never empty. */
+/* "1 to 40 characters", or however many. */
+static inline bool fits(struct text text, size_t longest)
+{
+    return !is_empty(text) && length_of(text) <= longest;
+}
+
+/* "No pin, model or selector name begins with `[`". */
 static inline bool is_row_name(struct text word, size_t longest)
 {
-    return length_of(word) <= longest && *word.start != '[';
+    return fits(word, longest) && *word.start != '[';
 }
 
 /* "no model or selector name, in selector rows too, is one of the five". */

@@ -13,6 +13,8 @@ CHANGES = [
     '{k} {m}_char x', '{k} {m}_char {m}{m}', '{k}x', '{k}{m}_char', '{k}\t{m}_char', '{k} {m}_char\t', '{k} {m}_char | x',
     '{k} {m}{m}_char', '{k} {m} _char', '{k} _char', '{k}|', '{k}|_char', '|{k} {m}_char', ' {k} {m}_char', '{k} {m}_char',
     '{k} {m}_char', '{k} {m}_cha', '{k}] {m}_char', '{k} {m}_char\t{m} [End]', '{k} {m}-char', '{k} {m}_chax', '{k} {m}_xhar',
+    '{k}\t ', '{k}    ', '{k} \t\t', '{k}\t', '{k}  ', '{k}  {m}_char x {m} y', '{k} {m}_char\t[End]', '{k}\t{m}_char  =',
+    '{k} {m}_char _char {m}', '{k} {m}_char \tx  ', '{k}  {m}_char{m}x', '{k}\t\t{m}_chars {m} x',
 ]
 CHANGE_KEYWORDS = ['[Comment Char]', '[comment_char]', '[COMMENT CHAR]', '[Comment  Char]', '[Comment Char', '[ Comment Char]',
                    '[Comment_Char_]', '[CommentChar]', '[Comment\tChar]', '(Comment Char]', '[Comment Chars]']
@@ -50,7 +52,7 @@ def line_end(draft):
         line.ending = dice.pick(['\r', '\r\r\n', '\n\r', '\r \n', '', '\n\n', '\r\n\r\n', '\n\r\n'])
 
 
-@damage('written', 20)
+@damage('written', 40)
 def comment_char(draft):
     """A [Comment Char] line of any form, at any place, also before [IBIS Ver] and after [End]."""
     dice = draft.dice
@@ -61,7 +63,7 @@ def comment_char(draft):
     if changes and dice.chance(40):
         draft.lines[draft.choose(changes)].text = text
     else:
-        draft.insert(dice.pick([draft.any_place(), draft.any_place(), 0, len(draft.lines)]), text, 'comment char')
+        draft.insert(draft.any_place() if dice.chance(80) else dice.pick([0, len(draft.lines)]), text, 'comment char')
 
 
 @damage('written', 6)

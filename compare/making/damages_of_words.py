@@ -16,7 +16,7 @@ NEAR_SPLIT = ['C_comp_Pullup', 'C_comp_Pulldown', 'C_comp_POWER_clamp', 'C_comp_
 # What may follow the name of a capacitance, and what may not.
 CELLS = [' 1p NA NA', '\t5pF\t4pF\t6pF', ' 0 NA -0', ' -1p NA -2p', ' NA NA NA', ' na 1p 2p', '', ' 1p', ' 1p NA', ' 1p 2p 3p 4p', ' 1p NA NA NA',
          '=1p NA NA', '= 1p NA NA', ' =1p NA NA', ' = 1p NA NA', ' 1p x NA', ' 1e99 x NA', ' x 1e99 NA', ' 1p NA 1e-41', ' NA NA']
-VERSIONS = ['5', '5.', '5.1', '05.0', '5.00', '4.2', '5.0 5.0', '5.0x', '-5.0', '', '5 .0', '5,0', '50e-1']
+VERSIONS = ['5', '5.', '5.1', '05.0', '5.00', '4.2', '5.0 5.0', '5.0x', '-5.0', '', '5 .0', '5,0', '50e-1', '5.1 x', 'x 5.0']
 
 
 def number_spans(line):
@@ -191,22 +191,24 @@ def file_name_wrong(draft):
     rename(line, name)
 
 
-@damage('lines', 10)
-def equals_sign(draft):
-    """Equals signs too many, too few, or where none stand."""
-    at = draft.place(*NAMED_LINES)
-    line, dice = draft.lines[at], draft.dice
-    if '=' not in line.text:
-        name, rest = words(line.text)[0], ' '.join(words(line.text)[1:])
+def misplaced_equals(dice, text):
+    """A named line with equals signs too many, too few, or where none stand."""
+    if '=' not in text:
+        name, rest = words(text)[0], ' '.join(words(text)[1:])
         form = dice.pick(['{0}={1}', '{0} ={1}', '{0}= {1}', '{0} = {1}', '{0}== {1}', '{0} {1} =', '={0} {1}', '{0} {1}='])
-        line.text = form.format(name, rest)
-        return
-    name, number = (part.strip(' \t') for part in line.text.split('=', 1))
+        return form.format(name, rest)
+    name, number = (part.strip(' \t') for part in text.split('=', 1))
     form = dice.pick([
         '{0} = = {1}', '{0} == {1}', '{0}=={1}', '{0} = {1}=', '{0} = {1} =', '{0} = ={1}', '{0} {1}', '{0}', '{0} =', '{0}=',
         '{0} = {1} {1}', '={0} {1}', '{0} {1} =', '= {1}', '{0}{1}', '{0}\t=\t{1}', '{0}x = {1}', '{0} x = {1}', '{0} = x {1}',
         '{0} =\t', '{0} = NA', '{0}=na', '{0} = {1} x', '{0}= ={1}', '{0} x={1}', '{0}={1},', '{0}:{1}', '{0} {1} = {1}'])
-    line.text = form.format(name, number)
+    return form.format(name, number)
+
+
+@damage('lines', 10)
+def equals_sign(draft):
+    line = draft.lines[draft.place(*NAMED_LINES)]
+    line.text = misplaced_equals(draft.dice, line.text)
 
 
 @damage('lines', 3)

@@ -35,11 +35,12 @@ def change(pen, mark):
     return Line('comment char', text[:LONGEST_LINE])
 
 
-def finished(pen, text, mark):
+def finished(pen, line, mark):
     """The line with blanks and a comment behind it, as far as there is room."""
+    text = line.text
     if pen.dice.chance(pen.odd_blanks // 2):
         text += pen.blank()
-    if pen.dice.chance(pen.remarks):
+    if line.remarked or pen.dice.chance(pen.remarks):
         text += pen.gap() + remark(pen, mark)
     return text[:LONGEST_LINE]
 
@@ -54,7 +55,7 @@ def around(pen, lines):
             mark = pen.dice.pick([other for other in MARKS if other not in line.text] or [mark])
             result.append(change(pen, mark))
             result += between_lines(pen, mark)
-        result.append(Line(line.kind, finished(pen, line.text, mark)))
+        result.append(Line(line.kind, finished(pen, line, mark)))
         inside = line.kind == 'version' or inside and line.kind != 'end'
     result += between_lines(pen, mark)
     for line in result:

@@ -26,6 +26,7 @@ class Line:
 
     def __init__(self, kind, text, ending='\n'):
         self.kind, self.text, self.ending = kind, text, ending
+        self.remarked = False  # whether a comment stands behind it for certain
 
     def copy(self):
         return Line(self.kind, self.text, self.ending)

@@ -7,14 +7,13 @@ use mathlib.Core.Bool.{Bool, true, false, cond, not, _&&_}
 use mathlib.Core.Option.{none, some}
 use native.Mathlib.Omega.{arith}
 use lib.ListN.{length, length-append, length-take}
-use lib.Dec.{eqb}
-use lib.Dec.{leb}
+use lib.Dec.{eqb, leb}
 use borrow.Author.Tests.{not-false, leb-true}
 use Rattle.laws.specs.Bytes.{bytes, isBlank}
 use Rattle.laws.specs.Lists.{eqs, front}
 use Rattle.laws.specs.Said.{says}
 use Rattle.laws.proofs.Tests.{by-test, cond-all, cond-no, cond-map, and-first, and-second, never, impossible}
-use Rattle.words.specs.Words.{word, words, grown, ontoWord}
+use Rattle.words.specs.Words.{words, grown, ontoWord}
 use Rattle.name_table.specs.Names.{placeFrom}
 use Rattle.name_table.specs.declared.Found.the-variants.{At}
 use Rattle.keywords.specs.Form.{argument}
@@ -24,13 +23,13 @@ use Rattle.keywords.specs.declared.ComponentPart.{ComponentPart}
 use Rattle.keywords.specs.declared.ComponentPart.the-variants.{Manufacturer, Package, Pin}
 use Rattle.cut_lines.specs.Texts.{Text, plain, change}
 use Rattle.records.specs.declared.Triple.{Triple}
-use Rattle.line_rules.specs.Fields.{isSized, isBracketed, isModelName, cellsLine, lineSays}
+use Rattle.line_rules.specs.Fields.{wordBy, passing, isSized, isBracketed, isModelName, cellsLine, lineSays}
 use Rattle.line_rules.specs.Tables.{packageLines}
 use Rattle.line_rules.proofs.Places.{says-append}
 use Rattle.given.specs.Given.{noneGiven, has, with}
 use Rattle.given.specs.declared.Given.{Given}
 use Rattle.given.proofs.Laws.{has-other}
-use Rattle.rules.specs.Component.{componentFault, componentDone}
+use Rattle.rules.specs.Component.{componentFlaw, componentDone}
 use Rattle.rules.specs.Going.{quietly}
 use Rattle.rules.specs.Selector.{selectorLine, selectorShut}
 use Rattle.rules.specs.Model.{isNumber}
@@ -54,9 +53,11 @@ use Rattle.rules.specs.declared.Event.the-variants.{Quiet, ChoiceRow}
 use Rattle.layout_by_notes.proofs.Goes.{Goes, past-closing, past-all, anywhere}
 use Rattle.layout_by_notes.proofs.Ahead.{key-at, no-key, under-key, under-line, under-change}
 use Rattle.accepted_tables.specs.Facts.{Every}
-use Rattle.accepted_tables.specs.Fallbacks.{LocationLine, PackageLine, PinLine, ChoiceLine}
-use Rattle.accepted_tables.proofs.Checks.{past-refuse, past-unless, gone, Passes, Runs}
-use Rattle.accepted_tables.proofs.Faults.{said, cells-line-sure}
+use Rattle.accepted_tables.specs.Fallbacks.{Flawless, LocationLine, PackageLine, PinLine, ChoiceLine}
+use Rattle.records.specs.Flaws.{flawIn, told}
+use Rattle.records.specs.declared.LineFault.{LineFault}
+use Rattle.accepted_tables.proofs.Checks.{past-refuse, past-passes, gone, Passes, Runs}
+use Rattle.accepted_tables.proofs.Faults.{said, cells-line-sure, word-passes, sized-passes}
 use Rattle.accepted_tables.proofs.Named.{gave-none}
 use Rattle.accepted_tables.proofs.First.{under-none}
 use Rattle.accepted_tables.proofs.Lists.{Reads, reads-line}
@@ -193,13 +194,10 @@ parts-line c n k w e ts b y so =
     (subst (ListReads (c .list)) (sym (under-line k w ts b)) (list-line c n w e (under ts) y (so .list)))
     so
 
-parts-change : (c : ComponentState) (k n : ℕ) (ts : List Text) → Parts c ts → Parts c (change k n ∷ ts)
-parts-change c k n ts so = unkeyed c c (change k n) ts refl refl (subst (ListReads (c .list)) (sym (under-change k n ts)) (so .list)) so
+parts-change : (c : ComponentState) (k : ℕ) (f : LineFault) (ts : List Text) → Parts c ts → Parts c (change k f ∷ ts)
+parts-change c k f ts so = unkeyed c c (change k f) ts refl refl (subst (ListReads (c .list)) (sym (under-change k f ts)) (so .list)) so
 
 -- ---- a keyword
-
-some-sized : (w : List ℕ) → componentFault w Manufacturer ≡ 0 → isSized 40 w ≡ true
-some-sized w h = by-test (isSized 40 w) (λ t. t) (λ t. let e : 10 ≡ 0 = sym (cond-no 0 10 t) ∙ h in absurd (omega arith))
 
 module _ (c : ComponentState) (k : ℕ) (w : List ℕ) (ts : List Text) (b : isBracketed w ≡ true) (s : Shuts (c .list)) where
   list-key : ListReads (c .list) (under (plain k w ∷ ts))
@@ -228,12 +226,12 @@ module _ (c : ComponentState) (k : ℕ) (w : List ℕ) (ts : List Text) (b : isB
       ∙ ap (λ (t : Bool). keySays "manufacturer" (λ v ls. v) (cond t (argument w) x) ts) n))
       (so x (λ h. q (sym (has-other (c .parts) 0 i apart) ∙ h)))
 
-  maker-own : keyAt (plain k w) ≡ some (key.InComponent Manufacturer) → componentFault (argument w) Manufacturer ≡ 0
+  maker-own : keyAt (plain k w) ≡ some (key.InComponent Manufacturer) → Flawless (componentFlaw (argument w) Manufacturer)
       → Made (with (c .parts) 0) ts → Made (c .parts) (plain k w ∷ ts)
   unfolding eqs
   maker-own e f so x q =
       subst (λ (y : List ℕ). isSized 40 y ≡ true) (sym (says-key (λ v ls. v) x (plain k w) ts "manufacturer" (key.InComponent Manufacturer) e))
-      (so (argument w) (λ h. some-sized (argument w) f))
+      (so (argument w) (λ h. sized-passes (argument w) f))
 
   least-other : (i : ℕ) → (2 ≡ i → ⊥) → linesUnder "pin" (plain k w ∷ ts) ≡ linesUnder "pin" ts
       → (has (with (c .parts) i) 2 ≡ false → 1 ≤ length (linesUnder "pin" ts)) → has (c .parts) 2 ≡ false → 1 ≤ length (linesUnder "pin" (plain k w ∷ ts))
@@ -287,7 +285,7 @@ module _ (c : ComponentState) (k : ℕ) (w : List ℕ) (ts : List Text) (b : isB
 
 pub parts-read : (l : Lengths) (ts : List Text) (c : ComponentState) (h : Held) → Runs l h (InComponent c) ts → Parts c (front isWithin ts)
 parts-read l =
-    by-texts l (λ (c : ComponentState) (h : Held) (ts : List Text). Parts c ts) (λ c h s d. parts-done c s d) (λ c h k n ts so. parts-change c k n ts so)
+    by-texts l (λ (c : ComponentState) (h : Held) (ts : List Text). Parts c ts) (λ c h s d. parts-done c s d) (λ c h k f ts so. parts-change c k f ts so)
     (λ c n h g k w e ts b y a so. parts-line c n k w e ts b y so)
     (λ c n h k w p ts b q s y so. parts-key c k w ts b s n p q y so)
 
@@ -312,7 +310,7 @@ maker-least ts h =
 abbrev pub SelectorStep : SelectorState → Text → Stage → Event → Type 0
 SelectorStep s (plain k w) u e =
     (isBracketed w ≡ true → s .any ≡ true) × (isBracketed w ≡ false → (u ≡ InSelector (record { line = s .line; any = true })) × ChoiceLine w × (e ≡ ChoiceRow))
-SelectorStep s (change k n) u e = (u ≡ InSelector s) × (e ≡ Quiet)
+SelectorStep s (change k f) u e = (u ≡ InSelector s) × (e ≡ Quiet)
 
 selector-plain : (s : SelectorState) (k : ℕ) (w : List ℕ) → Goes (SelectorStep s (plain k w)) (onPlain (InSelector s) k w)
 unfolding onPlain selectorShut selectorLine
@@ -325,15 +323,15 @@ selector-plain s k w =
     past-all (SelectorStep s (plain k w)) (λ (u : Stage) (e : Event). Unit {0}) (keyed t k w (keyOf w)) (anywhere (keyed t k w (keyOf w)))
     (λ u e z. (λ h. any, λ h. absurd (never (isBracketed w) b h)))))
     (λ b.
-    past-refuse (SelectorStep s (plain k w)) (not (isModelName (word 0 (words w)))) 10 k _
-    (λ h. (λ z. absurd (never (isBracketed w) z b), λ z. (refl, not-false (isModelName (word 0 (words w))) h, refl))))
+    past-passes (SelectorStep s (plain k w)) (told w (flawIn (wordBy (passing isModelName) 0 w))) k _
+    (λ h. (λ z. absurd (never (isBracketed w) z b), λ z. (refl, word-passes isModelName w h, refl))))
 
 pub selector-text : (s : SelectorState) (t : Text) → Goes (SelectorStep s t) (onText (InSelector s) t)
 unfolding onChange
 selector-text s (plain k w) = selector-plain s k w
-selector-text s (change k n) =
-    past-refuse (SelectorStep s (change k n)) false 7 k _
-    (λ a. past-refuse (SelectorStep s (change k n)) (eqb n 5) 5 k _ (λ b. past-refuse (SelectorStep s (change k n)) false 7 k _ (λ d. past-unless (SelectorStep s (change k n)) n k _ (λ e. (refl, refl)))))
+selector-text s (change k f) =
+    past-refuse (SelectorStep s (change k f)) false 7 k _
+    (λ a. past-refuse (SelectorStep s (change k f)) (eqb (f .number) 5) 5 k _ (λ b. past-refuse (SelectorStep s (change k f)) false 7 k _ (λ d. past-passes (SelectorStep s (change k f)) f k _ (λ e. (refl, refl)))))
 
 pub record Rows (any : Bool) (ls : List (List ℕ)) : Type 0 where
   pub least : any ≡ false → 1 ≤ length ls
@@ -348,6 +346,6 @@ rows-read (plain k w ∷ ts) s h =
     (λ b.
     let so = rows-read ts (record { line = s .line; any = true }) (subst (λ (u : Stage). Passes u ts) (step .1 b .0) (h .3)) in
     subst (Rows (s .any)) (sym (under-line k w ts b)) (record { least = λ z. omega arith; choices = (step .1 b .1, so .choices) }))
-rows-read (change k n ∷ ts) s h =
-    let step = gone (SelectorStep s (change k n)) _ (h .0) (h .1) (selector-text s (change k n)) (h .2) in
-    subst (Rows (s .any)) (sym (under-change k n ts)) (rows-read ts s (subst (λ (u : Stage). Passes u ts) (step .0) (h .3)))
+rows-read (change k f ∷ ts) s h =
+    let step = gone (SelectorStep s (change k f)) _ (h .0) (h .1) (selector-text s (change k f)) (h .2) in
+    subst (Rows (s .any)) (sym (under-change k f ts)) (rows-read ts s (subst (λ (u : Stage). Passes u ts) (step .0) (h .3)))

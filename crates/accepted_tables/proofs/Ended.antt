@@ -7,7 +7,9 @@ use native.Mathlib.Omega.{arith}
 use lib.ListN.{length}
 use lib.Dec.{eqb}
 use borrow.Author.Tests.{eqb-false}
-use Rattle.laws.specs.Said.{says, fault}
+use Rattle.laws.specs.Said.{Result, says, fault}
+use Rattle.records.specs.Flaws.{bare}
+use Rattle.records.specs.declared.LineFault.{LineFault}
 use Rattle.laws.proofs.Tests.{by-test, cond-all, cond-yes, cond-no, never, impossible}
 use Rattle.cut_lines.specs.Texts.{Text, plain, change}
 use Rattle.line_rules.specs.Fields.{isBracketed}
@@ -31,26 +33,27 @@ use Rattle.accepted_tables.proofs.Events.{Names, text-goes}
 nothing-goes : (t : Text) → Goes (λ (u : Stage) (e : Event). ⊥) (onText AfterEnd t)
 unfolding onPlain onChange
 nothing-goes (plain k w) = cond-all (Goes (λ (u : Stage) (e : Event). ⊥)) (isBracketed w) _ _ (λ b. tt) (λ b. tt)
-nothing-goes (change k n) = past-refuse (λ (u : Stage) (e : Event). ⊥) true 7 k _ (λ a. impossible (cc))
+nothing-goes (change k f) = past-refuse (λ (u : Stage) (e : Event). ⊥) true 7 k _ (λ a. impossible (cc))
 
 -- ---- [End] itself
 
 abbrev HasOne : Held → Type 0
 HasOne h = 1 ≤ count (is OfComponent) (h .entries)
 
-end-admitted : (l : Lengths) (h g : Held) (k : ℕ) (w : List ℕ) (alone : Bool) → admit l h k w (Ended alone) ≡ says g → HasOne g
-end-admitted l h g k w alone q =
+end-admitted : (l : Lengths) (h g : Held) (k : ℕ) (w : List ℕ) (f : LineFault) → admit l h k w (Ended f) ≡ says g → HasOne g
+end-admitted l h g k w f q =
     let n : ℕ = count (is OfComponent) (h .entries) in
+    let kept : Result LineFault Held = says h in
     by-test (eqb n 0)
-    (λ t. let z : fault 9 ≡ says g = sym (cond-yes _ _ t) ∙ q in impossible (cc))
+    (λ t. let z : fault (bare 9) ≡ says g = sym (cond-yes _ _ t) ∙ q in impossible (cc))
     (λ t.
-    by-test alone
+    by-test (eqb (f .number) 0)
     (λ a.
-    let z : says h ≡ says g = sym (cond-yes _ _ a) ∙ sym (cond-no _ _ t) ∙ q in
+    let z : kept ≡ says g = sym (cond-yes _ _ a) ∙ sym (cond-no _ _ t) ∙ q in
     let same : h ≡ g = cc in
     let some = eqb-false n 0 t in
     subst HasOne same (omega (arith, some)))
-    (λ a. let z : fault 10 ≡ says g = sym (cond-no _ _ a) ∙ sym (cond-no _ _ t) ∙ q in impossible (cc)))
+    (λ a. let z : fault f ≡ says g = sym (cond-no _ _ a) ∙ sym (cond-no _ _ t) ∙ q in impossible (cc)))
 
 -- the event that leaves the file ended is [End]
 ending : (l : Lengths) (h g : Held) (k : ℕ) (w v : List ℕ) (u : Stage) (e : Event) → Names v u e → isEnded u ≡ true → admit l h k w e ≡ says g → HasOne g
@@ -60,7 +63,7 @@ ending l h g k w v u PinRow n i a = absurd (never (isEnded u) i (n .1))
 ending l h g k w v u ChoiceRow n i a = absurd (never (isEnded u) i (n .1))
 ending l h g k w v u WaveformOpened n i a = absurd (never (isEnded u) i (n .1))
 ending l h g k w v u TableRow n i a = absurd (never (isEnded u) i (n .1))
-ending l h g k w v u (Ended alone) n i a = end-admitted l h g k w alone a
+ending l h g k w v u (Ended f) n i a = end-admitted l h g k w f a
 
 -- ---- the run
 
@@ -70,7 +73,7 @@ held-is g z q = cc
 module _ (l : Lengths) (past : ℕ) where
   no-more : (ts : List Text) (u : Stage) (g z : Held) → isEnded u ≡ true → runs l past u g ts ≡ passed z → g ≡ z
   unfolding runs
-  no-more [] u g z i q = held-is g z (sym (cond-yes (passed g) (refused 19 past) i) ∙ q)
+  no-more [] u g z i q = held-is g z (sym (cond-yes (passed g) (refused 19 past 0) i) ∙ q)
   no-more (t ∷ ts) BeforeVersion g z i q = impossible (cc)
   no-more (t ∷ ts) (InHeader h) g z i q = impossible (cc)
   no-more (t ∷ ts) (InComponent c) g z i q = impossible (cc)
@@ -82,7 +85,7 @@ module _ (l : Lengths) (past : ℕ) where
 
   pub has-one : (ts : List Text) (s : Stage) (h z : Held) → isEnded s ≡ false → runs l past s h ts ≡ passed z → HasOne z
   unfolding runs
-  has-one [] s h z i q = let e : refused 19 past ≡ passed z = sym (cond-no (passed h) (refused 19 past) i) ∙ q in impossible (cc)
+  has-one [] s h z i q = let e : refused 19 past 0 ≡ passed z = sym (cond-no (passed h) (refused 19 past 0) i) ∙ q in impossible (cc)
   has-one (t ∷ ts) s h z i q =
       let b = stepped l h t (λ (u : Stage) (g : Held). runs l past u g ts) (onText s t) z q in
       let names = gone (Names (textOf t)) (onText s t) (b .0) (b .1) (text-goes s t) (b .2) in

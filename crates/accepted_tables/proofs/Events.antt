@@ -7,8 +7,8 @@ use mathlib.Core.Bool.{Bool, true, false, not, _&&_}
 use native.Mathlib.Omega.{arith}
 use lib.ListN.{length}
 use lib.Dec.{eqb, leb}
-use borrow.Author.Tests.{not-false, leb-true}
-use Rattle.laws.specs.Said.{Said, says, fault, orElse}
+use borrow.Author.Tests.{leb-true}
+use Rattle.laws.specs.Said.{Result, Said, says, fault, orElse}
 use Rattle.laws.proofs.Tests.{by-test, cond-all, cond-yes, cond-no, and-first, and-second, impossible}
 use Rattle.words.specs.Words.{word, words}
 use Rattle.lines.specs.Lines.{Physical, linesOf, cut}
@@ -23,7 +23,7 @@ use Rattle.keywords.specs.declared.ComponentPart.{ComponentPart}
 use Rattle.keywords.specs.declared.ModelPart.{ModelPart}
 use Rattle.cut_lines.specs.Change.{isChange, changeOf}
 use Rattle.cut_lines.specs.Texts.{Text, plain, change, ontoTexts, textsFrom}
-use Rattle.line_rules.specs.Fields.{isBracketed, isSized, isPinName, isModelName, needsNoModel, isNoModel, lineAt, oneWord, rowOf}
+use Rattle.line_rules.specs.Fields.{isBracketed, isSized, isPinName, isModelName, needsNoModel, isNoModel, lineAt, rowOf}
 use Rattle.line_rules.specs.Tables.{componentLines, packageLines, modelLines, rampLines, fixtures}
 use Rattle.given.specs.declared.Given.{Given}
 use Rattle.records.specs.declared.Row.{Row}
@@ -31,7 +31,7 @@ use Rattle.records.specs.declared.Lengths.{Lengths}
 use Rattle.records.specs.declared.Kind.{Kind}
 use Rattle.records.specs.declared.Kind.the-variants.{OfComponent, OfPin, OfSelector, OfChoice, OfModel}
 use Rattle.rules.specs.Header.{version, headerPart, headerLine}
-use Rattle.rules.specs.Component.{isPin, pinFault, componentLine, componentPart}
+use Rattle.rules.specs.Component.{pinFlaw, componentLine, componentPart}
 use Rattle.rules.specs.Selector.{selectorLine}
 use Rattle.rules.specs.Model.{withParts, modelOpens, beginsLetter, rowLine, waveformLine, modelLine, modelPlace, singlePart, waveformPart, modelPart}
 use Rattle.rules.specs.Steps.{headerOf, componentOf, modelOf, shut, done, opened, within, onVersion, onKeyword, keyed, onLine, onPlain, onChange, onText, isEnded}
@@ -53,8 +53,12 @@ use Rattle.notes.specs.Noted.{Note, Log, emptyLog, Logged, going, full, logged,
 use Rattle.layout_by_notes.proofs.Goes.{Goes, past-once as past-quiet, past-closing, anywhere}
 use Rattle.layout_by_notes.proofs.Counts.{logAfter, Kept, kept-after}
 use Rattle.accepted_tables.specs.Facts.{Every}
-use Rattle.accepted_tables.proofs.Checks.{past-refuse, past-unless, past-once, past-named}
-use Rattle.accepted_tables.proofs.Sections.{one-word}
+use Rattle.records.specs.Flaws.{told, toldIn, bare, atLine}
+use Rattle.records.specs.declared.Fault.{Fault}
+use Rattle.records.specs.declared.LineFault.{LineFault}
+use Rattle.accepted_tables.specs.Fallbacks.{Flawless}
+use Rattle.accepted_tables.proofs.Checks.{past-refuse, past-passes, past-once, past-named}
+use Rattle.accepted_tables.proofs.Faults.{word-passes, alone-passes, sized-passes}
 
 -- ---- a line's event, w being its text: its name has passed
 
@@ -67,7 +71,7 @@ Named w PinRow = isPinName (word 0 (words w)) ≡ true
 Named w ChoiceRow = isModelName (word 0 (words w)) ≡ true
 Named w WaveformOpened = Unit {0}
 Named w TableRow = Unit {0}
-Named w (Ended alone) = Unit {0}
+Named w (Ended f) = Unit {0}
 
 -- the stage that it leaves: [End] alone ends the file
 abbrev Leaves : Stage → Event → Type 0
@@ -77,40 +81,37 @@ Leaves u PinRow = isEnded u ≡ false
 Leaves u ChoiceRow = isEnded u ≡ false
 Leaves u WaveformOpened = isEnded u ≡ false
 Leaves u TableRow = isEnded u ≡ false
-Leaves u (Ended alone) = Unit {0}
+Leaves u (Ended f) = Unit {0}
 
 abbrev pub Names : List ℕ → Stage → Event → Type 0
 Names w u e = Named w e × Leaves u e
 
-pub pin-named : (long : Bool) (ws : List (List ℕ)) → pinFault long ws ≡ 0 → isPinName (word 0 ws) ≡ true
-unfolding pinFault isPin
-pin-named long ws h =
-    by-test (isPin long ws)
-    (λ t. and-first (isPinName (word 0 ws)) _ t)
-    (λ t. let e : 10 ≡ 0 = sym (cond-no _ 10 t) ∙ h in absurd (omega arith))
+pub pin-named : (long : Bool) (w : List ℕ) → Flawless (pinFlaw long w) → isPinName (word 0 (words w)) ≡ true
+unfolding pinFlaw
+pin-named long w h = by-test (isPinName (word 0 (words w))) (λ t. t) (λ t. let e : 10 ≡ 0 = rw t at h in absurd (omega arith))
 
 component-goes : (c : ComponentState) (k : ℕ) (w : List ℕ) (l : ComponentList) → Goes (Names w) (componentLine c k w l)
-component-goes c k w ComponentFirst = past-named (Names w) (c .first) (lineAt componentLines w) _ k _ (λ i a h f. (tt, refl))
+component-goes c k w ComponentFirst = past-named (Names w) (c .first) (lineAt componentLines w) _ k w _ (λ i a h f. (tt, refl))
 component-goes c k w ComponentShut = tt
-component-goes c k w (PackageLines o g) = past-named (Names w) g (lineAt packageLines w) _ k _ (λ i a h f. (tt, refl))
-component-goes c k w (PinRows o long any) = past-unless (Names w) (pinFault long (words w)) k _ (λ f. (pin-named long (words w) f, refl))
+component-goes c k w (PackageLines o g) = past-named (Names w) g (lineAt packageLines w) _ k w _ (λ i a h f. (tt, refl))
+component-goes c k w (PinRows o long any) = past-passes (Names w) (told w (pinFlaw long w)) k _ (λ f. (pin-named long w f, refl))
 
-row-goes : (w : List ℕ) (on : RowsSeen → ModelList) (m : ModelState) (r : RowsSeen) (k : ℕ) (x : Said Row) → Goes (Names w) (rowLine on m r k x)
-row-goes w on m r k (fault n) = tt
+row-goes : (w : List ℕ) (on : RowsSeen → ModelList) (m : ModelState) (r : RowsSeen) (k : ℕ) (x : Result LineFault Row) → Goes (Names w) (rowLine on m r k x)
+row-goes w on m r k (fault f) = tt
 row-goes w on m r k (says y) = past-refuse (Names w) _ 13 k _ (λ h. (tt, refl))
 
 waveform-goes : (m : ModelState) (o : ℕ) (g : Given) (r : RowsSeen) (k : ℕ) (w : List ℕ) → Goes (Names w) (waveformLine m o g r k w)
 unfolding waveformLine
 waveform-goes m o g r k w =
     cond-all (Goes (Names w)) (beginsLetter (word 0 (words w))) _ _
-    (λ b. past-refuse (Names w) _ 7 k _ (λ z. past-named (Names w) g (lineAt fixtures w) _ k _ (λ i a h f. (tt, refl))))
-    (λ b. row-goes w (WaveformRows o g) m r k (rowOf (words w)))
+    (λ b. past-refuse (Names w) _ 7 k _ (λ z. past-named (Names w) g (lineAt fixtures w) _ k w _ (λ i a h f. (tt, refl))))
+    (λ b. row-goes w (WaveformRows o g) m r k (toldIn w (rowOf w)))
 
 model-goes : (m : ModelState) (k : ℕ) (w : List ℕ) (l : ModelList) → Goes (Names w) (modelLine m k w l)
-model-goes m k w ModelFirst = past-named (Names w) (m .first) (lineAt modelLines w) _ k _ (λ i a h f. (tt, refl))
+model-goes m k w ModelFirst = past-named (Names w) (m .first) (lineAt modelLines w) _ k w _ (λ i a h f. (tt, refl))
 model-goes m k w ModelShut = tt
-model-goes m k w (CurrentRows o r) = row-goes w (CurrentRows o) m r k (rowOf (words w))
-model-goes m k w (RampLines o g) = past-named (Names w) g (lineAt rampLines w) _ k _ (λ i a h f. (tt, refl))
+model-goes m k w (CurrentRows o r) = row-goes w (CurrentRows o) m r k (toldIn w (rowOf w))
+model-goes m k w (RampLines o g) = past-named (Names w) g (lineAt rampLines w) _ k w _ (λ i a h f. (tt, refl))
 model-goes m k w (WaveformRows o g r) = waveform-goes m o g r k w
 
 line-goes : (s : Stage) (k : ℕ) (w : List ℕ) → Goes (Names w) (onLine s k w)
@@ -118,35 +119,36 @@ unfolding headerLine selectorLine
 line-goes BeforeVersion k w = tt
 line-goes (InHeader h) k w = cond-all (Goes (Names w)) (h .text) _ _ (λ e. (tt, refl)) (λ e. tt)
 line-goes (InComponent c) k w = component-goes c k w (c .list)
-line-goes (InSelector s) k w = past-refuse (Names w) (not (isModelName (word 0 (words w)))) 10 k _ (λ h. (not-false (isModelName (word 0 (words w))) h, refl))
+line-goes (InSelector s) k w = past-passes (Names w) _ k _ (λ h. (word-passes isModelName w h, refl))
 line-goes (InModel m) k w = model-goes m k w (m .list)
 line-goes AfterEnd k w = tt
 
 -- ---- keywords
 
 module _ (k : ℕ) (w : List ℕ) where
-  opened-goes : (o : Section) → Goes (Names w) (opened k (argument w) o)
-  opened-goes Component = past-refuse (Names w) (not (isSized 40 (argument w))) 10 k _ (λ h. (not-false (isSized 40 (argument w)) h, refl))
-  opened-goes Selector = past-refuse (Names w) (not (oneWord isModelName (words (argument w)))) 10 k _ (λ h. (one-word isModelName (words (argument w)) h, refl))
-  opened-goes Model = past-refuse (Names w) (not (oneWord isModelName (words (argument w)))) 10 k _ (λ h. (one-word isModelName (words (argument w)) h, refl))
+  opened-goes : (o : Section) → Goes (Names w) (opened k w o)
+  unfolding opened
+  opened-goes Component = past-passes (Names w) _ k _ (λ h. (sized-passes (argument w) h, refl))
+  opened-goes Selector = past-passes (Names w) _ k _ (λ h. (alone-passes isModelName (argument w) h, refl))
+  opened-goes Model = past-passes (Names w) _ k _ (λ h. (alone-passes isModelName (argument w) h, refl))
 
-  part-goes : (m : ModelState) (p : ModelPart) → Goes (Names w) (modelPart m k (argument w) p)
+  part-goes : (m : ModelState) (p : ModelPart) → Goes (Names w) (modelPart m k w p)
   unfolding singlePart waveformPart
   part-goes m p =
       cond-all (Goes (Names w)) (eqb (modelPlace p) 7) _ _
-      (λ z. past-unless (Names w) _ k _ (λ f. past-refuse (Names w) _ 17 k _ (λ h. (tt, refl))))
+      (λ z. past-passes (Names w) _ k _ (λ f. past-refuse (Names w) _ 17 k _ (λ h. (tt, refl))))
       (λ z. past-once (Names w) (m .parts) (modelPlace p) _ k (λ (g : Given). InModel (withParts m g (m .waveforms) (modelOpens k p))) (λ h f. (tt, refl)))
 
-  version-goes : (s : Stage) → Goes (Names w) (onVersion s k (argument w))
+  version-goes : (s : Stage) → Goes (Names w) (onVersion s k w)
   unfolding onVersion version
-  version-goes BeforeVersion = past-refuse (Names w) _ 10 k _ (λ h. (tt, refl))
+  version-goes BeforeVersion = past-passes (Names w) _ k _ (λ h. (tt, refl))
   version-goes (InHeader h) = tt
   version-goes (InComponent c) = tt
   version-goes (InSelector l) = tt
   version-goes (InModel m) = tt
   version-goes AfterEnd = tt
 
-  header-goes : (s : Stage) (p : HeaderPart) → Goes (Names w) (within k (headerOf s) (λ h. headerPart h k (argument w) p))
+  header-goes : (s : Stage) (p : HeaderPart) → Goes (Names w) (within k (headerOf s) (λ h. headerPart h k w p))
   unfolding headerPart
   header-goes BeforeVersion p = tt
   header-goes (InHeader h) p = past-quiet (Names w) _ _ k _ (tt, refl)
@@ -155,7 +157,7 @@ module _ (k : ℕ) (w : List ℕ) where
   header-goes (InModel m) p = tt
   header-goes AfterEnd p = tt
 
-  member-goes : (s : Stage) (p : ComponentPart) → Goes (Names w) (within k (componentOf s) (λ c. componentPart c k (argument w) p))
+  member-goes : (s : Stage) (p : ComponentPart) → Goes (Names w) (within k (componentOf s) (λ c. componentPart c k w p))
   unfolding componentPart
   member-goes BeforeVersion p = tt
   member-goes (InHeader h) p = tt
@@ -164,7 +166,7 @@ module _ (k : ℕ) (w : List ℕ) where
   member-goes (InModel m) p = tt
   member-goes AfterEnd p = tt
 
-  table-goes : (s : Stage) (p : ModelPart) → Goes (Names w) (within k (modelOf s) (λ m. modelPart m k (argument w) p))
+  table-goes : (s : Stage) (p : ModelPart) → Goes (Names w) (within k (modelOf s) (λ m. modelPart m k w p))
   table-goes BeforeVersion p = tt
   table-goes (InHeader h) p = tt
   table-goes (InComponent c) p = tt
@@ -172,7 +174,7 @@ module _ (k : ℕ) (w : List ℕ) where
   table-goes (InModel m) p = part-goes m p
   table-goes AfterEnd p = tt
 
-  keyword-goes : (s : Stage) (x : Keyword) → Goes (Names w) (onKeyword s k (argument w) x)
+  keyword-goes : (s : Stage) (x : Keyword) → Goes (Names w) (onKeyword s k w x)
   keyword-goes s key.IbisVer = version-goes s
   keyword-goes s (key.InHeader p) = header-goes s p
   keyword-goes s (key.Opens o) = past-closing (Names w) (λ (t : Stage). Unit {0}) _ (done k s) (anywhere (done k s)) (λ t q. opened-goes o)
@@ -190,7 +192,7 @@ text-goes s (plain k w) =
     cond-all (Goes (Names w)) (isBracketed w) _ _
     (λ b. past-closing (Names w) (λ (t : Stage). Unit {0}) (λ (t : Stage). keyed t k w (keyOf w)) (shut k s) (anywhere (shut k s)) (λ t q. keyed-goes k w t (keyOf w)))
     (λ b. line-goes s k w)
-text-goes s (change k n) = past-refuse _ _ 7 k _ (λ a. past-refuse _ _ 5 k _ (λ b. past-refuse _ _ 7 k _ (λ c. past-unless _ n k _ (λ d. (tt, a)))))
+text-goes s (change k f) = past-refuse _ _ 7 k _ (λ a. past-refuse _ _ 5 k _ (λ b. past-refuse _ _ 7 k _ (λ c. past-passes _ f k _ (λ d. (tt, a)))))
 
 -- ---- a note, by what its line has passed
 
@@ -239,7 +241,7 @@ fine-after h t ts PinRow l n so = (record { line = l; fits = pin-sized _ n; own 
 fine-after h t ts ChoiceRow l n so = (record { line = l; fits = model-sized _ n; own = (refl, refl) }, so)
 fine-after h t ts WaveformOpened l n so = so
 fine-after h t ts TableRow l n so = so
-fine-after h t ts (Ended alone) l n so = so
+fine-after h t ts (Ended f) l n so = so
 
 -- ---- all lines
 
@@ -265,27 +267,28 @@ numbered s = numbered-from (code "|") 1 (linesOf s) (omega arith)
 
 -- ---- the run
 
-broken-never : {X : Type 0} (n k : ℕ) (h g : Log) → broken n k h ≡ whole g → X
-broken-never n k h g e = let f = ap (λ (x : Finish). x .fault) e in impossible (cc)
+broken-never : {X : Type 0} (f : Fault) (h g : Log) → broken f h ≡ whole g → X
+broken-never f h g e = let faults = ap (λ (x : Finish). x .fault) e in impossible (cc)
 
 module _ (l : Lengths) (past : ℕ) (g : Log) where
   at-end : (s : Stage) (h : Log) → Every Fine (h .notes) → outOfLines past h s ≡ whole g → Every Fine (g .notes)
   at-end s h so e =
+      let out : Finish = broken (atLine past (bare 19)) h in
       by-test (isEnded s)
-      (λ t. subst (λ (y : Log). Every Fine (y .notes)) (ap (λ (x : Finish). x .log) (sym (cond-yes (whole h) (broken 19 past h) t) ∙ e)) so)
-      (λ t. broken-never 19 past h g (sym (cond-no (whole h) (broken 19 past h) t) ∙ e))
+      (λ t. subst (λ (y : Log). Every Fine (y .notes)) (ap (λ (x : Finish). x .log) (sym (cond-yes (whole h) out t) ∙ e)) so)
+      (λ t. broken-never _ h g (sym (cond-no (whole h) out t) ∙ e))
 
   module _ (ts : List Text) (rest : (u : Stage) (h : Log) → Every Fine (h .notes) → runLog l past u h ts ≡ whole g → Every Fine (g .notes)) where
     past-logged : (u : Stage) (x : Logged) → Kept (λ (y : Log). Every Fine (y .notes)) x
         → afterLogged (λ (y : Log). runLog l past u y ts) x ≡ whole g → Every Fine (g .notes)
     past-logged u (going y) so e = rest u y so e
-    past-logged u (full n k y) so e = broken-never n k y g e
+    past-logged u (full f k y) so e = broken-never _ y g e
 
     past-went : (t : Text) (h : Log) (x : Went) → 1 ≤ lineOf t → Every Fine (h .notes) → Goes (Names (textOf t)) x
         → afterWent l h t ts (λ (u : Stage) (y : Log). runLog l past u y ts) x ≡ whole g → Every Fine (g .notes)
     past-went t h (On u e) n so w q =
         past-logged u (logged l h t ts e) (kept-after (λ (y : Log). Every Fine (y .notes)) l h t ts e (λ room. fine-after h t ts e n (w .0) so)) q
-    past-went t h (Stop f) n so w q = broken-never (f .number) (f .line) h g q
+    past-went t h (Stop f) n so w q = broken-never f h g q
 
   fine-run : (ts : List Text) (s : Stage) (h : Log) → Every Numbered ts → Every Fine (h .notes) → runLog l past s h ts ≡ whole g → Every Fine (g .notes)
   unfolding runLog

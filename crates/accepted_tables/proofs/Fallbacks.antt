@@ -26,7 +26,7 @@ use Rattle.line_rules.specs.Fields.{isBracketed, lineAt, wordLine, takes, lineS
 use Rattle.line_rules.specs.Tables.{modelLines, modelTypes, waveformKeywords}
 use Rattle.given.specs.Given.{with, gave}
 use Rattle.given.specs.declared.Given.{Given}
-use Rattle.rules.specs.Model.{newModel, firstFault, rampFault, withFirst, modelOpens, modelDone}
+use Rattle.rules.specs.Model.{newModel, firstFlaw, rampFlaw, withFirst, modelOpens, modelDone}
 use Rattle.rules.specs.Reading.{under, linesUnder, TableIs, tablesIn, isWithin, SectionIs, component, selector, model}
 use Rattle.rules.proofs.Keys.{lines-skip, lines-key}
 use Rattle.keywords.proofs.Spelling.{spelling}
@@ -36,12 +36,13 @@ use Rattle.rules.specs.declared.ModelState.{ModelState}
 use Rattle.rules.specs.declared.Stage.the-variants.{InSelector, InModel}
 use Rattle.layout_by_notes.proofs.Ahead.{key-at, no-key, under-key, under-line, under-change, under-within}
 use Rattle.accepted_tables.specs.Facts.{Every}
-use Rattle.accepted_tables.specs.Fallbacks.{TableLines, SectionSaid}
+use Rattle.records.specs.declared.LineFault.{LineFault}
+use Rattle.accepted_tables.specs.Fallbacks.{Flawless, TableLines, SectionSaid}
 use Rattle.accepted_tables.proofs.Checks.{Passes, runs-pass}
 use Rattle.accepted_tables.proofs.Faults.{said, word-line-sure}
 use Rattle.accepted_tables.proofs.Named.{gave-none, gave-other, takes-other, takes-own}
 use Rattle.accepted_tables.proofs.ModelSteps.{Shuts, ModelLine, firstLine, currentRow, rampLine, fixtureLine, waveformRow, ModelKey, single, waveform, by-texts}
-use Rattle.accepted_tables.proofs.First.{done, firstLines, isFirst, opens-none, nothing-first, other-first, under-none, type-place, type-fault}
+use Rattle.accepted_tables.proofs.First.{done, firstLines, isFirst, opens-none, nothing-first, other-first, under-none, type-place, type-flaw}
 use Rattle.accepted_tables.proofs.Parts.{tables-skip, withTable, tables-key}
 use Rattle.accepted_tables.proofs.Spans.{every-append}
 use Rattle.accepted_tables.proofs.Sections.{newComponent, newSelector, SectionPasses}
@@ -59,7 +60,7 @@ same-none : (g : Given) → gave g modelLines "Model_type" ≡ true → SameFrom
 unfolding lineSays
 same-none g h x y q = q h
 
-same-line : (g : Given) (w : List ℕ) (i : ℕ) (ls : List (List ℕ)) → lineAt modelLines w ≡ At i → firstFault w ≡ 0 → SameFrom (with g i) ls → SameFrom g (w ∷ ls)
+same-line : (g : Given) (w : List ℕ) (i : ℕ) (ls : List (List ℕ)) → lineAt modelLines w ≡ At i → Flawless (firstFlaw w) → SameFrom (with g i) ls → SameFrom g (w ∷ ls)
 unfolding lineSays
 same-line g w i ls at ok so x y q =
     let read = wordLine modelTypes in
@@ -67,7 +68,7 @@ same-line g w i ls at ok so x y q =
     (λ h.
     by-test (eqb i 0)
     (λ t.
-    let v = said (wordLine modelTypes w) (word-line-sure modelTypes w) (sym (type-fault w (at ∙ ap At (eqb-true i 0 t))) ∙ ok) in
+    let v = said (wordLine modelTypes w) (word-line-sure modelTypes w) (subst Flawless (type-flaw w (at ∙ ap At (eqb-true i 0 t))) ok) in
     takes-own modelLines "Model_type" 0 type-place read x w i at t (v .1) ∙ sym (takes-own modelLines "Model_type" 0 type-place read y w i at t (v .1)))
     (λ t.
     takes-other modelLines "Model_type" 0 type-place read x w i at t
@@ -77,10 +78,10 @@ same-line g w i ls at ok so x y q =
 -- ---- the lines of the open list
 
 abbrev RampLine : List ℕ → Type 0
-RampLine w = rampFault w ≡ 0
+RampLine w = Flawless (rampFlaw w)
 
 abbrev ListSaid : ModelList → List (List ℕ) → Type 0
-ListSaid ModelFirst ls = Every (λ (w : List ℕ). firstFault w ≡ 0) ls
+ListSaid ModelFirst ls = Every (λ (w : List ℕ). Flawless (firstFlaw w)) ls
 ListSaid ModelShut ls = Unit {0}
 ListSaid (CurrentRows o r) ls = TableLines false ls
 ListSaid (RampLines o g) ls = Every RampLine ls
@@ -122,13 +123,13 @@ says-done m s d =
       same = subst (SameFrom (m .first)) (sym (nothing-first m under-none)) (same-none (m .first) (done m d .type));
     }
 
-says-change : (m : ModelState) (k n : ℕ) (ts : List Text) → Says m ts → Says m (change k n ∷ ts)
-says-change m k n ts so =
+says-change : (m : ModelState) (k : ℕ) (f : LineFault) (ts : List Text) → Says m ts → Says m (change k f ∷ ts)
+says-change m k f ts so =
     record {
-      list = subst (ListSaid (m .list)) (sym (under-change k n ts)) (so .list);
-      tables = subst (Every TableSaid) (sym (tables-skip (change k n) ts refl)) (so .tables);
-      ramp = subst (Every RampLine) (sym (lines-skip (change k n) ts (key.InModel Ramp) refl)) (so .ramp);
-      same = subst (λ (ls : List (List ℕ)). SameFrom (m .first) (cond (isFirst (m .list)) ls [])) (sym (under-change k n ts)) (so .same);
+      list = subst (ListSaid (m .list)) (sym (under-change k f ts)) (so .list);
+      tables = subst (Every TableSaid) (sym (tables-skip (change k f) ts refl)) (so .tables);
+      ramp = subst (Every RampLine) (sym (lines-skip (change k f) ts (key.InModel Ramp) refl)) (so .ramp);
+      same = subst (λ (ls : List (List ℕ)). SameFrom (m .first) (cond (isFirst (m .list)) ls [])) (sym (under-change k f ts)) (so .same);
     }
 
 same-text : (m n : ModelState) (k : ℕ) (w : List ℕ) (ts : List Text) → isBracketed w ≡ false → ModelLine m w n

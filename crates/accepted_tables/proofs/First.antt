@@ -7,7 +7,7 @@ use native.Mathlib.Omega.{arith}
 use borrow.Author.Tests.{not-false}
 use Rattle.laws.specs.Bytes.{bytes, isBlank}
 use Rattle.laws.specs.Lists.{eqs, front, oneOf}
-use Rattle.laws.specs.Said.{faultIn}
+use Rattle.records.specs.Flaws.{flawIn}
 use Rattle.laws.proofs.Tests.{by-test, cond-yes, cond-no, cond-same, and-first, and-second}
 use Rattle.laws.proofs.Same.{eqs-eq}
 use Rattle.decimal.specs.declared.Cell.{Cell}
@@ -27,7 +27,7 @@ use Rattle.line_rules.specs.Tables.{modelLines, capacitances, modelTypes}
 use Rattle.line_rules.proofs.Places.{named-at}
 use Rattle.given.specs.Given.{has, with, gave}
 use Rattle.rules.specs.Types.{isInput, isDriven, thresholds, isBelow}
-use Rattle.rules.specs.Model.{newModel, firstFault, withFirst, isNumber, modelPlace, modelOpens, modelDone}
+use Rattle.rules.specs.Model.{newModel, firstFlaw, withFirst, isNumber, modelPlace, modelOpens, modelDone}
 use Rattle.rules.specs.declared.Thresholds.{Thresholds}
 use Rattle.rules.specs.Reading.{under, isWithin}
 use Rattle.rules.specs.declared.ModelList.{ModelList}
@@ -35,12 +35,13 @@ use Rattle.rules.specs.declared.ModelList.the-variants.{ModelFirst, ModelShut, 
 use Rattle.rules.specs.declared.ModelState.{ModelState}
 use Rattle.rules.specs.declared.Stage.the-variants.{InModel}
 use Rattle.layout_by_notes.proofs.Ahead.{under-key, under-line, under-change}
+use Rattle.accepted_tables.specs.Fallbacks.{Flawless}
 use Rattle.accepted_tables.proofs.Checks.{Passes}
 use Rattle.accepted_tables.proofs.Faults.{said, cells-line-sure}
 use Rattle.accepted_tables.proofs.Named.{gave-none, taken-on}
 use Rattle.accepted_tables.proofs.ModelSteps.{ModelLine, firstLine, currentRow, rampLine, fixtureLine, waveformRow, ModelKey, single, waveform, by-texts}
 
--- ---- places of the first lines, and the fault of a line at its place
+-- ---- places of the first lines, and the flaw of a line at its place
 
 pub type-place : placeFrom 0 (bytes "Model_type") (words (bytes modelLines)) ≡ At 0
 unfolding placeFrom words grown ontoWord isBlank eqs
@@ -63,9 +64,9 @@ unfolding oneOf words grown ontoWord isBlank eqs
 comp-listed = refl
 
 module _ (w : List ℕ) where
-  pub type-fault : lineAt modelLines w ≡ At 0 → firstFault w ≡ faultIn (wordLine modelTypes w)
-  unfolding firstFault
-  type-fault e = rw (named-at modelLines "Model_type" w 0 0 e type-place)
+  pub type-flaw : lineAt modelLines w ≡ At 0 → firstFlaw w ≡ flawIn (wordLine modelTypes w)
+  unfolding firstFlaw
+  type-flaw e = rw (named-at modelLines "Model_type" w 0 0 e type-place)
 
   is-comp : lineAt modelLines w ≡ At 3 → oneOf (nameOf w) (words (bytes capacitances)) ≡ true
   unfolding isNamed
@@ -73,9 +74,9 @@ module _ (w : List ℕ) where
       ap (λ (x : List ℕ). oneOf x (words (bytes capacitances))) (eqs-eq (nameOf w) (bytes "C_comp") (named-at modelLines "C_comp" w 3 3 e comp-place))
       ∙ comp-listed
 
-  comp-fault : lineAt modelLines w ≡ At 3 → firstFault w ≡ faultIn (cellsLine w)
-  unfolding firstFault
-  comp-fault e =
+  comp-flaw : lineAt modelLines w ≡ At 3 → firstFlaw w ≡ flawIn (cellsLine w)
+  unfolding firstFlaw
+  comp-flaw e =
       rw (
         named-at modelLines "Model_type" w 3 0 e type-place,
         named-at modelLines "Polarity" w 3 1 e polarity-place,
@@ -151,13 +152,13 @@ read-none : (m : ModelState) → Done m → FirstFrom m []
 unfolding lineSays
 read-none m d comp c = record { comp = c (d .comp); below = d .below }
 
-read-line : (m : ModelState) (w : List ℕ) (i : ℕ) (ls : List (List ℕ)) → lineAt modelLines w ≡ At i → firstFault w ≡ 0
+read-line : (m : ModelState) (w : List ℕ) (i : ℕ) (ls : List (List ℕ)) → lineAt modelLines w ≡ At i → Flawless (firstFlaw w)
     → FirstFrom (withFirst m w (with (m .first) i)) ls → FirstFrom m (w ∷ ls)
 unfolding lineSays withFirst
 read-line m w i ls at ok so comp c =
     let r = so (takes "C_comp" cellsLine comp w)
     (taken-on modelLines "C_comp" 3 comp-place cellsLine comp w i at (λ (x : Triple). isNumber (x .typ) ≡ true) (m .first)
-    (λ e. said (cellsLine w) (cells-line-sure w) (sym (comp-fault w (at ∙ ap At e)) ∙ ok))
+    (λ e. said (cellsLine w) (cells-line-sure w) (subst Flawless (comp-flaw w (at ∙ ap At e)) ok))
     c)
     in
     record { comp = r .comp; below = r .below }
@@ -209,7 +210,7 @@ first-from : (ts : List Text) (m : ModelState) → Passes (InModel m) ts → Fir
 first-from =
     by-texts (λ (m : ModelState) (ts : List Text). FirstFrom m (firstLines m ts))
     (λ m s d. subst (FirstFrom m) (sym (nothing-first m under-none)) (read-none m (done m d)))
-    (λ m k n ts so. subst (λ (ls : List (List ℕ)). FirstFrom m (cond (isFirst (m .list)) ls [])) (sym (under-change k n ts)) so)
+    (λ m k f ts so. subst (λ (ls : List (List ℕ)). FirstFrom m (cond (isFirst (m .list)) ls [])) (sym (under-change k f ts)) so)
     lining
     (λ m n k w p ts b q s y so. keying m n k w _ p ts b y so)
 

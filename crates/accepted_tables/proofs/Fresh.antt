@@ -8,6 +8,7 @@ use native.Mathlib.Omega.{arith}
 use lib.ListN.{length}
 use Rattle.laws.specs.Lists.{eqs, front}
 use Rattle.laws.specs.Said.{says}
+use Rattle.records.specs.declared.LineFault.{LineFault}
 use Rattle.laws.proofs.Tests.{by-test, cond-yes, cond-no, never, impossible}
 use Rattle.words.specs.Words.{word, words}
 use Rattle.keywords.specs.Form.{argument}
@@ -127,11 +128,11 @@ pins-done : (c : ComponentState) (h : Held) → PinsFresh c h []
 unfolding linesUnder
 pins-done c h = record { rows = λ q. subst (λ (ls : List (List ℕ)). Fresh (seen OfPin h) (map rowName ls)) (sym under-none) tt; ahead = λ q. tt; once = λ q. refl }
 
-pins-change : (c : ComponentState) (h : Held) (k n : ℕ) (ts : List Text) → PinsFresh c h ts → PinsFresh c h (change k n ∷ ts)
-pins-change c h k n ts so =
-    let skip = lines-skip (change k n) ts (key.InComponent Pin) refl in
+pins-change : (c : ComponentState) (h : Held) (k : ℕ) (f : LineFault) (ts : List Text) → PinsFresh c h ts → PinsFresh c h (change k f ∷ ts)
+pins-change c h k f ts so =
+    let skip = lines-skip (change k f) ts (key.InComponent Pin) refl in
     record {
-      rows = λ q. subst (λ (ls : List (List ℕ)). Fresh (seen OfPin h) (map rowName ls)) (sym (under-change k n ts)) (so .rows q);
+      rows = λ q. subst (λ (ls : List (List ℕ)). Fresh (seen OfPin h) (map rowName ls)) (sym (under-change k f ts)) (so .rows q);
       ahead = λ q. subst (λ (ls : List (List ℕ)). Fresh (seen OfPin h) (map rowName ls)) (sym skip) (so .ahead q);
       once = λ q. skip ∙ so .once q;
     }
@@ -231,10 +232,10 @@ choices-fresh l (plain k w ∷ ts) s h r =
       unseen OfChoice (rowName w) h (admitted .0),
       subst (λ (z : List (List ℕ)). Fresh z (map rowName (under ts))) more so,
     ))
-choices-fresh l (change k n ∷ ts) s h r =
-    let step = gone (SelectorStep s (change k n)) _ (r .0) (r .1) (selector-text s (change k n)) (r .2) in
+choices-fresh l (change k f ∷ ts) s h r =
+    let step = gone (SelectorStep s (change k f)) _ (r .0) (r .1) (selector-text s (change k f)) (r .2) in
     let g : Held = r .3 in
     let same : g ≡ h = held-same g h (sym (ap (admit l h k []) (step .1)) ∙ r .4) in
     let so = choices-fresh l ts s g (subst (λ (u : Stage). Runs l g u ts) (step .0) (r .5)) in
-    subst (λ (ls : List (List ℕ)). Fresh (seen OfChoice h) (map rowName ls)) (sym (under-change k n ts))
+    subst (λ (ls : List (List ℕ)). Fresh (seen OfChoice h) (map rowName ls)) (sym (under-change k f ts))
     (subst (λ (z : Held). Fresh (seen OfChoice z) (map rowName (under ts))) same so)

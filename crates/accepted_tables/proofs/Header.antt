@@ -12,8 +12,7 @@ use borrow.Author.Tests.{eqb-false}
 use Rattle.laws.specs.Bytes.{bytes}
 use Rattle.laws.specs.Lists.{eqs, front}
 use Rattle.laws.specs.Said.{Said, says, fault}
-use Rattle.laws.proofs.Tests.{by-test, cond-all, cond-yes, cond-no, and-first, and-second, impossible}
-use Rattle.words.specs.Words.{words}
+use Rattle.laws.proofs.Tests.{by-test, cond-all, cond-no, and-first, and-second, impossible}
 use Rattle.keywords.specs.Form.{argument}
 use Rattle.keywords.specs.Carried.{keyOf}
 use Rattle.keywords.specs.declared.Keyword.{Keyword}
@@ -22,12 +21,12 @@ use Rattle.keywords.specs.declared.HeaderPart.{HeaderPart}
 use Rattle.keywords.specs.declared.HeaderPart.the-variants.{FileName, FileRev, FreeText}
 use Rattle.keywords.specs.declared.HeaderText.the-variants.{Date, Source, Notes, Disclaimer, Copyright}
 use Rattle.cut_lines.specs.Texts.{Text, plain, change}
-use Rattle.line_rules.specs.Fields.{isBracketed, isFileName, oneWord}
+use Rattle.line_rules.specs.Fields.{isBracketed, isSized, isFileName}
 use Rattle.given.specs.Given.{noneGiven, has, with}
 use Rattle.given.specs.declared.Given.{Given}
 use Rattle.given.proofs.Laws.{has-other}
 use Rattle.rules.specs.Going.{quietly, andThen}
-use Rattle.rules.specs.Header.{version, headerPlace, headerFault, headerPart, headerLine, headerDone}
+use Rattle.rules.specs.Header.{version, headerPlace, headerFlaw, headerPart, headerLine, headerDone}
 use Rattle.rules.specs.Steps.{done, opened, onVersion, onKeyword, keyed, onPlain, onChange, onText}
 use Rattle.rules.specs.Reading.{keySays, isWithin, headerSays}
 use Rattle.rules.specs.Keys.{keyAt, isEnd}
@@ -40,7 +39,10 @@ use Rattle.rules.specs.declared.Event.{Event}
 use Rattle.rules.specs.declared.Went.{Went}
 use Rattle.layout_by_notes.proofs.Goes.{Goes, past-closing, past-all, anywhere}
 use Rattle.layout_by_notes.proofs.Ahead.{key-at, no-key}
-use Rattle.accepted_tables.proofs.Checks.{past-refuse, past-unless, past-once, gone, Passes, inside, outside}
+use Rattle.records.specs.Flaws.{told}
+use Rattle.accepted_tables.specs.Fallbacks.{Flawless, OneWord}
+use Rattle.accepted_tables.proofs.Faults.{alone-passes, alone-one}
+use Rattle.accepted_tables.proofs.Checks.{past-refuse, past-unless, past-passes, past-once, gone, Passes, inside, outside}
 use Rattle.accepted_tables.proofs.Models.{not-given}
 
 -- ---- a text of the header
@@ -48,7 +50,7 @@ use Rattle.accepted_tables.proofs.Models.{not-given}
 pub data HeaderStep (h : HeaderState) : Text → Stage → Type 0 where
   stays : {t : Text} (n : HeaderState) → keyAt t ≡ none → n .parts ≡ h .parts → HeaderStep h t (InHeader n)
   byPart : {k : ℕ} {w : List ℕ} (p : HeaderPart) (n : HeaderState) → keyAt (plain k w) ≡ some (key.InHeader p) → n .parts ≡ with (h .parts) (headerPlace p)
-      → headerFault (argument w) p ≡ 0 → HeaderStep h (plain k w) (InHeader n)
+      → Flawless (headerFlaw (argument w) p) → HeaderStep h (plain k w) (InHeader n)
   byEnd : {t : Text} {u : Stage} (x : Keyword) → keyAt t ≡ some x → isEnd (some x) ≡ true → headerDone h ≡ 0 → HeaderStep h t u
 
 abbrev Step : HeaderState → Text → Stage → Event → Type 0
@@ -71,12 +73,12 @@ module _ (h : HeaderState) (k : ℕ) (w : List ℕ) (b : isBracketed w ≡ true)
   abbrev opening : HeaderPart → Given → HeaderState
   opening p g = record { line = h .line; text = leb (headerPlace (FreeText Date)) (headerPlace p); parts = g }
 
-  keyword-goes : (x : Keyword) → keyOf w ≡ says x → Goes (Step h (plain k w)) (onKeyword (InHeader (closed h)) k (argument w) x)
+  keyword-goes : (x : Keyword) → keyOf w ≡ says x → Goes (Step h (plain k w)) (onKeyword (InHeader (closed h)) k w x)
   unfolding onVersion headerPart
   keyword-goes key.IbisVer q = tt
   keyword-goes (key.InHeader p) q =
-      past-once (Step h (plain k w)) (h .parts) (headerPlace p) (headerFault (argument w) p) k (λ (g : Given). InHeader (opening p g)) (λ z f. byPart p (opening p (with (h .parts) (headerPlace p))) (key-at k w [] b q) refl f)
-  keyword-goes (key.Opens o) q = end-goes (key.Opens o) q refl (λ (t : Stage). opened k (argument w) o)
+      past-once (Step h (plain k w)) (h .parts) (headerPlace p) (told w (headerFlaw (argument w) p)) k (λ (g : Given). InHeader (opening p g)) (λ z f. byPart p (opening p (with (h .parts) (headerPlace p))) (key-at k w [] b q) refl f)
+  keyword-goes (key.Opens o) q = end-goes (key.Opens o) q refl (λ (t : Stage). opened k w o)
   keyword-goes (key.InComponent p) q = tt
   keyword-goes (key.InModel p) q = tt
   keyword-goes key.End q = end-goes key.End q refl _
@@ -91,14 +93,14 @@ text-goes h (plain k w) =
     cond-all (Goes (Step h (plain k w))) (isBracketed w) _ _
     (λ b. keyed-goes h k w b (keyOf w) refl)
     (λ b. cond-all (Goes (Step h (plain k w))) (h .text) _ _ (λ e. stays h (no-key k w [] b) refl) (λ e. tt))
-text-goes h (change k n) =
-    past-refuse (Step h (change k n)) _ 7 k _
-    (λ a. past-refuse (Step h (change k n)) _ 5 k _ (λ b. past-refuse (Step h (change k n)) _ 7 k _ (λ d. past-unless (Step h (change k n)) n k _ (λ e. stays h refl refl))))
+text-goes h (change k x) =
+    past-refuse (Step h (change k x)) _ 7 k _
+    (λ a. past-refuse (Step h (change k x)) _ 5 k _ (λ b. past-refuse (Step h (change k x)) _ 7 k _ (λ d. past-passes (Step h (change k x)) x k _ (λ e. stays h refl refl))))
 
 -- ---- from here on; x is what was read before
 
 abbrev IsName : List ℕ → Type 0
-IsName w = oneWord isFileName (words w) ≡ true
+IsName w = OneWord isFileName w
 
 abbrev Some : List ℕ → Type 0
 Some w = 1 ≤ length w
@@ -135,13 +137,17 @@ reads-version t ts e so =
     }
 
 -- a file name, and a revision, without a fault
-name-fine : (w : List ℕ) → headerFault w FileName ≡ 0 → IsName w
-name-fine w h = by-test (oneWord isFileName (words w)) (λ t. t) (λ t. let e : 10 ≡ 0 = sym (cond-no 0 10 t) ∙ h in absurd (omega arith))
+no-name : isFileName [] ≡ false
+unfolding isFileName isSized front
+no-name = refl
 
-revision-fine : (w : List ℕ) → headerFault w FileRev ≡ 0 → Some w
+name-fine : (w : List ℕ) → Flawless (headerFlaw w FileName) → IsName w
+name-fine w h = (alone-one isFileName w h no-name, alone-passes isFileName w h)
+
+revision-fine : (w : List ℕ) → Flawless (headerFlaw w FileRev) → Some w
 revision-fine w h =
     by-test (eqb (length w) 0)
-    (λ t. let e : 10 ≡ 0 = sym (cond-yes 10 0 t) ∙ h in absurd (omega arith))
+    (λ t. let e : 10 ≡ 0 = rw t at h in absurd (omega arith))
     (λ t. let e = eqb-false (length w) 0 t in omega (arith, e))
 
 -- what stands at place i of the header's parts, under this name
@@ -149,17 +155,17 @@ module _ (P : List ℕ → Type 0) (name : String) (i : ℕ) (g : Given) (k : �
   abbrev From : Given → List Text → Type 0
   From f us = (x : List ℕ) → (has f i ≡ true → P x) → P (keySays name first x us)
 
-  told : (t : Bool) → eqs (bytes (spelling (key.InHeader p))) (bytes name) ≡ t → (x : List ℕ)
+  keyed-says : (t : Bool) → eqs (bytes (spelling (key.InHeader p))) (bytes name) ≡ t → (x : List ℕ)
       → keySays name first x (plain k w ∷ ts) ≡ keySays name first (cond t (argument w) x) ts
-  told t n x = says-key first x (plain k w) ts name (key.InHeader p) e ∙ ap (λ (z : Bool). keySays name first (cond z (argument w) x) ts) n
+  keyed-says t n x = says-key first x (plain k w) ts name (key.InHeader p) e ∙ ap (λ (z : Bool). keySays name first (cond z (argument w) x) ts) n
 
   other : eqs (bytes (spelling (key.InHeader p))) (bytes name) ≡ false → (i ≡ headerPlace p → ⊥) → From (with g (headerPlace p)) ts → From g (plain k w ∷ ts)
-  other n apart so x q = subst P (sym (told false n x)) (so x (λ h. q (sym (has-other g i (headerPlace p) apart) ∙ h)))
+  other n apart so x q = subst P (sym (keyed-says false n x)) (so x (λ h. q (sym (has-other g i (headerPlace p) apart) ∙ h)))
 
   own : eqs (bytes (spelling (key.InHeader p))) (bytes name) ≡ true → P (argument w) → From (with g (headerPlace p)) ts → From g (plain k w ∷ ts)
-  own n fine so x q = subst P (sym (told true n x)) (so (argument w) (λ h. fine))
+  own n fine so x q = subst P (sym (keyed-says true n x)) (so (argument w) (λ h. fine))
 
-reads-part : (g : Given) (k : ℕ) (w : List ℕ) (ts : List Text) (p : HeaderPart) → keyAt (plain k w) ≡ some (key.InHeader p) → headerFault (argument w) p ≡ 0
+reads-part : (g : Given) (k : ℕ) (w : List ℕ) (ts : List Text) (p : HeaderPart) → keyAt (plain k w) ≡ some (key.InHeader p) → Flawless (headerFlaw (argument w) p)
     → Reads (with g (headerPlace p)) ts → Reads g (plain k w ∷ ts)
 unfolding eqs
 reads-part g k w ts FileName e f so =
@@ -221,7 +227,7 @@ Begins t u e = (h : HeaderState) × (u ≡ InHeader h) × (h .parts ≡ noneGive
 first-keyword : (k : ℕ) (w : List ℕ) (b : isBracketed w ≡ true) (x : Said Keyword) → keyOf w ≡ x → Goes (Begins (plain k w)) (keyed BeforeVersion k w x)
 unfolding onVersion version
 first-keyword k w b (fault n) q = tt
-first-keyword k w b (says key.IbisVer) q = past-refuse (Begins (plain k w)) _ 10 k _ (λ h. (_, refl, refl, key-at k w [] b q))
+first-keyword k w b (says key.IbisVer) q = past-passes (Begins (plain k w)) _ k _ (λ h. (_, refl, refl, key-at k w [] b q))
 first-keyword k w b (says (key.InHeader p)) q = tt
 first-keyword k w b (says (key.Opens o)) q = tt
 first-keyword k w b (says (key.InComponent p)) q = tt
@@ -231,8 +237,8 @@ first-keyword k w b (says key.End) q = tt
 first-text : (t : Text) → Goes (Begins t) (onText BeforeVersion t)
 unfolding onPlain onChange
 first-text (plain k w) = cond-all (Goes (Begins (plain k w))) (isBracketed w) _ _ (λ b. first-keyword k w b (keyOf w) refl) (λ b. tt)
-first-text (change k n) =
-    past-refuse (Begins (change k n)) _ 7 k _ (λ a. past-refuse (Begins (change k n)) _ 5 k _ (λ b. past-refuse (Begins (change k n)) _ 7 k _ (λ d. impossible (cc))))
+first-text (change k x) =
+    past-refuse (Begins (change k x)) _ 7 k _ (λ a. past-refuse (Begins (change k x)) _ 5 k _ (λ b. past-refuse (Begins (change k x)) _ 7 k _ (λ d. impossible (cc))))
 
 file-reads : (ts : List Text) → Passes BeforeVersion ts → Reads noneGiven (front isWithin ts)
 file-reads [] r = impossible (cc)
@@ -242,7 +248,7 @@ file-reads (t ∷ ts) r =
     subst (Reads noneGiven) (sym (inside t ts (b .3) refl)) (reads-version t (front isWithin ts) (b .3) (subst (λ (g : Given). Reads g (front isWithin ts)) (b .2) so))
 
 module _ (ts : List Text) (r : Passes BeforeVersion ts) where
-  pub name-said : oneWord isFileName (words (headerSays "file_name" ts)) ≡ true
+  pub name-said : OneWord isFileName (headerSays "file_name" ts)
   unfolding headerSays
   name-said = file-reads ts r .name [] (not-given 0)
 

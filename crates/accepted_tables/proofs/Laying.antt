@@ -5,7 +5,6 @@ use mathlib.Core.List.{List, [], _∷_, _++_, map, flatMap, append-nil}
 use mathlib.Core.Bool.{false}
 use native.Mathlib.Omega.{arith}
 use lib.ListN.{length, length-append, length-map}
-use Rattle.words.specs.Words.{words}
 use Rattle.cut_lines.specs.Texts.{Text}
 use Rattle.records.specs.declared.Kind.the-variants.{OfPin, OfChoice}
 use Rattle.records.specs.Stored.{nameLaid, noCells}
@@ -99,7 +98,7 @@ Fits w = length w ≤ 40
 
 pins-fit : (ls : List (List ℕ)) → Every PinLine ls → Every Fits (map rowName ls)
 pins-fit [] p = tt
-pins-fit (w ∷ ls) p = (pin-sized (rowName w) (pin-named (p .0 .0) (words w) (p .0 .1)), pins-fit ls (p .1))
+pins-fit (w ∷ ls) p = (pin-sized (rowName w) (pin-named (p .0 .0) w (p .0 .1)), pins-fit ls (p .1))
 
 choices-fit : (ls : List (List ℕ)) → Every ChoiceLine ls → Every Fits (map rowName ls)
 choices-fit [] p = tt

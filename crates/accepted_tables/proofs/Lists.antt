@@ -7,7 +7,8 @@ use mathlib.Core.Bool.{Bool, true, false}
 use lib.Dec.{eqb}
 use Rattle.laws.specs.Bytes.{bytes, isBlank, isCapital, isLetter}
 use Rattle.laws.specs.Lists.{eqs, front}
-use Rattle.laws.specs.Said.{Said, says, faultIn}
+use Rattle.laws.specs.Said.{Result, says}
+use Rattle.records.specs.Flaws.{Flaw, flawIn}
 use Rattle.laws.proofs.Tests.{by-test, cond-no, impossible}
 use Rattle.laws.proofs.Same.{eqs-eq}
 use Rattle.decimal.specs.declared.Cell.{Cell}
@@ -21,13 +22,14 @@ use Rattle.line_rules.specs.Tables.{rampLines, fixtures}
 use Rattle.line_rules.proofs.Places.{named-at}
 use Rattle.given.specs.Given.{with, gave}
 use Rattle.given.specs.declared.Given.{Given}
-use Rattle.rules.specs.Model.{isNumber, rises, withRow, rampFault, beginsLetter}
+use Rattle.rules.specs.Model.{isNumber, rises, withRow, rampFlaw, beginsLetter}
 use Rattle.rules.specs.Reading.{ontoRows, rowsIn}
 use Rattle.rules.proofs.Lettered.{letter-no-row}
 use Rattle.rules.specs.declared.RowsSeen.{RowsSeen}
 use Rattle.rules.specs.declared.ModelList.{ModelList}
 use Rattle.rules.specs.declared.ModelList.the-variants.{ModelFirst, ModelShut, CurrentRows, RampLines, WaveformRows}
 use Rattle.rules.specs.declared.ModelState.{ModelState}
+use Rattle.accepted_tables.specs.Fallbacks.{Flawless}
 use Rattle.accepted_tables.specs.Facts.{Slopes}
 use Rattle.accepted_tables.proofs.Faults.{said, number-line-sure, slopes-line-sure}
 use Rattle.accepted_tables.proofs.Named.{taken-on}
@@ -36,7 +38,7 @@ use Rattle.accepted_tables.proofs.ModelSteps.{Shuts, ModelLine, firstLi
 
 -- ---- the line of a name, if it was given by the end, has Q: x is what was read of it before the lines ls
 
-abbrev pub Reads : {A : Type 0} → (A → Type 0) → Given → String → String → (List ℕ → Said A) → List (List ℕ) → Type 0
+abbrev pub Reads : {A : Type 0} → (A → Type 0) → Given → String → String → (List ℕ → Result Flaw A) → List (List ℕ) → Type 0
 Reads {A} Q g table name read ls = (x : A) → (gave g table name ≡ true → Q x) → Q (lineSays name read x ls)
 
 abbrev pub IsNumber : Cell → Type 0
@@ -85,11 +87,11 @@ voltage-place = refl
 
 -- ---- a named line
 
-ramp-fault : (w : List ℕ) (i : ℕ) → lineAt rampLines w ≡ At i → eqb i 2 ≡ false → rampFault w ≡ faultIn (slopesLine w)
-unfolding rampFault
-ramp-fault w i at h = rw (named-at rampLines "R_load" w i 2 at load-place, h)
+ramp-flaw : (w : List ℕ) (i : ℕ) → lineAt rampLines w ≡ At i → eqb i 2 ≡ false → rampFlaw w ≡ flawIn (slopesLine w)
+unfolding rampFlaw
+ramp-flaw w i at h = rw (named-at rampLines "R_load" w i 2 at load-place, h)
 
-module _ {A : Type 0} (Q : A → Type 0) (g : Given) (table name : String) (read : List ℕ → Said A) (w : List ℕ) (ls : List (List ℕ)) where
+module _ {A : Type 0} (Q : A → Type 0) (g : Given) (table name : String) (read : List ℕ → Result Flaw A) (w : List ℕ) (ls : List (List ℕ)) where
   pub reads-line : (i j : ℕ) → placeFrom 0 (bytes name) (words (bytes table)) ≡ At j → lineAt table w ≡ At i
       → (i ≡ j → (v : A) × (read w ≡ says v) × Q v) → Reads Q (with g i) table name read ls → Reads Q g table name read (w ∷ ls)
   unfolding lineSays
@@ -108,13 +110,13 @@ first-letter p [] h = h
 first-letter p (b ∷ bs) h = by-test (p b) (λ t. rw t at h) (λ t. let z : false ≡ true = rw t at h in cc)
 
 -- a name that begins with a letter is no row's
-row-unnamed : (name : String) (w : List ℕ) (y : Row) → beginsLetter (bytes name) ≡ true → rowOf (words w) ≡ says y → isNamed name w ≡ false
+row-unnamed : (name : String) (w : List ℕ) (y : Row) → beginsLetter (bytes name) ≡ true → rowOf w ≡ says y → isNamed name w ≡ false
 unfolding isNamed nameOf
 row-unnamed name w y l e =
     by-test (isNamed name w)
     (λ t.
     let b : beginsLetter (word 0 (words w)) ≡ true = first-letter _ (word 0 (words w)) (ap beginsLetter (eqs-eq (nameOf w) (bytes name) t) ∙ l) in
-    let z = sym (letter-no-row (words w) b) ∙ e in
+    let z = sym (letter-no-row w b) ∙ e in
     impossible (cc))
     (λ t. t)
 
@@ -127,15 +129,15 @@ unfolding beginsLetter isLetter isCapital
 voltage-letter = refl
 
 module _ (w : List ℕ) (ls : List (List ℕ)) where
-  row-more : (y : Row) → rowOf (words w) ≡ says y → rowsIn (w ∷ ls) ≡ y ∷ rowsIn ls
+  row-more : (y : Row) → rowOf w ≡ says y → rowsIn (w ∷ ls) ≡ y ∷ rowsIn ls
   unfolding rowsIn
-  row-more y e = ap (λ (x : Said Row). ontoRows x (rowsIn ls)) e
+  row-more y e = ap (λ (x : Result Flaw Row). ontoRows x (rowsIn ls)) e
 
   no-row : beginsLetter (word 0 (words w)) ≡ true → rowsIn (w ∷ ls) ≡ rowsIn ls
   unfolding rowsIn
-  no-row b = ap (λ (x : Said Row). ontoRows x (rowsIn ls)) (letter-no-row (words w) b)
+  no-row b = ap (λ (x : Result Flaw Row). ontoRows x (rowsIn ls)) (letter-no-row w b)
 
-  rows-more : (most : ℕ) (r : RowsSeen) (y : Row) → rowOf (words w) ≡ says y → rises r (y .number) ≡ true
+  rows-more : (most : ℕ) (r : RowsSeen) (y : Row) → rowOf w ≡ says y → rises r (y .number) ≡ true
       → RowsLeft most (withRow r (y .number) (isNumber (y .cells .typ))) (rowsIn ls) → RowsLeft most r (rowsIn (w ∷ ls))
   rows-more most r y e h so = subst (RowsLeft most r) (sym (row-more y e)) (one-more most r y (rowsIn ls) h so)
 
@@ -146,7 +148,7 @@ list-line m n w ls (firstLine i q at h ok) so = subst (λ (l : ModelList). ListR
 list-line m n w ls (currentRow o r y q e h) so = subst (λ (l : ModelList). ListReads l (w ∷ ls)) (sym q) (rows-more w ls 100 r y e h so)
 list-line m n w ls (rampLine o g i q at h ok) so =
     let own : (j : ℕ) → eqb j 2 ≡ false → i ≡ j → (v : RampTriple) × (slopesLine w ≡ says v) × Slopes v =
-    λ j z e. said (slopesLine w) (slopes-line-sure w) (sym (ramp-fault w j (at ∙ ap At e) z) ∙ ok) in
+    λ j z e. said (slopesLine w) (slopes-line-sure w) (subst Flawless (ramp-flaw w j (at ∙ ap At e) z) ok) in
     subst (λ (l : ModelList). ListReads l (w ∷ ls)) (sym q) (
       reads-line Slopes g rampLines "dV/dt_r" slopesLine w ls i 0 rise-place at (own 0 refl) (so .0),
       reads-line Slopes g rampLines "dV/dt_f" slopesLine w ls i 1 fall-place at (own 1 refl) (so .1),

@@ -7,7 +7,8 @@ use mathlib.Core.Bool.{true, false}
 use lib.Dec.{eqb}
 use borrow.Author.Tests.{eqb-true, eqb-false}
 use Rattle.laws.specs.Bytes.{bytes}
-use Rattle.laws.specs.Said.{Said, says}
+use Rattle.laws.specs.Said.{says}
+use Rattle.records.specs.Flaws.{Reads}
 use Rattle.laws.proofs.Tests.{by-test, cond-yes, cond-no, never}
 use Rattle.words.specs.Words.{words}
 use Rattle.name_table.specs.Names.{placeFrom}
@@ -29,7 +30,7 @@ module _ (table name : String) (j : ℕ) (placed : placeFrom 0 (bytes name) (wor
   pub gave-other : (g : Given) (i : ℕ) → eqb i j ≡ false → gave (with g i) table name ≡ gave g table name
   gave-other g i h = gave-place (with g i) ∙ has-other g j i (λ e. eqb-false i j h (sym e)) ∙ sym (gave-place g)
 
-  module _ {A : Type 0} (read : List ℕ → Said A) (x : A) (w : List ℕ) (i : ℕ) (at : lineAt table w ≡ At i) where
+  module _ {A : Type 0} (read : List ℕ → Reads A) (x : A) (w : List ℕ) (i : ℕ) (at : lineAt table w ≡ At i) where
     pub takes-other : eqb i j ≡ false → takes name read x w ≡ x
     unfolding takes
     takes-other h = cond-no _ _ (named-at table name w i j at placed ∙ h)

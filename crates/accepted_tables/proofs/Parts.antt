@@ -10,7 +10,7 @@ use lib.Dec.{eqb, leb}
 use borrow.Author.Tests.{eqb-true, eqb-false, leb-false}
 use Rattle.laws.specs.Bytes.{bytes, isBlank}
 use Rattle.laws.specs.Lists.{eqs, front, oneOf}
-use Rattle.laws.specs.Said.{Said, says, faultIn, orElse}
+use Rattle.laws.specs.Said.{Result, says, orElse}
 use Rattle.laws.proofs.Tests.{cond-all, cond-yes}
 use Rattle.decimal.specs.declared.Cell.the-variants.{Missing}
 use Rattle.words.specs.Words.{words, grown, ontoWord}
@@ -28,13 +28,13 @@ use Rattle.records.specs.declared.Range.{Range}
 use Rattle.records.specs.declared.RampTable.{RampTable}
 use Rattle.records.specs.declared.ModelType.{ModelType}
 use Rattle.records.specs.declared.Edge.the-variants.{Rising, Falling}
-use Rattle.line_rules.specs.Fields.{isBracketed, threeCells, wordLine, lineSays}
+use Rattle.line_rules.specs.Fields.{isBracketed, noArgument, threeCells, wordLine, lineSays}
 use Rattle.line_rules.specs.Tables.{modelTypes, rampLines, fixtures, tableKeywords, waveformKeywords}
 use Rattle.given.specs.Given.{has, with}
 use Rattle.given.specs.declared.Given.{Given}
 use Rattle.given.proofs.Laws.{has-other}
 use Rattle.rules.specs.Types.{isDriven}
-use Rattle.rules.specs.Model.{withFirst, modelPlace, modelFault, modelOpens, modelDone}
+use Rattle.rules.specs.Model.{withFirst, modelPlace, modelFlaw, modelOpens, modelDone}
 use Rattle.rules.specs.Reading.{keyName, under, keySays, rangeIn, rampIn, numberSaid, TableIs, tablesIn, rowsIn, isWithin}
 use Rattle.rules.specs.Keys.{keyAt}
 use Rattle.rules.proofs.Keys.{key-named, says-skip, says-key}
@@ -43,6 +43,9 @@ use Rattle.rules.specs.declared.Stage.the-variants.{InModel}
 use Rattle.layout_by_notes.proofs.Ahead.{tableOf, key-at, no-key, under-key, under-line, under-change}
 use Rattle.accepted_tables.specs.Facts.{Every, Slopes, RowsFacts}
 use Rattle.accepted_tables.proofs.Checks.{Passes}
+use Rattle.records.specs.Flaws.{Flaw, flawIn}
+use Rattle.records.specs.declared.LineFault.{LineFault}
+use Rattle.accepted_tables.specs.Fallbacks.{Flawless}
 use Rattle.accepted_tables.proofs.Faults.{said, cells-sure}
 use Rattle.accepted_tables.proofs.Named.{gave-none}
 use Rattle.accepted_tables.proofs.Rows.{rows-facts}
@@ -179,11 +182,11 @@ parts-line m n k w ts b y so =
     (driven-line m n k w ts b y)
     so
 
-parts-change : (m : ModelState) (k n : ℕ) (ts : List Text) → Parts m ts → Parts m (change k n ∷ ts)
-parts-change m k n ts so =
-    unkeyed m m (change k n) ts refl refl refl refl
-    (subst (ListReads (m .list)) (sym (under-change k n ts)) (so .list))
-    (ap (λ (ls : List (List ℕ)). wantsRamp (m .kind) (cond (isFirst (m .list)) ls [])) (under-change k n ts))
+parts-change : (m : ModelState) (k : ℕ) (f : LineFault) (ts : List Text) → Parts m ts → Parts m (change k f ∷ ts)
+parts-change m k f ts so =
+    unkeyed m m (change k f) ts refl refl refl refl
+    (subst (ListReads (m .list)) (sym (under-change k f ts)) (so .list))
+    (ap (λ (ls : List (List ℕ)). wantsRamp (m .kind) (cond (isFirst (m .list)) ls [])) (under-change k f ts))
     so
 
 -- ---- a keyword: its name by its place
@@ -238,11 +241,11 @@ module _ {A : Type 0} (read : List ℕ → List (List ℕ) → A) (x : A) (k : �
 
 -- ---- a keyword's own lines
 
-ranged : (a : List ℕ) (p : ModelPart) (j : ℕ) → leb j 1 ≡ true → modelPlace p ≡ j → modelFault a p ≡ 0 → IsNumber (orElse noCells (threeCells (words a)) .typ)
+ranged : (a : List ℕ) (p : ModelPart) (j : ℕ) → leb j 1 ≡ true → modelPlace p ≡ j → Flawless (modelFlaw a p) → IsNumber (orElse noCells (threeCells a) .typ)
 ranged a p j l e f =
-    let ok : faultIn (threeCells (words a)) ≡ 0 = sym (cond-yes _ _ (ap (λ (i : ℕ). leb i 1) e ∙ l)) ∙ f in
-    let v = said (threeCells (words a)) (cells-sure (words a)) ok in
-    subst (λ (x : Said Triple). IsNumber (orElse noCells x .typ)) (sym (v .1)) (v .2)
+    let ok : Flawless (flawIn (threeCells a)) = subst Flawless (cond-yes (flawIn (threeCells a)) (noArgument a) (ap (λ (i : ℕ). leb i 1) e ∙ l)) f in
+    let v = said (threeCells a) (cells-sure a) ok in
+    subst (λ (x : Result Flaw Triple). IsNumber (orElse noCells x .typ)) (sym (v .1)) (v .2)
 
 module _ (k : ℕ) (ls : List (List ℕ)) where
   ramp-opened : (p : ModelPart) (a : List ℕ) → modelPlace p ≡ 6 → ListReads (modelOpens k p) ls → RampReads (rampIn a ls)

@@ -42,12 +42,12 @@ checks-passed es o z q =
     (λ f.
     by-test (eqb (firstFailing (listedIn es) es) 0)
     (λ g. record { found = eqb-true _ _ f; listed = eqb-true _ _ g })
-    (λ g. let e : refused 16 (firstFailing (listedIn es) es) ≡ passed z = sym (cond-no _ _ g) ∙ sym (cond-yes _ _ f) ∙ q in impossible (cc)))
-    (λ f. let e : refused 15 (firstFailing (found es) es) ≡ passed z = sym (cond-no _ _ f) ∙ q in impossible (cc))
+    (λ g. let e : refused 16 (firstFailing (listedIn es) es) 0 ≡ passed z = sym (cond-no _ _ g) ∙ sym (cond-yes _ _ f) ∙ q in impossible (cc)))
+    (λ f. let e : refused 15 (firstFailing (found es) es) 0 ≡ passed z = sym (cond-no _ _ f) ∙ q in impossible (cc))
 
 concluded-passed : (o : Outcome) (z : Held) → concluded o ≡ passed z → (h : Held) × (o ≡ passed h) × Checked (reverse (h .entries))
 concluded-passed (passed h) z q = (h, refl, checks-passed (reverse (h .entries)) (passed h) z q)
-concluded-passed (refused n k) z q = impossible (cc)
+concluded-passed (refused n k c) z q = impossible (cc)
 
 -- ---- the notes
 

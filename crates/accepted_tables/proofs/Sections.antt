@@ -2,14 +2,12 @@
 use Prim.Native.Nat.{ℕ}
 use mathlib.Core.Path.{_≡_, refl, sym, ap, subst, _∙_}
 use mathlib.Core.List.{List, [], _∷_}
-use mathlib.Core.Bool.{Bool, true, false, not}
+use mathlib.Core.Bool.{Bool, true, false}
 use mathlib.Core.Option.{Option, none, some}
-use lib.ListN.{length}
-use lib.Dec.{eqb, leb}
-use borrow.Author.Tests.{not-false}
+use lib.Dec.{leb}
 use Rattle.laws.specs.Lists.{front}
-use Rattle.laws.specs.Said.{Said, says, fault}
-use Rattle.laws.proofs.Tests.{by-test, cond-all, cond-yes, cond-no, and-second, impossible}
+use Rattle.laws.specs.Said.{Result, Said, says, fault}
+use Rattle.laws.proofs.Tests.{by-test, cond-all, cond-yes, cond-no, impossible}
 use Rattle.words.specs.Words.{word, words}
 use Rattle.keywords.specs.Form.{argument}
 use Rattle.keywords.specs.Carried.{keyOf}
@@ -18,7 +16,7 @@ use Rattle.keywords.specs.declared.Keyword.the-variants as key
 use Rattle.keywords.specs.declared.Section.{Section}
 use Rattle.keywords.specs.declared.Section.the-variants.{Component, Selector, Model}
 use Rattle.cut_lines.specs.Texts.{Text, plain, change}
-use Rattle.line_rules.specs.Fields.{isBracketed, isSized, isModelName, oneWord}
+use Rattle.line_rules.specs.Fields.{isBracketed, isSized, isModelName}
 use Rattle.given.specs.Given.{noneGiven}
 use Rattle.rules.specs.Going.{andThen}
 use Rattle.rules.specs.Model.{newModel}
@@ -39,7 +37,10 @@ use Rattle.rules.specs.declared.Event.{Event}
 use Rattle.rules.specs.declared.Event.the-variants.{Opened}
 use Rattle.layout_by_notes.proofs.Goes.{Goes, past-closing, anywhere}
 use Rattle.accepted_tables.specs.Facts.{Every}
-use Rattle.accepted_tables.proofs.Checks.{past-refuse, gone, Runs}
+use Rattle.records.specs.Flaws.{bare}
+use Rattle.records.specs.declared.LineFault.{LineFault}
+use Rattle.accepted_tables.proofs.Checks.{past-passes, gone, Runs}
+use Rattle.accepted_tables.proofs.Faults.{alone-passes, sized-passes}
 
 abbrev pub newComponent : ℕ → ComponentState
 newComponent k = record { line = k; first = noneGiven; parts = noneGiven; list = ComponentFirst }
@@ -58,27 +59,24 @@ Opening k w (some Model) u e = (u ≡ InModel (newModel k)) × (isModelName (wor
 abbrev Opens : ℕ → List ℕ → Option Section → Stage → Event → Type 0
 Opens k w o u e = Opening k w o u e
 
-pub one-word : (p : List ℕ → Bool) (ws : List (List ℕ)) → not (oneWord p ws) ≡ false → p (word 0 ws) ≡ true
-unfolding oneWord
-one-word p ws h = and-second (eqb (length ws) 1) (p (word 0 ws)) (not-false (oneWord p ws) h)
+opened-goes : (k : ℕ) (w : List ℕ) (o : Section) → Goes (Opens k (argument w) (some o)) (opened k w o)
+unfolding opened
+opened-goes k w Component = past-passes (Opens k (argument w) (some Component)) _ k _ (λ h. (refl, sized-passes (argument w) h, refl))
+opened-goes k w Selector = past-passes (Opens k (argument w) (some Selector)) _ k _ (λ h. (refl, alone-passes isModelName (argument w) h, refl))
+opened-goes k w Model = past-passes (Opens k (argument w) (some Model)) _ k _ (λ h. (refl, alone-passes isModelName (argument w) h, refl))
 
-opened-goes : (k : ℕ) (w : List ℕ) (o : Section) → Goes (Opens k w (some o)) (opened k w o)
-opened-goes k w Component = past-refuse (Opens k w (some Component)) (not (isSized 40 w)) 10 k _ (λ h. (refl, not-false (isSized 40 w) h, refl))
-opened-goes k w Selector = past-refuse (Opens k w (some Selector)) (not (oneWord isModelName (words w))) 10 k _ (λ h. (refl, one-word isModelName (words w) h, refl))
-opened-goes k w Model = past-refuse (Opens k w (some Model)) (not (oneWord isModelName (words w))) 10 k _ (λ h. (refl, one-word isModelName (words w) h, refl))
-
-keyword-goes : (s : Stage) (k : ℕ) (w : List ℕ) (x : Keyword) → Goes (Opens k w (opens (some x))) (onKeyword s k w x)
+keyword-goes : (s : Stage) (k : ℕ) (w : List ℕ) (x : Keyword) → Goes (Opens k (argument w) (opens (some x))) (onKeyword s k w x)
 keyword-goes s k w key.IbisVer = anywhere (onKeyword s k w key.IbisVer)
 keyword-goes s k w (key.InHeader p) = anywhere (onKeyword s k w (key.InHeader p))
 keyword-goes s k w (key.Opens o) =
-    past-closing (Opens k w (some o)) (λ (t : Stage). Unit {0}) _ (done k s) (anywhere (done k s)) (λ t q. opened-goes k w o)
+    past-closing (Opens k (argument w) (some o)) (λ (t : Stage). Unit {0}) _ (done k s) (anywhere (done k s)) (λ t q. opened-goes k w o)
 keyword-goes s k w (key.InComponent p) = anywhere (onKeyword s k w (key.InComponent p))
 keyword-goes s k w (key.InModel p) = anywhere (onKeyword s k w (key.InModel p))
 keyword-goes s k w key.End = anywhere (onKeyword s k w key.End)
 
 keyed-goes : (s : Stage) (k : ℕ) (w : List ℕ) (x : Said Keyword) → Goes (Opens k (argument w) (opens (keyIn x))) (keyed s k w x)
 keyed-goes s k w (fault n) = tt
-keyed-goes s k w (says x) = keyword-goes s k (argument w) x
+keyed-goes s k w (says x) = keyword-goes s k w x
 
 abbrev AtText : Text → Stage → Event → Type 0
 AtText t u e = Opening (lineOf t) (argumentAt t) (opens (keyAt t)) u e
@@ -92,7 +90,7 @@ text-goes s (plain k w) =
     (past-closing (Opens k (argument w) (opens (keyIn (keyOf w)))) (λ (t : Stage). Unit {0}) (λ (t : Stage). keyed t k w (keyOf w)) (shut k s) (anywhere (shut k s)) (λ t q. keyed-goes t k w (keyOf w))))
     (λ b.
     subst (λ (x : Option Keyword). Goes (Opens k (argument w) (opens x)) (onLine s k w)) (sym (cond-no (keyIn (keyOf w)) none b)) (anywhere (onLine s k w)))
-text-goes s (change k n) = anywhere (onText s (change k n))
+text-goes s (change k f) = anywhere (onText s (change k f))
 
 -- ---- a section's texts are those of a file that goes on
 
@@ -114,14 +112,15 @@ SectionPasses l (model w ts) = (k : ℕ) × Continues l (InModel (newModel k)) t
 pub entry-admitted : (l : Lengths) (h : Held) (e : Entry) (g : Held) → admitEntry l h e ≡ says g → (isUsed (e .kind) (e .name) (h .entries) ≡ false) × (g .entries ≡ e ∷ h .entries)
 unfolding admitEntry
 entry-admitted l h e g q =
+    let kept : Result LineFault Held = says (record { entries = e ∷ h .entries; waveforms = h .waveforms; rows = h .rows }) in
     let full : Bool = leb (bound l (e .kind)) (count (is (e .kind)) (h .entries)) in
     by-test (isUsed (e .kind) (e .name) (h .entries))
-    (λ t. let z : fault 14 ≡ says g = sym (cond-yes _ _ t) ∙ q in impossible (cc))
+    (λ t. let z : fault (bare 14) ≡ says g = sym (cond-yes _ _ t) ∙ q in impossible (cc))
     (λ t.
     by-test full
-    (λ u. let z : fault 17 ≡ says g = sym (cond-yes _ _ u) ∙ sym (cond-no _ _ t) ∙ q in impossible (cc))
+    (λ u. let z : fault (bare 17) ≡ says g = sym (cond-yes _ _ u) ∙ sym (cond-no _ _ t) ∙ q in impossible (cc))
     (λ u.
-    let z : says (record { entries = e ∷ h .entries; waveforms = h .waveforms; rows = h .rows }) ≡ says g = sym (cond-no _ _ u) ∙ sym (cond-no _ _ t) ∙ q in
+    let z : kept ≡ says g = sym (cond-no _ _ u) ∙ sym (cond-no _ _ t) ∙ q in
     let same : record { entries = e ∷ h .entries; waveforms = h .waveforms; rows = h .rows } ≡ g = cc in
     (t, ap (λ (x : Held). x .entries) (sym same))))
 
@@ -154,7 +153,7 @@ section-passes l h g t ts u e more (some Model) q a r so = ((lineOf t, continues
 section-text : (l : Lengths) (h g : Held) (t : Text) (ts : List Text) (u : Stage) (e : Event) → AtText t u e → admit l h (lineOf t) (textOf t) e ≡ says g → Runs l g u ts
     → Every (SectionPasses l) (sectionsIn ts) → Every (SectionPasses l) (ontoSections (argumentAt t) (front isWithin ts) (sectionsIn ts) (opens (keyAt t)))
 section-text l h g (plain k w) ts u e q a r so = section-passes l h g (plain k w) ts u e (sectionsIn ts) (opens (keyAt (plain k w))) q a r so
-section-text l h g (change k n) ts u e q a r so = so
+section-text l h g (change k f) ts u e q a r so = so
 
 pub sections-pass : (l : Lengths) (ts : List Text) (h : Held) (s : Stage) → Runs l h s ts → Every (SectionPasses l) (sectionsIn ts)
 unfolding sectionsIn

@@ -47,12 +47,12 @@ module _ (t : Lent) (long : AtBounds t) (r : Answer) (u : Lent) where
     rows = ap (λ (c : Counts). c .rows) counts
 
   -- ---- what it says of a file that is refused
-  pub told : Reads misnamed t r u → r .verdict ≡ Refused (record { number = 15; line = 12 })
-  told reads = strength.refuses-it misnamed t r u reads 15 12 (at misnamed ∙ misnamed-fails)
+  pub told : Reads misnamed t r u → r .verdict ≡ Refused (record { number = 15; line = 12; column = 0 })
+  told reads = strength.refuses-it misnamed t r u reads 15 12 0 (at misnamed ∙ misnamed-fails)
 
   -- "after a fault, the lent tables hold what they held before"
   pub kept : Reads misnamed t r u → u ≡ t
-  kept reads = strength.leaves-it misnamed t r u reads 15 12 (at misnamed ∙ misnamed-fails)
+  kept reads = strength.leaves-it misnamed t r u reads 15 12 0 (at misnamed ∙ misnamed-fails)
 
   -- ---- the five
 

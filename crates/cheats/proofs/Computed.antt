@@ -34,7 +34,7 @@ pub listed-passes : AcceptedFile atBounds listed
 unfolding computing
 listed-passes = record { held = _; passes = refl }
 
-pub misnamed-fails : outcome atBounds misnamed ≡ refused 15 12
+pub misnamed-fails : outcome atBounds misnamed ≡ refused 15 12 0
 unfolding computing
 misnamed-fails = refl
 

@@ -1,9 +1,9 @@
 -- The words of a row by their places: the first from a place on, and the others behind it.
-use Prim.Native.Nat.{ℕ, _+_, _-_, _≤_}
+use Prim.Native.Nat.{ℕ, suc, _+_, _-_, _≤_}
 use mathlib.Core.Path.{_≡_, refl, sym, ap, _∙_}
 use mathlib.Core.List.{List, [], _∷_}
 use native.Mathlib.Omega.{arith}
-use lib.ListN.{length, drop, drop-of-length-le, length-drop}
+use lib.ListN.{length, drop, length-drop}
 use lib.Seq.{drop-drop}
 use Rattle.laws.specs.Bytes.{isBlank}
 use Rattle.laws.specs.Lists.{front, after, part}
@@ -11,40 +11,40 @@ use Rattle.laws.proofs.Tests.{by-order}
 use Rattle.laws.proofs.Lists.{part-none, part-length}
 use Rattle.laws.proofs.Fronts.{after-at, front-le}
 use Rattle.laws.specs.Said.{orElse}
-use Rattle.words.specs.Words.{word, words}
-use Rattle.words.specs.Places.{WordAt, isInk}
+use Rattle.words.specs.Words.{word, words, isInk, restFrom}
+use Rattle.words.specs.Places.{WordAt}
 use Rattle.words.specs.declared.Word.{Word}
-use Rattle.words.proofs.Laws.{words-none, words-some}
+use Rattle.words.proofs.Laws.{words-rest, words-none, words-some}
 use Rattle.line_cells.specs.Threes.{bytesOf, Within}
+use Rattle.line_cells.proofs.Rows.{pin-cells-blank}
 use Rattle.line_rules.specs.Answers.{tripleRead, tripleSays}
 use Rattle.line_rules.specs.declared.TripleRead.{TripleRead}
 use Rattle.line_rules.proofs.Answers.{triple-said}
 use Rattle.rules.specs.Component.{keptModel, pinCells, pinIn}
+use Rattle.records.specs.Flaws.{toldIn}
 use Rattle.records.specs.Stored.{nameLaid, noCells}
+use Rattle.records.proofs.Columns.{told-else}
 
 pub record WordFrom (s : List ℕ) (at : ℕ) (r : Word) : Type 0 where
   pub text : bytesOf s r ≡ word 0 (words (drop at s))
   pub others : words (drop (r .end) s) ≡ drop 1 (words (drop at s))
+  pub next : (n : ℕ) → restFrom (suc n) (drop at s) ≡ restFrom n (drop (r .end) s)
   pub within : Within s r
 
 pub word-from : (s : List ℕ) (at : ℕ) (r : Word) → WordAt s at r → WordFrom s at r
 unfolding word words
 word-from s at r h =
-    by-order (length s) (r .start)
-    (λ k.
-    let e : r .end ≡ r .start = omega (arith, h .starts, h .ends) in
-    let l : length s ≤ r .end = omega (arith, h .starts) in
     record {
-      text = ap (λ (n : ℕ). part (r .start) n s) e ∙ part-none s (r .start) ∙ sym (ap (word 0) (h .none k));
-      others = ap words (drop-of-length-le s l) ∙ sym (ap (λ (l : List (List ℕ)). drop 1 l) (h .none k));
+      text =
+          by-order (length s) (r .start)
+          (λ k.
+          let e : r .end ≡ r .start = omega (arith, h .starts, h .ends) in
+          ap (λ (n : ℕ). part (r .start) n s) e ∙ part-none s (r .start) ∙ sym (ap (word 0) (h .none k)))
+          (λ k. sym (ap (word 0) (h .some k)));
+      others = sym (words-rest 0 (drop (r .end) s)) ∙ ap words (sym (h .next 0)) ∙ words-rest 1 (drop at s);
+      next = h .next;
       within = record { starts = h .starts; ends = h .ends };
-    })
-    (λ k.
-    record {
-      text = sym (ap (word 0) (h .some k));
-      others = sym (ap (λ (l : List (List ℕ)). drop 1 l) (h .some k));
-      within = record { starts = h .starts; ends = h .ends };
-    })
+    }
 
 -- words by their places
 word-second : (ws : List (List ℕ)) → word 0 (drop 1 ws) ≡ word 1 ws
@@ -58,16 +58,10 @@ word-third [] = refl
 word-third (a ∷ []) = refl
 word-third (a ∷ b ∷ ws) = refl
 
-drop-third : (ws : List (List ℕ)) → drop 1 (drop 1 (drop 1 ws)) ≡ drop 3 ws
-drop-third [] = refl
-drop-third (a ∷ []) = refl
-drop-third (a ∷ b ∷ []) = refl
-drop-third (a ∷ b ∷ c ∷ ws) = refl
-
 -- ---- a pin row: three words, each from where the one before ends, and the cells behind them
 
 module _ (w : List ℕ) (name signal model : Word) (a : WordFrom w 0 name) (b : WordFrom w (name .end) signal) (c : WordFrom w (signal .end) model) where
-  pub pin-is : (r : TripleRead) → r ≡ tripleRead (pinCells (words (drop (model .end) w)))
+  pub pin-is : (r : TripleRead) → r ≡ tripleRead (toldIn w (pinCells (drop (model .end) w)))
       → (let cells = orElse noCells (tripleSays r) in
       record {
         name = nameLaid (bytesOf w name);
@@ -83,8 +77,12 @@ module _ (w : List ℕ) (name signal model : Word) (a : WordFrom w 0 name) (b : 
       let next : List (List ℕ) → List (List ℕ) = λ l. drop 1 l in
       let second = b .text ∙ ap (word 0) (a .others) ∙ word-second (words w) in
       let third = c .text ∙ ap (word 0) (b .others ∙ ap next (a .others)) ∙ word-third (words w) in
-      let behind = c .others ∙ ap next (b .others ∙ ap next (a .others)) ∙ drop-third (words w) in
-      let cells = triple-said r (pinCells (words (drop (model .end) w))) e ∙ ap pinCells behind in
+      let behind = ap pinCells (a .next 2 ∙ b .next 1 ∙ c .next 0) ∙ pin-cells-blank (drop (model .end) w) in
+      let cells =
+      ap (orElse noCells) (triple-said r (toldIn w (pinCells (drop (model .end) w))) e)
+      ∙ told-else w noCells (pinCells (drop (model .end) w))
+      ∙ ap (orElse noCells) (sym behind)
+      in
       rw (a .text, second, third, cells)
 
 -- ---- a selector row

@@ -110,7 +110,7 @@ fn site_line(s: Sites, w: &[u8]) -> Sites
     match named_lines::component_line(w) {
         Found::At(n) => match named_lines::location_of(w) {
             LocationRead::Located(l) => site_at(s, n, l),
-            LocationRead::NoLocation => s,
+            LocationRead::NoLocation(_) => s,
         },
         Found::Nothing => s,
     }

@@ -1,19 +1,24 @@
 // The steps of [Component] and [Model Selector].
 ghost use mathlib.Core.Path.{_≡_};
-ghost use mathlib.Core.Bool.{true, false, _&&_};
+ghost use mathlib.Core.Bool.{true, false};
+ghost use Prim.Native.Nat.{_≤_};
+ghost use lib.ListN.{length, drop};
 ghost use Rattle.laws.specs.Said.{orElse};
-ghost use Rattle.words.specs.Words.{words};
+ghost use Rattle.records.specs.Flaws.{told};
+ghost use Rattle.keywords.specs.Answers.{ArgumentFrom};
 ghost use Rattle.given.specs.Given.{noneGiven};
-ghost use Rattle.line_rules.specs.Fields.{isPinName, isSized, isPinModel, heading};
-ghost use Rattle.rules.specs.Component.{withList, pinFault, componentLine, componentPlace, componentOpens, componentPart, componentShut, componentDone};
+ghost use Rattle.line_rules.specs.Fields.{heading};
+ghost use Rattle.rules.specs.Component.{withList, pinFlaw, componentLine, componentPlace, componentOpens, componentPart, componentShut, componentDone};
 ghost use Rattle.rules.specs.Selector.{selectorLine, selectorShut};
 ghost use Rattle.rules.specs.declared.ComponentList.the-variants.{ComponentFirst, PackageLines, PinRows};
-ghost use Rattle.line_cells.specs.Threes.{bytesOf, Within};
-ghost use Rattle.component_steps.specs.Steps.{NamesLie, allThree, shutIf};
+ghost use Rattle.line_cells.specs.Threes.{Within};
+ghost use Rattle.component_steps.specs.Steps.{NamesLie, namesFault, allThree, shutIf};
 use given::Given;
 use keywords::ComponentPart;
 use line_cells::HeadingRead;
 use name_table::Found;
+use named_lines::Form;
+use records::LineFault;
 use rules::ComponentList;
 use rules::ComponentState;
 use rules::Event;
@@ -43,26 +48,29 @@ pub fn new_component(k: u64) -> ComponentState
 
 // ---- a pin row
 
-// The forms of a row's three names.
-fn names_pass(w: &[u8], pin: Word, signal: Word, model: Word) -> bool
+// What is wrong with a row's three names, which lie here: the leftmost counts.
+fn names_fault(w: &[u8], pin: Word, signal: Word, model: Word) -> LineFault
     requires { ⌜ Within (now w) pin ⌝ }
     requires { ⌜ Within (now w) signal ⌝ }
     requires { ⌜ Within (now w) model ⌝ }
-    ensures { λ r. ⌜ r ≡ (isPinName (bytesOf (now (w .entry)) pin) && (isSized 40 (bytesOf (now (w .entry)) signal) && isPinModel (bytesOf (now (w .entry)) model))) ⌝ }
+    ensures { λ r. ⌜ r ≡ namesFault (now (w .entry)) pin signal model ⌝ }
 {
     let pin_start = pin.start;
     let pin_end = pin.end;
     if !named_lines::pin_name(&w[pin_start..pin_end]) {
-        return false;
+        return records::at_fault(10, pin_start);
     }
     let signal_start = signal.start;
     let signal_end = signal.end;
     if !named_lines::sized(&w[signal_start..signal_end], 40) {
-        return false;
+        return records::at_fault(10, signal_start);
     }
     let model_start = model.start;
     let model_end = model.end;
-    named_lines::pin_model(&w[model_start..model_end])
+    if !named_lines::pin_model(&w[model_start..model_end]) {
+        return records::at_fault(10, model_start);
+    }
+    records::bare_fault(0)
 }
 
 // Where a row's three names lie.
@@ -80,25 +88,26 @@ pub fn pin_names(w: &[u8]) -> PinNames
 }
 
 // Three names, which lie here; cells behind them stand under the long heading alone.
-pub fn row_fault(w: &[u8], names: PinNames, long: bool) -> u8
+pub fn row_fault(w: &[u8], names: PinNames, long: bool) -> LineFault
     requires { ⌜ NamesLie (now w) names ⌝ }
-    ensures { λ r. ⌜ r ≡ pinFault long (words (now (w .entry))) ⌝ }
+    ensures { λ r. ⌜ r ≡ told (now (w .entry)) (pinFlaw long (now (w .entry))) ⌝ }
 {
     let pin = names.pin;
     let signal = names.signal;
     let model = names.model;
-    if w.len() <= model.start {
-        return 10;
-    }
-    if !names_pass(w, pin, signal, model) {
-        return 10;
+    let fault = names_fault(w, pin, signal, model);
+    if fault.number != 0 {
+        return fault;
     }
     // A part is handed on, and w itself stays where it is quickest read.
     if long {
         return line_cells::triple_fault(line_cells::pin_cells(&w[0..], model.end));
     }
     let cell = words::word_at(w, model.end);
-    if cell.start < w.len() { 10 } else { 0 }
+    if cell.start < w.len() {
+        return records::at_fault(10, cell.start);
+    }
+    records::bare_fault(0)
 }
 
 // ---- a line that is no keyword line, by the list that is open
@@ -108,15 +117,15 @@ fn location_line(c: ComponentState, k: u64, w: &[u8]) -> Went
 {
     let found = named_lines::component_line(w);
     let Found::At(n) = found else {
-        return rules::stopped(10, k);
+        return rules::stopped_at(named_lines::name_fault(w), k);
     };
     let first = c.first;
     if given::is_given(first, n) {
         return rules::stopped(8, k);
     }
     let fault = line_faults::location_fault(w);
-    if fault != 0 {
-        return rules::stopped(fault, k);
+    if fault.number != 0 {
+        return rules::stopped_at(fault, k);
     }
     let parts = c.parts;
     let list = c.list;
@@ -149,14 +158,14 @@ fn package_line(c: ComponentState, o: u64, g: Given, k: u64, w: &[u8]) -> Went
 {
     let found = named_lines::package_line(w);
     let Found::At(n) = found else {
-        return rules::stopped(10, k);
+        return rules::stopped_at(named_lines::name_fault(w), k);
     };
     if given::is_given(g, n) {
         return rules::stopped(8, k);
     }
-    let fault = line_cells::triple_fault(line_faults::cells_line(w));
-    if fault != 0 {
-        return rules::stopped(fault, k);
+    let fault = line_faults::cells_fault(w);
+    if fault.number != 0 {
+        return rules::stopped_at(fault, k);
     }
     let list = ComponentList::PackageLines {
         line: o,
@@ -170,8 +179,8 @@ fn rows_line(c: ComponentState, o: u64, long: bool, k: u64, w: &[u8]) -> Went
     ensures { λ r. ⌜ r ≡ componentLine c k (now (w .entry)) (PinRows o long true) ⌝ }
 {
     let fault = row_fault(w, pin_names(w), long);
-    if fault != 0 {
-        return rules::stopped(fault, k);
+    if fault.number != 0 {
+        return rules::stopped_at(fault, k);
     }
     let list = ComponentList::PinRows {
         line: o,
@@ -206,9 +215,10 @@ fn part_place(p: ComponentPart) -> usize
     }
 }
 
-// The list that a keyword at line k opens.
-fn part_opens(k: u64, argument: &[u8], p: ComponentPart) -> ComponentList
-    ensures { λ r. ⌜ r ≡ componentOpens k (now (argument .entry)) p ⌝ }
+// The list that a keyword at line k opens, whose argument begins at a place.
+fn part_opens(k: u64, w: &[u8], at: usize, p: ComponentPart) -> ComponentList
+    requires { ⌜ at ≤ length (now w) ⌝ }
+    ensures { λ r. ⌜ r ≡ componentOpens k (drop at (now (w .entry))) p ⌝ }
 {
     match p {
         ComponentPart::Manufacturer => ComponentList::ComponentShut,
@@ -218,42 +228,44 @@ fn part_opens(k: u64, argument: &[u8], p: ComponentPart) -> ComponentList
         },
         ComponentPart::Pin => ComponentList::PinRows {
             line: k,
-            long: is_long(argument),
+            long: is_long(w, at),
             any: false,
         },
     }
 }
 
 // The heading of the pins is the long one.
-fn is_long(argument: &[u8]) -> bool
-    ensures { λ r. ⌜ r ≡ orElse false (heading (words (now (argument .entry)))) ⌝ }
+fn is_long(w: &[u8], at: usize) -> bool
+    requires { ⌜ at ≤ length (now w) ⌝ }
+    ensures { λ r. ⌜ r ≡ orElse false (heading (drop at (now (w .entry)))) ⌝ }
 {
-    match line_cells::heading_of(argument) {
+    match line_cells::heading_of(w, at) {
         HeadingRead::Short => false,
         HeadingRead::Long => true,
-        HeadingRead::NoHeading => false,
+        HeadingRead::NoHeading(_) => false,
     }
 }
 
-// A keyword of a component at line k.
-pub fn component_part(c: ComponentState, k: u64, argument: &[u8], p: ComponentPart) -> Went
-    ensures { λ r. ⌜ r ≡ componentPart c k (now (argument .entry)) p ⌝ }
+// A keyword of a component at line k, whose argument begins at a place.
+pub fn component_part(c: ComponentState, k: u64, w: &[u8], at: usize, p: ComponentPart) -> Went
+    requires { ⌜ ArgumentFrom (now w) at ⌝ }
+    ensures { λ r. ⌜ r ≡ componentPart c k (now (w .entry)) p ⌝ }
 {
     let place = part_place(p);
     let parts = c.parts;
     if given::is_given(parts, place) {
         return rules::stopped(8, k);
     }
-    let fault = line_faults::component_fault(argument, p);
-    if fault != 0 {
-        return rules::stopped(fault, k);
+    let fault = line_faults::component_fault(w, at, p);
+    if fault.number != 0 {
+        return rules::stopped_at(fault, k);
     }
     let first = c.first;
     let next = ComponentState {
         line: c.line,
         first: first,
         parts: given::also(parts, place),
-        list: part_opens(k, argument, p),
+        list: part_opens(k, w, at, p),
     };
     Went::On(Stage::InComponent(next), Event::Quiet)
 }
@@ -323,11 +335,9 @@ pub fn new_selector(k: u64) -> SelectorState
 pub fn selector_line(s: SelectorState, k: u64, w: &[u8]) -> Went
     ensures { λ r. ⌜ r ≡ selectorLine s k (now (w .entry)) ⌝ }
 {
-    let name = named_lines::first_word(w);
-    let start = name.start;
-    let end = name.end;
-    if !named_lines::model_name(&w[start..end]) {
-        return rules::stopped(10, k);
+    let fault = named_lines::word_fault(w, 0, Form::ModelName);
+    if fault.number != 0 {
+        return rules::stopped_at(fault, k);
     }
     let next = SelectorState {
         line: s.line,

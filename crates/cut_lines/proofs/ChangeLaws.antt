@@ -5,22 +5,26 @@ use mathlib.Core.Path.{_≡_, refl, sym, ap, _∙_}
 use mathlib.Core.List.{List, [], _∷_}
 use mathlib.Core.Bool.{true, false, cond, _&&_}
 use native.Mathlib.Omega.{arith}
-use lib.ListN.{length, take, drop, getD, drop-of-length-le, length-take}
+use lib.ListN.{length, drop, getD, drop-of-length-le}
 use lib.Seq.{drop-drop}
 use lib.Dec.{eqb}
 use borrow.Author.Tests.{eq-eqb, ne-eqb}
 use Rattle.laws.specs.Bytes.{bytes, isBlank}
 use Rattle.laws.specs.Lists.{begins, front, after, among, eqs, other, part}
-use Rattle.laws.specs.Said.{Said, says, fault}
+use Rattle.laws.specs.Said.{Result, says, fault}
+use Rattle.words.specs.Words.{isInk}
+use Rattle.records.specs.Flaws.{Reads, flaw, columnIn, toldIn, bare, atPlace}
+use Rattle.records.proofs.Columns.{told-at}
+use Rattle.records.specs.declared.LineFault.{LineFault}
 use Rattle.cut_lines.specs.Cursors.{changeRead, changeSays}
 use Rattle.cut_lines.specs.declared.ChangeRead.{ChangeRead}
+use Rattle.cut_lines.specs.declared.ChangeRead.the-variants.{Wrong}
 use Rattle.laws.proofs.Tests.{cond-yes, cond-no, and-both, and-left, and-right}
 use Rattle.laws.proofs.Lists.{from-cons}
-use Rattle.laws.proofs.Fronts.{after-at, after-stops, other-is}
-use Rattle.laws.proofs.Same.{eqs-apart}
+use Rattle.laws.proofs.Fronts.{after-at, front-at, after-stops, other-is}
 use Rattle.keywords.specs.Form.{closing, isClosed, spelled, argument}
 use Rattle.keywords.proofs.Laws.{inside-at, closing-at}
-use Rattle.cut_lines.specs.Change.{isChange, marks, noneOr, isRemark, changeTo, changeOf}
+use Rattle.cut_lines.specs.Change.{isChange, marks, noneOr, changeTo, changeOf}
 
 -- ---- what begins a list
 
@@ -61,7 +65,7 @@ module _ (w : List ℕ) (stop : ℕ) (found : stop ≡ 1 + length (front (other 
 
   -- ---- `changeOf`
 
-  pub change-unclosed : isClosed (drop stop w) ≡ false → changeOf w ≡ fault 5
+  pub change-unclosed : isClosed (drop stop w) ≡ false → changeOf w ≡ fault (flaw 5 [])
   unfolding changeOf
   change-unclosed h = cond-no _ _ (ap isClosed (sym (closing-at w stop found)) ∙ h)
 
@@ -74,71 +78,70 @@ module _ (w : List ℕ) (stop : ℕ) (found : stop ≡ 1 + length (front (other 
       ∙ ap (λ (x : List ℕ). changeTo (after isBlank x)) (drop-drop 1 stop w)
       ∙ ap changeTo (after-at isBlank w (stop + 1) at e)
 
-pub change-none : (w : List ℕ) → length w ≡ 0 → changeOf w ≡ fault 5
+pub change-none : (w : List ℕ) → length w ≡ 0 → changeOf w ≡ fault (flaw 5 [])
 unfolding changeOf closing after isClosed
 change-none [] h = refl
 change-none (b ∷ w) h = absurd (omega arith)
 
--- ---- `isRemark`
-
-module _ (x : ℕ) (w : List ℕ) (at : ℕ) where
-  pub remark-end : length w ≤ at → isRemark x (drop at w) ≡ true
-  unfolding isRemark
-  remark-end h = rw (drop-of-length-le w h)
-
-  pub remark-other : at < length w → isBlank (getD w at 0) ≡ false → isRemark x (drop at w) ≡ false
-  unfolding isRemark
-  remark-other h e = rw (from-cons w at 0 h, e)
-
-  module _ (h : at < length w) (e : isBlank (getD w at 0) ≡ true) (next : ℕ) (q : next ≡ at + length (front isBlank (drop at w))) where
-    remark-blank : isRemark x (drop at w) ≡ noneOr x (drop next w)
-    unfolding isRemark
-    remark-blank =
-        ap (isRemark x) (from-cons w at 0 h)
-        ∙ rw e (ap (λ (l : List ℕ). noneOr x (after isBlank l)) (sym (from-cons w at 0 h)) ∙ ap (noneOr x) (after-at isBlank w at next q))
-
-    pub remark-blanks : length w ≤ next → isRemark x (drop at w) ≡ true
-    unfolding noneOr
-    remark-blanks k = remark-blank ∙ rw (drop-of-length-le w k)
-
-    pub remark-next : next < length w → isRemark x (drop at w) ≡ eqb (getD w next 0) x
-    unfolding noneOr
-    remark-next k = remark-blank ∙ rw (from-cons w next 0 k)
-
 -- ---- `changeTo`
 
-pub to-short : (w : List ℕ) → length w < 6 → changeTo w ≡ fault 10
-unfolding changeTo
-to-short [] h = refl
-to-short (x ∷ bs) h =
-    cond-no _ _
-    (and-right (among x marks) _ (and-left (eqs (take 5 bs) (bytes "_char")) _ (eqs-apart (take 5 bs) (bytes "_char") (λ e. absurd (omega (arith, h, e, length-take 5 bs))))))
+-- a flaw at a place, as the code tells it
+pub to-wrong : (w : List ℕ) (p : ℕ) (said : Reads ℕ) → said ≡ fault (flaw 10 (drop p w)) → p ≤ length w → Wrong (atPlace 10 p) ≡ changeRead (toldIn w said)
+to-wrong w p said e h = sym (ap (λ (x : Reads ℕ). changeRead (toldIn w x)) e ∙ ap Wrong (told-at w 10 p (omega arith) (omega arith) h))
 
-module _ (w : List ℕ) (h : 6 ≤ length w) where
-  to-long : changeTo w
-      ≡ cond (among (getD w 0 0) marks && (eqs (take 5 (drop 1 w)) (bytes "_char") && isRemark (getD w 0 0) (drop 6 w))) (says (getD w 0 0)) (fault 10)
+pub to-unformed : (w : List ℕ) (said : Reads ℕ) → said ≡ fault (flaw 5 []) → Wrong (bare 5) ≡ changeRead (toldIn w said)
+unfolding columnIn
+to-unformed w said e = sym (ap (λ (x : Reads ℕ). changeRead (toldIn w x)) e)
+
+module _ (w : List ℕ) (at : ℕ) where
+  pub to-none : length w ≤ at → changeTo (drop at w) ≡ fault (flaw 10 (drop at w))
   unfolding changeTo
-  to-long = ap changeTo (from-cons w 0 0 (omega arith)) ∙ ap (λ (l : List ℕ). cond (among (getD w 0 0) marks && (eqs (take 5 (drop 1 w)) (bytes "_char") && isRemark (getD w 0 0) l)) (says (getD w 0 0)) (fault 10)) (drop-drop 5 1 w)
+  to-none k = rw (drop-of-length-le w k)
 
-  pub to-unmarked : among (getD w 0 0) marks ≡ false → changeTo w ≡ fault 10
-  to-unmarked e = to-long ∙ cond-no _ _ (and-left (among (getD w 0 0) marks) _ e)
+  module _ (h : at < length w) where
+    abbrev wordTold : Reads ℕ
+    wordTold = fault (flaw 10 (drop at w))
 
-  pub to-misspelled : eqs (part 1 6 w) (bytes "_char") ≡ false → changeTo w ≡ fault 10
-  to-misspelled e = to-long ∙ cond-no _ _ (and-right (among (getD w 0 0) marks) _ (and-left (eqs (take 5 (drop 1 w)) (bytes "_char")) _ e))
+    -- the first character, the rest of its word, and what follows both
+    to-split : changeTo (drop at w)
+        ≡ cond (among (getD w at 0) marks && eqs (front isInk (drop (at + 1) w)) (bytes "_char"))
+        (cond (noneOr (getD w at 0) (after isBlank (after isInk (drop (at + 1) w)))) (says (getD w at 0)) (fault (flaw 10 (after isBlank (after isInk (drop (at + 1) w))))))
+        wordTold
+    unfolding changeTo
+    to-split = rw (from-cons w at 0 h)
 
-  pub to-followed : isRemark (getD w 0 0) (drop 6 w) ≡ false → changeTo w ≡ fault 10
-  to-followed e =
-      to-long ∙ cond-no _ _ (and-right (among (getD w 0 0) marks) _ (and-right (eqs (take 5 (drop 1 w)) (bytes "_char")) _ e))
+    pub to-unmarked : among (getD w at 0) marks ≡ false → changeTo (drop at w) ≡ wordTold
+    to-unmarked e = to-split ∙ cond-no _ _ (and-left (among (getD w at 0) marks) _ e)
 
-  pub to-good : among (getD w 0 0) marks ≡ true → eqs (part 1 6 w) (bytes "_char") ≡ true → isRemark (getD w 0 0) (drop 6 w) ≡ true
-      → changeTo w ≡ says (getD w 0 0)
-  to-good a e r = to-long ∙ cond-yes _ _ (and-both (among (getD w 0 0) marks) _ a (and-both (eqs (take 5 (drop 1 w)) (bytes "_char")) _ e r))
+    module _ (end : ℕ) (ends : end ≡ at + 1 + length (front isInk (drop (at + 1) w))) where
+      pub to-misspelled : eqs (part (at + 1) end w) (bytes "_char") ≡ false → changeTo (drop at w) ≡ wordTold
+      to-misspelled e =
+          to-split ∙ cond-no _ _ (and-right (among (getD w at 0) marks) _ (ap (λ (v : List ℕ). eqs v (bytes "_char")) (sym (front-at isInk w (at + 1) end ends)) ∙ e))
+
+      module _ (marked : among (getD w at 0) marks ≡ true) (word : eqs (part (at + 1) end w) (bytes "_char") ≡ true) (behind : ℕ) (goes : behind ≡ end + length (front isBlank (drop end w))) where
+        to-behind : changeTo (drop at w) ≡ cond (noneOr (getD w at 0) (drop behind w)) (says (getD w at 0)) (fault (flaw 10 (drop behind w)))
+        to-behind =
+            to-split
+            ∙ cond-yes _ _ (and-both (among (getD w at 0) marks) _ marked (ap (λ (v : List ℕ). eqs v (bytes "_char")) (sym (front-at isInk w (at + 1) end ends)) ∙ word))
+            ∙ ap (λ (v : List ℕ). cond (noneOr (getD w at 0) v) (says (getD w at 0)) (fault (flaw 10 v))) (ap (after isBlank) (after-at isInk w (at + 1) end ends) ∙ after-at isBlank w end behind goes)
+
+        pub to-end : length w ≤ behind → changeTo (drop at w) ≡ says (getD w at 0)
+        unfolding noneOr
+        to-end k = to-behind ∙ rw (drop-of-length-le w k)
+
+        pub to-remark : behind < length w → getD w behind 0 ≡ getD w at 0 → changeTo (drop at w) ≡ says (getD w at 0)
+        unfolding noneOr
+        to-remark k e = to-behind ∙ cond-yes _ _ (ap (noneOr (getD w at 0)) (from-cons w behind 0 k) ∙ eq-eqb (getD w behind 0) (getD w at 0) e)
+
+        pub to-followed : behind < length w → (getD w behind 0 ≡ getD w at 0 → ⊥) → changeTo (drop at w) ≡ fault (flaw 10 (drop behind w))
+        unfolding noneOr
+        to-followed k e = to-behind ∙ cond-no _ _ (ap (noneOr (getD w at 0)) (from-cons w behind 0 k) ∙ ne-eqb (getD w behind 0) (getD w at 0) e)
 
 -- ---- an answer says what it was made of
 
-change-back : (x : Said ℕ) → changeSays (changeRead x) ≡ x
+change-back : (x : Result LineFault ℕ) → changeSays (changeRead x) ≡ x
 change-back (says c) = refl
-change-back (fault n) = refl
+change-back (fault f) = refl
 
-pub change-said : (r : ChangeRead) (x : Said ℕ) → r ≡ changeRead x → changeSays r ≡ x
+pub change-said : (r : ChangeRead) (x : Result LineFault ℕ) → r ≡ changeRead x → changeSays r ≡ x
 change-said r x e = ap changeSays e ∙ change-back x

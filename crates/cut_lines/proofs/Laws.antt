@@ -7,7 +7,10 @@ use native.Mathlib.Omega.{arith}
 use lib.ListN.{length, take, drop, drop-of-length-le, length-take}
 use lib.Seq.{take-take}
 use Rattle.laws.specs.Lists.{part}
-use Rattle.laws.specs.Said.{Said, faultIn, orElse}
+use Rattle.laws.specs.Said.{Result, orElse}
+use Rattle.records.specs.Flaws.{flawIn, told, toldIn, lineFaultIn}
+use Rattle.records.specs.declared.LineFault.{LineFault}
+use Rattle.records.proofs.Columns.{told-fault, told-else}
 use Rattle.laws.proofs.Tests.{cond-yes, cond-no}
 use Rattle.laws.proofs.Lists.{part-length}
 use Rattle.lines.specs.Lines.{Physical, linesOf, faultFrom, cut}
@@ -42,11 +45,11 @@ pub record CutIs (s : List ℕ) (c : Cursor) (e : ℕ) (n : Cursor) : Type 0 whe
   pub ends : e ≤ length s
 
 -- it is a [Comment Char] line with this fault
-pub record ChangedIs (s : List ℕ) (c : Cursor) (f : ℕ) (n : Cursor) : Type 0 where
+pub record ChangedIs (s : List ℕ) (c : Cursor) (f : LineFault) (n : Cursor) : Type 0 where
   pub physical : Physical
   pub steps : Steps s c physical n
   pub kind : isChange (physical .bytes) ≡ true
-  pub fault : f ≡ faultIn (changeOf (physical .bytes))
+  pub fault : f ≡ told (physical .bytes) (flawIn (changeOf (physical .bytes)))
   pub char : n .comment ≡ orElse (c .comment) (changeOf (physical .bytes))
 
 -- what cutting leaves of the line from a place to end
@@ -77,16 +80,16 @@ module _ (s : List ℕ) (at line c : ℕ) (l : CutLine) (some : at < length s) (
         ends = omega (arith, e, read .ends, read .starts, cut-short c (part at (l .whole .end) s), part-length s at (l .whole .end) (read .ends));
       }
 
-  pub changed-is : (x : Said ℕ) → x ≡ changeOf (part at (l .whole .end) s) → isChange (part at (l .whole .end) s) ≡ true
-      → ChangedIs s (record { at = at; line = line; comment = c }) (faultIn x) (record { at = l .whole .next; line = line + 1; comment = orElse c x })
+  pub changed-is : (x : Result LineFault ℕ) → x ≡ toldIn (part at (l .whole .end) s) (changeOf (part at (l .whole .end) s)) → isChange (part at (l .whole .end) s) ≡ true
+      → ChangedIs s (record { at = at; line = line; comment = c }) (lineFaultIn x) (record { at = l .whole .next; line = line + 1; comment = orElse c x })
   changed-is x e k =
-      let said = e ∙ ap changeOf (read .text) in
+      let said = e ∙ ap (λ (w : List ℕ). toldIn w (changeOf w)) (read .text) in
       record {
         physical = read .line;
         steps = record { more = read .more; line = refl; rises = read .rises; within = read .within };
         kind = ap isChange (sym (read .text)) ∙ k;
-        fault = ap faultIn said;
-        char = ap (orElse c) said;
+        fault = ap lineFaultIn said ∙ told-fault (read .line .bytes) (changeOf (read .line .bytes));
+        char = ap (orElse c) said ∙ told-else (read .line .bytes) c (changeOf (read .line .bytes));
       }
 
 -- ---- nothing is left
@@ -149,7 +152,7 @@ module _ (s : List ℕ) (c : Cursor) (e : ℕ) (n : Cursor) (h : CutIs s c e n) 
   rest-text : c .at < e → rest s c ≡ plain (c .line) (part (c .at) e s) ∷ rest s n
   rest-text k = rest-cut ∙ onto-some _ _ _ (omega (arith, part-length s (c .at) e (h .ends)))
 
-rest-change : (s : List ℕ) (c : Cursor) (f : ℕ) (n : Cursor) → ChangedIs s c f n → rest s c ≡ change (c .line) f ∷ rest s n
+rest-change : (s : List ℕ) (c : Cursor) (f : LineFault) (n : Cursor) → ChangedIs s c f n → rest s c ≡ change (c .line) f ∷ rest s n
 unfolding rest textsFrom
 rest-change s c f n h =
     ap (textsFrom (c .comment) (c .line)) (h .steps .more)
@@ -205,7 +208,7 @@ module _ (s : List ℕ) (c d : Cursor) (p : Passed s c d) where
           fits = h .ends;
         }
 
-  pub passed-change : (f : ℕ) (n : Cursor) → ChangedIs s d f n → ChangeIs s c (d .line) f n
+  pub passed-change : (f : LineFault) (n : Cursor) → ChangedIs s d f n → ChangeIs s c (d .line) f n
   passed-change f n h = record { more = p .texts ∙ rest-change s d f n h; goes = goes-behind n _ (h .steps) }
 
   pub passed-out : length s ≤ d .at → OutIs s c (d .line)

@@ -13,7 +13,7 @@ use Rattle.laws.specs.Said.{orElse}
 -- f is the new number of each line
 abbrev pub textAt : (ℕ → ℕ) → Text → Text
 textAt f (plain k w) = plain (f k) w
-textAt f (change k n) = change (f k) n
+textAt f (change k x) = change (f k) x
 
 onto-map : (f : ℕ → ℕ) (k : ℕ) (w : List ℕ) (ts : List Text) → map (textAt f) (ontoTexts k w ts) ≡ ontoTexts (f k) w (map (textAt f) ts)
 unfolding ontoTexts

@@ -2,12 +2,13 @@
 use Prim.Native.Nat.{ℕ}
 use Prim.Native.Char.{code}
 use mathlib.Core.List.{List, [], _∷_}
-use mathlib.Core.Bool.{Bool, true, false, cond, _&&_}
-use lib.ListN.{take, drop}
+use mathlib.Core.Bool.{Bool, true, cond, _&&_}
 use lib.Dec.{eqb}
 use Rattle.laws.specs.Bytes.{bytes, isBlank}
-use Rattle.laws.specs.Lists.{after, begins, eqs, among}
-use Rattle.laws.specs.Said.{Said, says, fault}
+use Rattle.laws.specs.Lists.{front, after, begins, eqs, among}
+use Rattle.laws.specs.Said.{says, fault}
+use Rattle.records.specs.Flaws.{Reads, flaw}
+use Rattle.words.specs.Words.{isInk}
 use Rattle.keywords.specs.Form.{inside, closing, isClosed, spelled, argument}
 
 -- it is known by its text up to `]`
@@ -23,16 +24,15 @@ unfoldable pub noneOr : ℕ → List ℕ → Bool
 noneOr x [] = true
 noneOr x (b ∷ bs) = eqb b x
 
--- nothing but blanks, or blanks, the new character x and a comment
-unfoldable pub isRemark : ℕ → List ℕ → Bool
-isRemark x [] = true
-isRemark x (b ∷ bs) = isBlank b && noneOr x (after isBlank (b ∷ bs))
-
--- one of the characters and `_char`, then no more than a remark; else 10
-unfoldable pub changeTo : List ℕ → Said ℕ
-changeTo [] = fault 10
-changeTo (x ∷ bs) = cond (among x marks && (eqs (take 5 bs) (bytes "_char") && isRemark x (drop 5 bs))) (says x) (fault 10)
+-- one of the characters and `_char` as a word, then nothing, or the new character and a comment; else 10
+unfoldable pub changeTo : List ℕ → Reads ℕ
+changeTo [] = fault (flaw 10 [])
+changeTo (x ∷ bs) =
+    let behind = after isBlank (after isInk bs) in
+    cond (among x marks && eqs (front isInk bs) (bytes "_char"))
+    (cond (noneOr x behind) (says x) (fault (flaw 10 behind)))
+    (fault (flaw 10 (x ∷ bs)))
 
 -- 5 where neither a blank nor nothing follows the `]`
-unfoldable pub changeOf : List ℕ → Said ℕ
-changeOf w = cond (isClosed (closing w)) (changeTo (argument w)) (fault 5)
+unfoldable pub changeOf : List ℕ → Reads ℕ
+changeOf w = cond (isClosed (closing w)) (changeTo (argument w)) (fault (flaw 5 []))

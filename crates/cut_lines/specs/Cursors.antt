@@ -5,7 +5,8 @@ use mathlib.Core.Path.{_≡_}
 use mathlib.Core.List.{List, [], _∷_}
 use lib.ListN.{length, drop}
 use Rattle.laws.specs.Lists.{part}
-use Rattle.laws.specs.Said.{Said, says, fault}
+use Rattle.laws.specs.Said.{Result, says, fault}
+use Rattle.records.specs.declared.LineFault.{LineFault}
 use Rattle.lines.specs.Lines.{linesOf, faultFrom}
 use Rattle.lines.specs.declared.Bytes.the-variants.{Clean}
 use Rattle.cut_lines.specs.Texts.{Text, plain, change, textsFrom}
@@ -32,13 +33,13 @@ CleanFrom s c = faultFrom (c .line) (linesOf (drop (c .at) s)) ≡ Clean
 
 -- ---- what the code's answers are
 
-abbrev pub changeRead : Said ℕ → ChangeRead
+abbrev pub changeRead : Result LineFault ℕ → ChangeRead
 changeRead (says x) = To x
-changeRead (fault n) = Wrong n
+changeRead (fault f) = Wrong f
 
-abbrev pub changeSays : ChangeRead → Said ℕ
+abbrev pub changeSays : ChangeRead → Result LineFault ℕ
 changeSays (To x) = says x
-changeSays (Wrong n) = fault n
+changeSays (Wrong f) = fault f
 
 -- a cursor that stands in a file: every line before it has at least one byte
 pub record Placed (s : List ℕ) (c : Cursor) : Type 0 where
@@ -65,7 +66,7 @@ pub record TextIs (s : List ℕ) (c : Cursor) (k a e : ℕ) (n : Cursor) : Type 
   pub starts : a < e
   pub fits : e ≤ length s
 
-pub record ChangeIs (s : List ℕ) (c : Cursor) (k f : ℕ) (n : Cursor) : Type 0 where
+pub record ChangeIs (s : List ℕ) (c : Cursor) (k : ℕ) (f : LineFault) (n : Cursor) : Type 0 where
   pub more : rest s c ≡ change k f ∷ rest s n
   pub goes : Goes s c n
 

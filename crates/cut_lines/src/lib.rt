@@ -1,12 +1,15 @@
 // The texts of a file, one after another: the lines left after cutting, and the [Comment Char] lines.
 ghost use mathlib.Core.Path.{_≡_};
-ghost use Prim.Native.Nat.{_+_, _^_, _<_};
-ghost use lib.ListN.{drop};
+ghost use Prim.Native.Nat.{_+_, _^_, _≤_, _<_};
+ghost use lib.ListN.{length, drop};
 ghost use Rattle.laws.specs.Lists.{among};
-ghost use Rattle.laws.specs.Said.{faultIn, orElse};
-ghost use Rattle.cut_lines.specs.Change.{isChange, changeOf, changeTo, marks, isRemark};
+ghost use Rattle.laws.specs.Said.{orElse};
+ghost use Rattle.records.specs.Flaws.{toldIn, lineFaultIn, atPlace};
+ghost use Rattle.cut_lines.specs.Change.{isChange, changeOf, changeTo, marks};
 ghost use Rattle.cut_lines.specs.Cursors.{firstCursor, changeRead, changeSays, Placed, NextIs};
+ghost use Rattle.cut_lines.specs.declared.ChangeRead.the-variants.{Wrong};
 ghost use Rattle.cut_lines.specs.declared.Next.the-variants.{Change};
+use records::LineFault;
 
 // Where a reading stands: the next line's place and number, and the comment character in force there.
 pub struct Cursor {
@@ -18,10 +21,10 @@ pub struct Cursor {
 // What a [Comment Char] line says: the new character, or its fault.
 pub enum ChangeRead {
     To(u8),
-    Wrong(u8),
+    Wrong(LineFault),
 }
 
-// The next text: what is left of a line; a [Comment Char] line with its fault, 0 for none; or the line after the last.
+// The next text: what is left of a line; a [Comment Char] line with its fault, if any; or the line after the last.
 pub enum Next {
     Text {
         line: u64,
@@ -31,7 +34,7 @@ pub enum Next {
     },
     Change {
         line: u64,
-        fault: u8,
+        fault: LineFault,
         next: Cursor,
     },
     Out {
@@ -76,76 +79,72 @@ fn is_mark(b: u8) -> bool
     words::find(marks, 0, b) < 24
 }
 
-// From a place on nothing but blanks, or blanks and the new character.
-fn is_remark(x: u8, w: &[u8], at: usize) -> bool
-    ensures { λ r. ⌜ r ≡ isRemark x (drop at (now (w .entry))) ⌝ }
+// Fault 10 at a place of the line.
+fn wrong_at(place: usize) -> ChangeRead
+    requires { ⌜ place < 2 ^ 63 ⌝ }
+    ensures { λ r. ⌜ r ≡ Wrong (atPlace 10 place) ⌝ }
 {
-    if w.len() <= at {
-        return true;
-    }
-    if !words::blank(w[at]) {
-        return false;
-    }
-    let next = words::skip_blanks(w, at);
-    if w.len() <= next {
-        return true;
-    }
-    w[next] == x
+    ChangeRead::Wrong(records::at_fault(10, place))
 }
 
-// What the argument of a [Comment Char] line says.
-fn change_to(w: &[u8]) -> ChangeRead
-    ensures { λ r. ⌜ r ≡ changeRead (changeTo (now (w .entry))) ⌝ }
+// What the argument of a [Comment Char] line says: it lies from a place on.
+fn change_to(w: &[u8], at: usize) -> ChangeRead
+    requires { ⌜ at ≤ length (now w) ⌝ }
+    ensures { λ r. ⌜ r ≡ changeRead (toldIn (now (w .entry)) (changeTo (drop at (now (w .entry))))) ⌝ }
 {
-    if w.len() < 6 {
-        return ChangeRead::Wrong(10);
+    if w.len() <= at {
+        return wrong_at(at);
     }
-    let x = w[0];
+    let x = w[at];
     if !is_mark(x) {
-        return ChangeRead::Wrong(10);
+        return wrong_at(at);
     }
-    if !words::same(&w[1..6], b"_char") {
-        return ChangeRead::Wrong(10);
+    let end = words::skip_ink(w, at + 1);
+    if !words::same(&w[at + 1..end], b"_char") {
+        return wrong_at(at);
     }
-    if !is_remark(x, w, 6) {
-        return ChangeRead::Wrong(10);
+    let behind = words::skip_blanks(w, end);
+    if w.len() <= behind {
+        return ChangeRead::To(x);
     }
-    ChangeRead::To(x)
+    if w[behind] == x {
+        return ChangeRead::To(x);
+    }
+    wrong_at(behind)
 }
 
 // What a [Comment Char] line says.
 fn change_of(w: &[u8]) -> ChangeRead
-    ensures { λ r. ⌜ r ≡ changeRead (changeOf (now (w .entry))) ⌝ }
+    ensures { λ r. ⌜ r ≡ changeRead (toldIn (now (w .entry)) (changeOf (now (w .entry)))) ⌝ }
 {
     if w.len() == 0 {
-        return ChangeRead::Wrong(5);
+        return ChangeRead::Wrong(records::bare_fault(5));
     }
     let stop = words::find(w, 1, b']');
     if !keywords::closed_at(w, stop) {
-        return ChangeRead::Wrong(5);
+        return ChangeRead::Wrong(records::bare_fault(5));
     }
-    let at = words::skip_blanks(w, stop + 1);
-    change_to(&w[at..])
+    change_to(w, words::skip_blanks(w, stop + 1))
 }
 
 // A [Comment Char] line and the cursor behind it: a good one's character holds from there on.
 fn changed(line: u64, behind: usize, comment: u8, said: ChangeRead) -> Next
     requires { ⌜ line < 2 ^ 63 ⌝ }
-    ensures { λ r. ⌜ r ≡ Change line (faultIn (changeSays said)) (record { at = behind; line = line + 1; comment = orElse comment (changeSays said) }) ⌝ }
+    ensures { λ r. ⌜ r ≡ Change line (lineFaultIn (changeSays said)) (record { at = behind; line = line + 1; comment = orElse comment (changeSays said) }) ⌝ }
 {
     match said {
         ChangeRead::To(x) => Next::Change {
             line: line,
-            fault: 0,
+            fault: records::bare_fault(0),
             next: Cursor {
                 at: behind,
                 line: line + 1,
                 comment: x,
             },
         },
-        ChangeRead::Wrong(n) => Next::Change {
+        ChangeRead::Wrong(f) => Next::Change {
             line: line,
-            fault: n,
+            fault: f,
             next: Cursor {
                 at: behind,
                 line: line + 1,

@@ -44,13 +44,17 @@ pub number-fine : (w : List ℕ) → FineNumber (numberOf w)
 unfolding numberOf
 number-fine w = unsigned-fine (isMinus w) (afterSign w)
 
-given-fine : (r : Said Decimal) → FineNumber r → FineRead (readOn r (λ d. says (Number d)))
-given-fine (says d) h = h
-given-fine (fault n) h = h
+fine-cell : (r : Said Decimal) → FineNumber r → FineRead (readOn r (λ d. says (Number d)))
+fine-cell (says d) h = h
+fine-cell (fault n) h = h
+
+pub given-fine : (w : List ℕ) → FineRead (givenCell w)
+unfolding givenCell
+given-fine w = fine-cell (numberOf w) (number-fine w)
 
 pub cell-fine : (w : List ℕ) → FineRead (cellOf w)
-unfolding cellOf givenCell
-cell-fine w = cond-all FineRead (isMissing w) (says Missing) _ (λ h. tt) (λ h. given-fine (numberOf w) (number-fine w))
+unfolding cellOf
+cell-fine w = cond-all FineRead (isMissing w) (says Missing) _ (λ h. tt) (λ h. given-fine w)
 
 -- ---- no trailing zero
 

@@ -1,4 +1,4 @@
--- What every number that was read keeps: at most 15 digits, a power from −40 to 24, and no trailing zero; and a fault, that it is one and fits in a byte.
+-- What every number that was read keeps: at most 15 digits, a power from −40 to 24, and no trailing zero; and a fault, that it is 11 or 12.
 use Prim.Native.Nat.{ℕ, _+_, _%_, _^_, _≤_, _<_}
 use mathlib.Core.Path.{_≡_}
 use mathlib.Core.Logic.{_⊎_}
@@ -15,7 +15,7 @@ pub record Fine (d : Decimal) : Type 0 where
   pub power : d .power ≤ offset + 24
 
 abbrev pub FineFault : ℕ → Type 0
-FineFault n = (0 < n) × (n < 256)
+FineFault n = (11 ≤ n) × (n ≤ 12)
 
 abbrev pub FineNumber : Said Decimal → Type 0
 FineNumber (says d) = Fine d

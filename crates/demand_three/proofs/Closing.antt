@@ -2,14 +2,14 @@
 use Prim.Native.Nat.{ℕ}
 use mathlib.Core.Path.{_≡_, refl, sym, ap, _∙_}
 use mathlib.Core.List.{List}
+use mathlib.Core.Logic.{_⊎_, inl, inr}
 use mathlib.Core.Bool.{Bool, true, false, not, _&&_}
-use lib.ListN.{length}
 use lib.Dec.{eqb}
 use borrow.Author.Tests.{not-false}
 use Rattle.laws.specs.Bytes.{bytes, isBlank}
 use Rattle.laws.specs.Lists.{eqs, oneOf}
 use Rattle.laws.specs.Said.{Said, says, fault, orFault}
-use Rattle.laws.proofs.Tests.{by-test, cond-yes, cond-map, and-second}
+use Rattle.laws.proofs.Tests.{by-test, cond-yes, cond-no, cond-map, and-second}
 use Rattle.laws.proofs.Same.{eqs-eq}
 use Rattle.words.specs.Words.{words, grown, ontoWord}
 use Rattle.name_table.specs.Names.{meaning}
@@ -19,13 +19,15 @@ use Rattle.keywords.specs.declared.Keyword.{Keyword}
 use Rattle.keywords.specs.declared.Keyword.the-variants as key
 use Rattle.keywords.specs.declared.Section.the-variants.{Model}
 use Rattle.keywords.proofs.Spelling.{spelling-known}
+use Rattle.records.specs.Flaws.{told}
+use Rattle.records.specs.declared.Fault.{Fault}
 use Rattle.cut_lines.specs.Texts.{Text, plain}
-use Rattle.line_rules.specs.Fields.{isBracketed, isModelName, oneWord}
-use Rattle.rules.specs.Going.{stop, unless, refuse, andThen}
+use Rattle.line_rules.specs.Fields.{isBracketed, noArgument}
+use Rattle.rules.specs.Going.{stop, stopAt, unless, passes, refuse, andThen}
 use Rattle.rules.specs.Component.{componentShut}
 use Rattle.rules.specs.Selector.{selectorShut}
 use Rattle.rules.specs.Model.{newModel, modelShut}
-use Rattle.rules.specs.Steps.{shut, done, opened, keyed, onPlain}
+use Rattle.rules.specs.Steps.{shut, done, openedFlaw, opened, keyed, onPlain}
 use Rattle.rules.specs.Reading.{keyName, isKey, isWithin}
 use Rattle.rules.specs.Keys.{keyIn, keyAt, isEnd}
 use Rattle.rules.proofs.Keys.{within-key}
@@ -115,10 +117,10 @@ abbrev byItself : ℕ → List ℕ → Said Keyword → Went
 byItself k w (fault n) = stop n k
 byItself k w (says key.IbisVer) = stop 7 k
 byItself k w (says (key.InHeader p)) = stop 7 k
-byItself k w (says (key.Opens o)) = opened k (argument w) o
+byItself k w (says (key.Opens o)) = opened k w o
 byItself k w (says (key.InComponent p)) = stop 7 k
 byItself k w (says (key.InModel p)) = stop 7 k
-byItself k w (says key.End) = On AfterEnd (Ended (eqb (length (argument w)) 0))
+byItself k w (says key.End) = On AfterEnd (Ended (told w (noArgument (argument w))))
 
 abbrev pub alone : ℕ → List ℕ → Went
 alone k w = byItself k w (keyOf w)
@@ -127,7 +129,7 @@ itself-at : (f : ℕ → ℕ) (k : ℕ) (w : List ℕ) (x : Said Keyword) → we
 itself-at f k w (fault n) = refl
 itself-at f k w (says key.IbisVer) = refl
 itself-at f k w (says (key.InHeader p)) = refl
-itself-at f k w (says (key.Opens o)) = opened-at f k (argument w) o
+itself-at f k w (says (key.Opens o)) = opened-at f k w o
 itself-at f k w (says (key.InComponent p)) = refl
 itself-at f k w (says (key.InModel p)) = refl
 itself-at f k w (says key.End) = refl
@@ -135,14 +137,25 @@ itself-at f k w (says key.End) = refl
 pub alone-at : (f : ℕ → ℕ) (k : ℕ) (w : List ℕ) → wentAt f (alone k w) ≡ alone (f k) w
 alone-at f k w = itself-at f k w (keyOf w)
 
--- a [Model] line that goes on does so at any line
+-- a [Model] line opens a model, or stops
+pub alone-model : (k : ℕ) (w : List ℕ) → keyOf w ≡ says (key.Opens Model) → alone k w ≡ opened k w Model
+alone-model k w h = ap (byItself k w) h
+
+pub opened-either : (k : ℕ) (w : List ℕ) → (opened k w Model ≡ On (InModel (newModel k)) (Opened Model)) ⊎ ((f : Fault) × (opened k w Model ≡ Stop f))
+unfolding opened passes
+opened-either k w =
+    let x = told w (openedFlaw (argument w) Model) in
+    by-test (eqb (x .number) 0) (λ t. inl (cond-yes _ _ t)) (λ t. inr (_, cond-no _ _ t))
+
+-- one that goes on does so at any line
 pub alone-anywhere : (k j : ℕ) (w : List ℕ) (s : Stage) (e : Event) → keyOf w ≡ says (key.Opens Model)
     → alone k w ≡ On s e → alone j w ≡ On (InModel (newModel j)) (Opened Model)
-unfolding refuse
+unfolding opened passes
 alone-anywhere k j w s e h q =
-    by-test (oneWord isModelName (words (argument w)))
+    let x = told w (openedFlaw (argument w) Model) in
+    by-test (eqb (x .number) 0)
     (λ t. rw (h, t))
-    (λ t. let z : stop 10 k ≡ On s e = rw (h, t) at q in cc)
+    (λ t. let z : stopAt x k ≡ On s e = rw (h, t) at q in cc)
 
 -- ---- both
 

@@ -1,5 +1,5 @@
 -- Demand 3 put to use: an accepted file, and files that have its model section at other places among other sections and lines. Each premise is
--- computed; what is told of each changed file then follows by `demand3`.
+-- computed; what is told of each changed file then follows by `demand3`, and of a section with a fault by `same-faults`.
 use Prim.Native.Nat.{ℕ, _+_, _≤_, _<_}
 use Prim.Native.Char.{code}
 use Prim.Native.String.{String, _++_ as _++ˢ_}
@@ -18,6 +18,8 @@ use Rattle.records.specs.declared.Lengths.{Lengths}
 use Rattle.examples.specs.Computing.{computing}
 use Rattle.demand_three.specs.Lines.{textOn, charAfterLine, charAfterLines, beginsAnother, isModelSection}
 use Rattle.demand_three.specs.Demand.{Stands, AcceptedFile, SameIn, Excepted, outOfPlace, usedTwice, notListed, fullTable, fewRows, Spares}
+use Rattle.demand_three.specs.Own.{OwnTold, SameFault}
+use Rattle.demand_three.proofs.Own.{same-faults}
 use Rattle.demand_three.proofs.Demand.{demand3}
 
 -- ---- the accepted file: what stands before the section, the section, what stands behind it
@@ -86,46 +88,46 @@ same =
 pub same-parts : splitSays noSplit (under (same .says .texts)) ≡ splitSays noSplit (under (same .saysToo .texts))
 same-parts = same-split _ _ _ _ (same .says .same) ∙ sym (same-split _ _ _ _ (same .saysToo .same))
 
--- ---- changed files that are refused: tables of lengths m are lent, and fault n is told at line k
+-- ---- changed files that are refused: tables of lengths m are lent, and fault n is told at line k, in column c
 
-pub record Refusal (m : Lengths) (t : List ℕ) (n k : ℕ) : Type 0 where
+pub record Refusal (m : Lengths) (t : List ℕ) (n k c : ℕ) : Type 0 where
   pub stands : Stands (code "#") section t
-  pub told : outcome m t ≡ refused n k
+  pub told : outcome m t ≡ refused n k c
 
 -- where the section stands, and what is told: each is computed of a file
-abbrev refusal : {m : Lengths} {n k : ℕ} (front back : String)
+abbrev refusal : {m : Lengths} {n k c : ℕ} (front back : String)
     → linesOf (file front back) ≡ linesOf (bytes front) ++ section ++ linesOf (bytes back)
     → charAfterLines (code "|") (linesOf (bytes front)) ≡ code "#"
     → beginsAnother (charAfterLines (code "#") section) (linesOf (bytes back)) ≡ true
-    → outcome m (file front back) ≡ refused n k
-    → Refusal m (file front back) n k
+    → outcome m (file front back) ≡ refused n k c
+    → Refusal m (file front back) n k c
 refusal front back lines char ends told =
     record { stands = record { before = linesOf (bytes front); after = linesOf (bytes back); lines = lines; char = char; ends = ends }; told = told }
 
-module _ (m : Lengths) (t : List ℕ) (n k : ℕ) (r : Refusal m t n k) where
+module _ (m : Lengths) (t : List ℕ) (n k c : ℕ) (r : Refusal m t n k c) where
   spares : Spares (r .stands) n k
-  spares = demand3 _ _ (taken .isSection) _ _ (taken .stands) (taken .accepted) m t (r .stands) .refusal n k (r .told)
+  spares = demand3 _ _ (taken .isSection) _ _ (taken .stands) (taken .accepted) m t (r .stands) .refusal n k c (r .told)
 
 -- ---- three faults that stand elsewhere: a pin names no model, the type of another model is none, and a keyword there is one that nobody has
 
 abbrev unknown : String
 unknown = head "in1" ++ˢ "2 LAMP lamp\n[Comment Char] #_char\n"
 
-pub at-pin : Refusal (lending 64 2) (file unknown behind) 15 12
+pub at-pin : Refusal (lending 64 2) (file unknown behind) 15 12 0
 unfolding computing charAfterLines beginsAnother textOn charAfterLine
 at-pin = refusal unknown behind refl refl refl refl
 
 abbrev wrongType : String
 wrongType = "[Model] off\nModel_type Terminal\nC_comp 3pF NA NA\n[Voltage Range] 5 NA NA\n[End]\n"
 
-pub at-type : Refusal (lending 64 2) (file before wrongType) 10 23
+pub at-type : Refusal (lending 64 2) (file before wrongType) 10 23 12
 unfolding computing charAfterLines beginsAnother textOn charAfterLine
 at-type = refusal before wrongType refl refl refl refl
 
 abbrev misspelled : String
 misspelled = "[Model] off\n[Diff Pni]\n[End]\n"
 
-pub at-slip : Refusal (lending 64 2) (file before misspelled) 21 23
+pub at-slip : Refusal (lending 64 2) (file before misspelled) 21 23 0
 unfolding computing charAfterLines beginsAnother textOn charAfterLine
 at-slip = refusal before misspelled refl refl refl refl
 
@@ -141,25 +143,25 @@ not-excepted keyword n k other (fullTable e) = other .3 e
 not-excepted keyword n k other (fewRows e) = other .4 e
 
 -- the line told is none of the section's
-abbrev Elsewhere : (m : Lengths) (t : List ℕ) (n k : ℕ) → Refusal m t n k → Type 0
-Elsewhere m t n k r = length (r .stands .before) < k → k ≤ length (r .stands .before) + length section → ⊥
+abbrev Elsewhere : (m : Lengths) (t : List ℕ) (n k c : ℕ) → Refusal m t n k c → Type 0
+Elsewhere m t n k c r = length (r .stands .before) < k → k ≤ length (r .stands .before) + length section → ⊥
 
-elsewhere : (m : Lengths) (t : List ℕ) (n k : ℕ) → Other n → (r : Refusal m t n k) → Elsewhere m t n k r
-elsewhere m t n k other r from to = not-excepted _ n k other (spares m t n k r from to)
+elsewhere : (m : Lengths) (t : List ℕ) (n k c : ℕ) → Other n → (r : Refusal m t n k c) → Elsewhere m t n k c r
+elsewhere m t n k c other r from to = not-excepted _ n k other (spares m t n k c r from to)
 
-pub pin-elsewhere : Elsewhere _ _ _ _ at-pin
-pin-elsewhere = elsewhere _ _ _ _ (omega arith) at-pin
+pub pin-elsewhere : Elsewhere _ _ _ _ _ at-pin
+pin-elsewhere = elsewhere _ _ _ _ _ (omega arith) at-pin
 
-pub type-elsewhere : Elsewhere _ _ _ _ at-type
-type-elsewhere = elsewhere _ _ _ _ (omega arith) at-type
+pub type-elsewhere : Elsewhere _ _ _ _ _ at-type
+type-elsewhere = elsewhere _ _ _ _ _ (omega arith) at-type
 
-pub slip-elsewhere : Elsewhere _ _ _ _ at-slip
-slip-elsewhere = elsewhere _ _ _ _ (omega arith) at-slip
+pub slip-elsewhere : Elsewhere _ _ _ _ _ at-slip
+slip-elsewhere = elsewhere _ _ _ _ _ (omega arith) at-slip
 
 -- ---- the five exceptions happen: each fault is told at a line of the section
 
 pub record Within (m : Lengths) (t : List ℕ) (n k : ℕ) : Type 0 where
-  pub refused : Refusal m t n k
+  pub refused : Refusal m t n k 0
   pub from : length (refused .stands .before) < k
   pub to : k ≤ length (refused .stands .before) + length section
 
@@ -194,9 +196,41 @@ unfolding computing charAfterLines beginsAnother textOn charAfterLine
 scant = record { refused = refusal before behind refl refl refl refl; from = lit< tt; to = lit≤ tt }
 
 excepted : (m : Lengths) (t : List ℕ) (n k : ℕ) (w : Within m t n k) → Excepted (length (w .refused .stands .before) + 1) n k
-excepted m t n k w = spares m t n k (w .refused) (w .from) (w .to)
+excepted m t n k w = spares m t n k 0 (w .refused) (w .from) (w .to)
 
 -- demand 3 says of each that it is one of the five; the first number is the line of the section's keyword
 pub all-excepted : Excepted 14 7 14 × Excepted 17 14 17 × Excepted 13 16 13 × Excepted 13 17 13 × Excepted 13 18 21
 unfolding computing misplaced named-twice unlisted full scant
 all-excepted = (excepted _ _ _ _ misplaced, excepted _ _ _ _ named-twice, excepted _ _ _ _ unlisted, excepted _ _ _ _ full, excepted _ _ _ _ scant)
+
+-- ---- a section with a fault of its own: two files tell the same number and column of it, each at its line
+
+abbrev slipped : String
+slipped = "[Model] in1 # the door\nModel_type Input\nVinl = O.8\n"
+
+pub record Slipped (t : List ℕ) (k : ℕ) : Type 0 where
+  pub stands : Stands (code "#") (linesOf (bytes slipped)) t
+  pub tells : OwnTold (lending 64 2) t stands 11 k 8
+
+pub slip : Slipped (bytes (before ++ˢ slipped ++ˢ behind)) 15
+unfolding computing charAfterLines beginsAnother textOn charAfterLine
+slip =
+    record {
+      stands = record { before = linesOf (bytes before); after = linesOf (bytes behind); lines = refl; char = refl; ends = refl };
+      tells = record { told = refl; from = lit< tt; to = lit≤ tt; own = not-excepted _ 11 15 (omega arith) };
+    }
+
+pub slipToo : Slipped (bytes (beforeToo ++ˢ slipped ++ˢ behindToo)) 21
+unfolding computing charAfterLines beginsAnother textOn charAfterLine
+slipToo =
+    record {
+      stands = record { before = linesOf (bytes beforeToo); after = linesOf (bytes behindToo); lines = refl; char = refl; ends = refl };
+      tells = record { told = refl; from = lit< tt; to = lit≤ tt; own = not-excepted _ 11 21 (omega arith) };
+    }
+
+slip-section : isModelSection (code "#") (linesOf (bytes slipped)) ≡ true
+unfolding computing isModelSection charAfterLines textOn charAfterLine
+slip-section = refl
+
+pub same-slip : SameFault (slip .stands) (slipToo .stands) 11 15 8 11 21 8
+same-slip = same-faults _ _ slip-section _ _ (slip .stands) 11 15 8 (slip .tells) _ _ (slipToo .stands) 11 21 8 (slipToo .tells)

@@ -10,16 +10,16 @@ use Rattle.rules.specs.Selector.{selectorLine, selectorShut}
 use Rattle.rules.specs.declared.HeaderState.{HeaderState}
 use Rattle.rules.specs.declared.SelectorState.{SelectorState}
 use Rattle.rules.specs.declared.Stage.the-variants.{InHeader}
-use Rattle.demand_three.proofs.Renumbered.{headerAt, selectorAt, wentAt, unless-at, refuse-at}
+use Rattle.demand_three.proofs.Renumbered.{headerAt, selectorAt, wentAt, passes-at, refuse-at}
 
 module _ (f : ℕ → ℕ) where
   pub version-at : (k : ℕ) (w : List ℕ) → wentAt f (version k w) ≡ version (f k) w
   unfolding version
-  version-at k w = simp (refuse-at f)
+  version-at k w = simp (passes-at f)
 
   pub header-part-at : (h : HeaderState) (k : ℕ) (w : List ℕ) (p : HeaderPart) → wentAt f (headerPart h k w p) ≡ headerPart (headerAt f h) (f k) w p
   unfolding headerPart
-  header-part-at h k w p = simp (refuse-at f, unless-at f)
+  header-part-at h k w p = simp (refuse-at f, passes-at f)
 
   pub header-line-at : (h : HeaderState) (k : ℕ) → wentAt f (headerLine h k) ≡ headerLine (headerAt f h) (f k)
   unfolding headerLine
@@ -31,7 +31,7 @@ module _ (f : ℕ → ℕ) where
 
   pub selector-line-at : (s : SelectorState) (k : ℕ) (w : List ℕ) → wentAt f (selectorLine s k w) ≡ selectorLine (selectorAt f s) (f k) w
   unfolding selectorLine
-  selector-line-at s k w = simp (refuse-at f)
+  selector-line-at s k w = simp (passes-at f)
 
   pub selector-shut-at : (s : SelectorState) → wentAt f (selectorShut s) ≡ selectorShut (selectorAt f s)
   unfolding selectorShut

@@ -13,6 +13,7 @@ pub mod Split
 pub mod Sound
 pub mod Spared
 pub mod Refusal
+pub mod Own
 pub mod Tables
 pub mod Same
 pub mod Demand

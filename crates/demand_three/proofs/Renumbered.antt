@@ -1,14 +1,17 @@
 -- A reading with its lines numbered anew: stages and steps, and how the checks of one line go through that.
 use Prim.Native.Nat.{ℕ}
 use mathlib.Core.Path.{_≡_, refl}
+use mathlib.Core.List.{List}
 use mathlib.Core.Bool.{Bool}
 use lib.Dec.{eqb}
 use Rattle.laws.proofs.Tests.{cond-map}
 use Rattle.name_table.specs.declared.Found.{Found}
 use Rattle.name_table.specs.declared.Found.the-variants.{At, Nothing}
+use Rattle.records.specs.Flaws.{Flaw}
 use Rattle.records.specs.declared.Fault.{Fault}
+use Rattle.records.specs.declared.LineFault.{LineFault}
 use Rattle.given.specs.declared.Given.{Given}
-use Rattle.rules.specs.Going.{stop, unless, refuse, namedLine, andThen}
+use Rattle.rules.specs.Going.{stop, stopAt, unless, passes, refuse, namedLine, andThen}
 use Rattle.rules.specs.declared.HeaderState.{HeaderState}
 use Rattle.rules.specs.declared.ComponentList.{ComponentList}
 use Rattle.rules.specs.declared.ComponentList.the-variants.{ComponentFirst, ComponentShut, PackageLines, PinRows}
@@ -59,7 +62,7 @@ stageAt f (InModel m) = InModel (modelAt f m)
 stageAt f AfterEnd = AfterEnd
 
 abbrev pub faultAt : (ℕ → ℕ) → Fault → Fault
-faultAt f x = record { number = x .number; line = f (x .line) }
+faultAt f x = record { number = x .number; line = f (x .line); column = x .column }
 
 abbrev pub wentAt : (ℕ → ℕ) → Went → Went
 wentAt f (On s e) = On (stageAt f s) e
@@ -72,14 +75,18 @@ module _ (f : ℕ → ℕ) where
   unfolding unless
   unless-at n k w = cond-map (wentAt f) (eqb n 0) w (stop n k)
 
+  pub passes-at : (x : LineFault) (k : ℕ) (w : Went) → wentAt f (passes x k w) ≡ passes x (f k) (wentAt f w)
+  unfolding passes
+  passes-at x k w = cond-map (wentAt f) (eqb (x .number) 0) w (stopAt x k)
+
   pub refuse-at : (t : Bool) (n k : ℕ) (w : Went) → wentAt f (refuse t n k w) ≡ refuse t n (f k) (wentAt f w)
   unfolding refuse
   refuse-at t n k w = cond-map (wentAt f) t (stop n k) w
 
-  pub named-at : (g : Given) (x : Found) (n k : ℕ) (on onAt : Given → Stage) → ((h : Given) → stageAt f (on h) ≡ onAt h)
-      → wentAt f (namedLine g x n k on) ≡ namedLine g x n (f k) onAt
-  named-at g Nothing n k on onAt q = refl
-  named-at g (At i) n k on onAt q = simp (refuse-at, unless-at, q)
+  pub named-at : (g : Given) (x : Found) (y : Flaw) (k : ℕ) (w : List ℕ) (on onAt : Given → Stage) → ((h : Given) → stageAt f (on h) ≡ onAt h)
+      → wentAt f (namedLine g x y k w on) ≡ namedLine g x y (f k) w onAt
+  named-at g Nothing y k w on onAt q = refl
+  named-at g (At i) y k w on onAt q = simp (refuse-at, passes-at, q)
 
   pub then-at : (w : Went) (g h : Stage → Went) → ((s : Stage) → wentAt f (g s) ≡ h (stageAt f s)) → wentAt f (andThen w g) ≡ andThen (wentAt f w) h
   then-at (On s e) g h q = q s

@@ -47,7 +47,7 @@ pub record Passing (l : Lengths) (s : List ℕ) : Type 0 where
 
 concluded-passed : (o : Outcome) (z : Held) → concluded o ≡ passed z → (h : Held) × (o ≡ passed h)
 concluded-passed (passed h) z q = (h, refl)
-concluded-passed (refused n k) z q = impossible (cc)
+concluded-passed (refused n k c) z q = impossible (cc)
 
 bytes-passed : (go : Outcome) (b : Bytes) (z : Held) → afterBytes go b ≡ passed z → (b ≡ Clean) × (go ≡ passed z)
 bytes-passed go Clean z q = (refl, q)
@@ -135,10 +135,10 @@ module _ (c : ℕ) (first : Physical) (others : List Physical) (h : isModelSecti
 
   -- ---- numbered from 0, and at line k
 
-  pub body-at : (k : ℕ) → map (textAt (λ n. n + k)) (textsFrom (charAfterLine c first) 1 others) ≡ textsFrom (charAfterLine c first) (k + 1) others
+  body-at : (k : ℕ) → map (textAt (λ n. n + k)) (textsFrom (charAfterLine c first) 1 others) ≡ textsFrom (charAfterLine c first) (k + 1) others
   body-at k = texts-map (λ n. n + k) (charAfterLine c first) 1 (k + 1) others (λ i q. omega arith)
 
-  pub new-at : (k : ℕ) → stageAt (λ n. n + k) (InModel (newModel 0)) ≡ InModel (newModel k)
+  new-at : (k : ℕ) → stageAt (λ n. n + k) (InModel (newModel 0)) ≡ InModel (newModel k)
   new-at k = let e : 0 + k ≡ k = omega arith in ap (λ (n : ℕ). InModel (newModel n)) e
 
   sound-at : (k : ℕ) → Passed (cut c (first .bytes)) (textsFrom (charAfterLine c first) (k + 1) others) k → all isClean (first ∷ others) ≡ true → Sound c first others

@@ -2,8 +2,6 @@
 use Prim.Native.Nat.{ℕ}
 use mathlib.Core.Path.{_≡_, refl, _∙_}
 use mathlib.Core.List.{List}
-use lib.ListN.{length}
-use lib.Dec.{eqb}
 use Rattle.laws.specs.Said.{Said, says, fault}
 use Rattle.laws.proofs.Tests.{cond-map}
 use Rattle.keywords.specs.Form.{argument}
@@ -15,15 +13,17 @@ use Rattle.keywords.specs.declared.Section.the-variants.{Component, Selector, M
 use Rattle.keywords.specs.declared.HeaderPart.{HeaderPart}
 use Rattle.keywords.specs.declared.ComponentPart.{ComponentPart}
 use Rattle.keywords.specs.declared.ModelPart.{ModelPart}
+use Rattle.records.specs.Flaws.{told}
+use Rattle.records.specs.declared.LineFault.{LineFault}
 use Rattle.cut_lines.specs.Texts.{Text, plain, change}
-use Rattle.line_rules.specs.Fields.{isBracketed}
-use Rattle.rules.specs.Steps.{shut, done, opened, onVersion, onKeyword, keyed, onLine, onPlain, onChange, onText}
+use Rattle.line_rules.specs.Fields.{isBracketed, noArgument}
+use Rattle.rules.specs.Steps.{shut, done, sectionStage, opened, onVersion, onKeyword, keyed, onLine, onPlain, onChange, onText}
 use Rattle.rules.specs.declared.Stage.{Stage}
 use Rattle.rules.specs.declared.Stage.the-variants.{BeforeVersion, InHeader, InComponent, InSelector, InModel, AfterEnd}
 use Rattle.rules.specs.declared.Event.the-variants.{Ended}
 use Rattle.rules.specs.declared.Went.{Went}
 use Rattle.rules.specs.declared.Went.the-variants.{On}
-use Rattle.demand_three.proofs.Renumbered.{stageAt, wentAt, unless-at, refuse-at, then-at}
+use Rattle.demand_three.proofs.Renumbered.{stageAt, wentAt, unless-at, passes-at, refuse-at, then-at}
 use Rattle.cut_lines.proofs.Renumbered.{textAt}
 use Rattle.demand_three.proofs.Header.{version-at, header-part-at, header-line-at, header-done-at, selector-line-at, selector-shut-at}
 use Rattle.demand_three.proofs.Component.{component-line-at, component-part-at, component-shut-at, component-done-at}
@@ -50,10 +50,14 @@ module _ (f : ℕ → ℕ) where
 
   -- ---- the keywords
 
+  section-at : (k : ℕ) (o : Section) → stageAt f (sectionStage k o) ≡ sectionStage (f k) o
+  section-at k Component = refl
+  section-at k Selector = refl
+  section-at k Model = refl
+
   pub opened-at : (k : ℕ) (w : List ℕ) (o : Section) → wentAt f (opened k w o) ≡ opened (f k) w o
-  opened-at k w Component = simp (refuse-at f)
-  opened-at k w Selector = simp (refuse-at f)
-  opened-at k w Model = simp (refuse-at f)
+  unfolding opened
+  opened-at k w o = simp (passes-at f, section-at)
 
   on-version-at : (s : Stage) (k : ℕ) (w : List ℕ) → wentAt f (onVersion s k w) ≡ onVersion (stageAt f s) (f k) w
   unfolding onVersion
@@ -96,12 +100,12 @@ module _ (f : ℕ → ℕ) where
   on-keyword-at s k w (key.InComponent p) = in-component-at s k w p
   on-keyword-at s k w (key.InModel p) = in-model-at s k w p
   on-keyword-at s k w key.End =
-      let ended : Stage → Went = λ t. On AfterEnd (Ended (eqb (length w) 0)) in
+      let ended : Stage → Went = λ t. On AfterEnd (Ended (told w (noArgument (argument w)))) in
       then-at f (done k s) ended ended (λ t. refl) ∙ rw (done-at k s)
 
   keyed-at : (s : Stage) (k : ℕ) (w : List ℕ) (x : Said Keyword) → wentAt f (keyed s k w x) ≡ keyed (stageAt f s) (f k) w x
   keyed-at s k w (fault n) = refl
-  keyed-at s k w (says x) = on-keyword-at s k (argument w) x
+  keyed-at s k w (says x) = on-keyword-at s k w x
 
   -- ---- a line
 
@@ -119,15 +123,15 @@ module _ (f : ℕ → ℕ) where
       cond-map (wentAt f) (isBracketed w) _ _
       ∙ rw (then-at f (shut k s) _ (λ t. keyed t (f k) w (keyOf w)) (λ t. keyed-at t k w (keyOf w)), shut-at k s, on-line-at s k w)
 
-  on-change-at : (s : Stage) (k n : ℕ) → wentAt f (onChange s k n) ≡ onChange (stageAt f s) (f k) n
+  on-change-at : (s : Stage) (k : ℕ) (x : LineFault) → wentAt f (onChange s k x) ≡ onChange (stageAt f s) (f k) x
   unfolding onChange
-  on-change-at BeforeVersion k n = simp (refuse-at f, unless-at f)
-  on-change-at (InHeader h) k n = simp (refuse-at f, unless-at f)
-  on-change-at (InComponent c) k n = simp (refuse-at f, unless-at f)
-  on-change-at (InSelector s) k n = simp (refuse-at f, unless-at f)
-  on-change-at (InModel m) k n = simp (refuse-at f, unless-at f)
-  on-change-at AfterEnd k n = simp (refuse-at f, unless-at f)
+  on-change-at BeforeVersion k x = simp (refuse-at f, passes-at f)
+  on-change-at (InHeader h) k x = simp (refuse-at f, passes-at f)
+  on-change-at (InComponent c) k x = simp (refuse-at f, passes-at f)
+  on-change-at (InSelector s) k x = simp (refuse-at f, passes-at f)
+  on-change-at (InModel m) k x = simp (refuse-at f, passes-at f)
+  on-change-at AfterEnd k x = simp (refuse-at f, passes-at f)
 
   pub on-text-at : (s : Stage) (t : Text) → wentAt f (onText s t) ≡ onText (stageAt f s) (textAt f t)
   on-text-at s (plain k w) = on-plain-at s k w
-  on-text-at s (change k n) = on-change-at s k n
+  on-text-at s (change k x) = on-change-at s k x

@@ -6,7 +6,7 @@ use mathlib.Core.Bool.{true, false, cond, _&&_}
 use native.Mathlib.Omega.{arith}
 use lib.ListN.{length}
 use Rattle.laws.specs.Lists.{all}
-use Rattle.laws.specs.Said.{faultIn}
+use Rattle.records.specs.Flaws.{flawIn, told, bare}
 use Rattle.laws.proofs.Tests.{by-test, cond-no}
 use Rattle.lines.specs.Lines.{Physical, cut}
 use Rattle.cut_lines.specs.Change.{isChange, changeOf}
@@ -21,7 +21,7 @@ use Rattle.demand_three.specs.Lines.{textOn, charAfterLine, charAfterLin
 -- ---- one line: its own texts, none or one, and those of the lines behind it
 
 unfoldable pub lineTexts : ℕ → ℕ → Physical → List Text
-lineTexts c k l = cond (isChange (l .bytes)) (change k (faultIn (changeOf (l .bytes))) ∷ []) (ontoTexts k (cut c (l .bytes)) [])
+lineTexts c k l = cond (isChange (l .bytes)) (change k (told (l .bytes) (flawIn (changeOf (l .bytes)))) ∷ []) (ontoTexts k (cut c (l .bytes)) [])
 
 onto-append : (k : ℕ) (w : List ℕ) (ts : List Text) → ontoTexts k w ts ≡ ontoTexts k w [] ++ ts
 unfolding ontoTexts
@@ -59,7 +59,7 @@ key-line : (c k : ℕ) (l : Physical) → isWithin (textOn c l) ≡ false → li
 unfolding textOn lineTexts
 key-line c k l h =
     by-test (isChange (l .bytes))
-    (λ t. let z : true ≡ false = sym (within-key (change 0 0)) ∙ rw t at h in cc)
+    (λ t. let z : true ≡ false = sym (within-key (change 0 (bare 0))) ∙ rw t at h in cc)
     (λ t. cond-no _ _ t ∙ onto-key k (cut c (l .bytes)) (rw t at h))
 
 pub key-first : (c k : ℕ) (l : Physical) (ls : List Physical) → isWithin (textOn c l) ≡ false
@@ -70,7 +70,7 @@ pub key-text : (c : ℕ) (l : Physical) → isWithin (textOn c l) ≡ false → 
 unfolding textOn
 key-text c l h =
     by-test (isChange (l .bytes))
-    (λ t. let z : true ≡ false = sym (within-key (change 0 0)) ∙ rw t at h in cc)
+    (λ t. let z : true ≡ false = sym (within-key (change 0 (bare 0))) ∙ rw t at h in cc)
     (λ t. cond-no _ _ t)
 
 -- ---- what hangs on no line's number is the same wherever the lines stand

@@ -4,13 +4,14 @@ use mathlib.Core.Path.{_≡_, refl, sym, ap, subst, _∙_}
 use mathlib.Core.List.{List, [], _∷_, _++_, map}
 use mathlib.Core.Bool.{true, _&&_}
 use Rattle.laws.specs.Lists.{all}
-use Rattle.laws.specs.Said.{Said, says, fault}
+use Rattle.laws.specs.Said.{Result, says, fault}
 use Rattle.laws.proofs.Tests.{and-first, and-second, impossible}
 use Rattle.cut_lines.specs.Texts.{Text}
 use Rattle.rules.specs.Steps.{onText}
 use Rattle.rules.specs.Reading.{isWithin}
 use Rattle.rules.specs.Whole.{Held, Outcome, passed, admit, textOf, lineOf, afterAdmission, afterStep, runs}
 use Rattle.records.specs.declared.Lengths.{Lengths}
+use Rattle.records.specs.declared.LineFault.{LineFault}
 use Rattle.rules.specs.declared.ModelState.{ModelState}
 use Rattle.rules.specs.declared.Stage.{Stage}
 use Rattle.rules.specs.declared.Stage.the-variants.{BeforeVersion, InHeader, InComponent, InSelector, InModel, AfterEnd}
@@ -41,11 +42,6 @@ module _ (f : ℕ → ℕ) where
       let r = walks-back ts (b .0) v (subst (λ (x : Stage). Walks x (map (textAt f) ts) v) (b .2) (h .3)) in
       (r .0, r .1, (b .0, h .1, b .1, r .2))
 
-  pub walks-forth : (ts : List Text) (s v : Stage) → Walks s ts v → Walks (stageAt f s) (map (textAt f) ts) (stageAt f v)
-  walks-forth [] s v h = ap (stageAt f) h
-  walks-forth (t ∷ ts) s v h =
-      (stageAt f (h .0), h .1, sym (on-text-at f s t) ∙ ap (wentAt f) (h .2), walks-forth ts (h .0) v (h .3))
-
 -- ---- within a model
 
 pub in-model : (s : Stage) → isInModel s ≡ true → (m : ModelState) × (s ≡ InModel m)
@@ -73,9 +69,9 @@ walks-model (t ∷ ts) m v a h =
 abbrev pub Onward : (Stage → Held → Outcome) → Held → Stage → Type 0
 Onward go z u = (g : Held) × (go u g ≡ passed z)
 
-admission-passed : (k : ℕ) (go : Held → Outcome) (a : Said Held) (z : Held) → afterAdmission k go a ≡ passed z → (g : Held) × (go g ≡ passed z)
+admission-passed : (k : ℕ) (go : Held → Outcome) (a : Result LineFault Held) (z : Held) → afterAdmission k go a ≡ passed z → (g : Held) × (go g ≡ passed z)
 admission-passed k go (says h) z q = (h, q)
-admission-passed k go (fault n) z q = impossible (cc)
+admission-passed k go (fault x) z q = impossible (cc)
 
 pub step-passed : (l : Lengths) (h : Held) (t : Text) (go : Stage → Held → Outcome) (w : Went) (z : Held) → afterStep l h t go w ≡ passed z
     → (u : Stage) × (e : Event) × (w ≡ On u e) × Onward go z u

@@ -4,17 +4,18 @@ use mathlib.Core.Path.{_≡_, refl, sym, _∙_}
 use mathlib.Core.List.{List}
 use mathlib.Core.Bool.{Bool, true, false, not, _&&_}
 use lib.Dec.{eqb}
-use Rattle.laws.specs.Said.{Said, says, fault}
+use Rattle.laws.specs.Said.{Result, Said, says, fault}
 use Rattle.laws.proofs.Tests.{cond-all, and-both}
 use Rattle.words.specs.Words.{word, words}
 use Rattle.name_table.specs.declared.Found.{Found}
 use Rattle.name_table.specs.declared.Found.the-variants.{At, Nothing}
-use Rattle.keywords.specs.Form.{argument}
 use Rattle.keywords.specs.Carried.{keyOf}
 use Rattle.keywords.specs.declared.Keyword.{Keyword}
 use Rattle.keywords.specs.declared.Keyword.the-variants as key
 use Rattle.keywords.specs.declared.ModelPart.{ModelPart}
 use Rattle.keywords.specs.declared.ModelPart.the-variants.{Waveform}
+use Rattle.records.specs.Flaws.{Flaw, toldIn}
+use Rattle.records.specs.declared.LineFault.{LineFault}
 use Rattle.records.specs.declared.Row.{Row}
 use Rattle.records.specs.declared.Edge.the-variants.{Rising}
 use Rattle.cut_lines.specs.Texts.{Text, plain, change}
@@ -22,7 +23,7 @@ use Rattle.line_rules.specs.Fields.{isBracketed, lineAt, rowOf}
 use Rattle.line_rules.specs.Tables.{modelLines, rampLines, fixtures}
 use Rattle.given.specs.Given.{with}
 use Rattle.given.specs.declared.Given.{Given}
-use Rattle.rules.specs.Going.{stop, unless, refuse, namedLine, andThen}
+use Rattle.rules.specs.Going.{stop, stopAt, unless, passes, refuse, namedLine, andThen}
 use Rattle.rules.specs.Model.{rowLine, beginsLetter, waveformLine, modelLine, modelPlace, singlePart, waveformPart, modelPart, modelShut}
 use Rattle.rules.specs.Steps.{onVersion, keyed, onPlain, onChange, onText}
 use Rattle.rules.specs.Reading.{isWithin}
@@ -54,7 +55,7 @@ isOfModel PinRow = false
 isOfModel ChoiceRow = false
 isOfModel WaveformOpened = true
 isOfModel TableRow = true
-isOfModel (Ended alone) = false
+isOfModel (Ended x) = false
 
 abbrev pub stays : Went → Bool
 stays (On s e) = isInModel s && isOfModel e
@@ -65,6 +66,10 @@ stays (Stop x) = true
 stays-unless : (n k : ℕ) (w : Went) → stays w ≡ true → stays (unless n k w) ≡ true
 unfolding unless
 stays-unless n k w h = cond-all (λ (z : Went). stays z ≡ true) (eqb n 0) w (stop n k) (λ t. h) (λ t. refl)
+
+stays-passes : (x : LineFault) (k : ℕ) (w : Went) → stays w ≡ true → stays (passes x k w) ≡ true
+unfolding passes
+stays-passes x k w h = cond-all (λ (z : Went). stays z ≡ true) (eqb (x .number) 0) w (stopAt x k) (λ t. h) (λ t. refl)
 
 stays-refuse : (t : Bool) (n k : ℕ) (w : Went) → stays w ≡ true → stays (refuse t n k w) ≡ true
 unfolding refuse
@@ -80,28 +85,28 @@ stays-then (On AfterEnd e) g h q = cc
 stays-then (Stop x) g h q = refl
 
 -- whatever was given then, it is in the model
-stays-named : (g : Given) (x : Found) (n k : ℕ) (on : Given → Stage) → ((h : Given) → isInModel (on h) ≡ true) → stays (namedLine g x n k on) ≡ true
-stays-named g Nothing n k on q = refl
-stays-named g (At i) n k on q = stays-refuse _ _ _ _ (stays-unless _ _ _ (and-both _ _ (q (with g i)) refl))
+stays-named : (g : Given) (x : Found) (y : Flaw) (k : ℕ) (w : List ℕ) (on : Given → Stage) → ((h : Given) → isInModel (on h) ≡ true) → stays (namedLine g x y k w on) ≡ true
+stays-named g Nothing y k w on q = refl
+stays-named g (At i) y k w on q = stays-refuse _ _ _ _ (stays-passes _ _ _ (and-both _ _ (q (with g i)) refl))
 
 -- ---- a model's lines
 
-row-stays : (on : RowsSeen → ModelList) (m : ModelState) (r : RowsSeen) (k : ℕ) (x : Said Row) → stays (rowLine on m r k x) ≡ true
-row-stays on m r k (fault n) = refl
+row-stays : (on : RowsSeen → ModelList) (m : ModelState) (r : RowsSeen) (k : ℕ) (x : Result LineFault Row) → stays (rowLine on m r k x) ≡ true
+row-stays on m r k (fault x) = refl
 row-stays on m r k (says l) = stays-refuse _ _ _ _ refl
 
 waveform-stays : (m : ModelState) (o : ℕ) (g : Given) (r : RowsSeen) (k : ℕ) (w : List ℕ) → stays (waveformLine m o g r k w) ≡ true
 unfolding waveformLine
 waveform-stays m o g r k w =
     cond-all (λ (z : Went). stays z ≡ true) (beginsLetter (word 0 (words w))) _ _
-    (λ t. stays-refuse _ _ _ _ (stays-named g (lineAt fixtures w) _ k _ (λ h. refl)))
-    (λ t. row-stays (WaveformRows o g) m r k (rowOf (words w)))
+    (λ t. stays-refuse _ _ _ _ (stays-named g (lineAt fixtures w) _ k w _ (λ h. refl)))
+    (λ t. row-stays (WaveformRows o g) m r k (toldIn w (rowOf w)))
 
 line-stays : (m : ModelState) (k : ℕ) (w : List ℕ) (l : ModelList) → stays (modelLine m k w l) ≡ true
-line-stays m k w ModelFirst = stays-named (m .first) (lineAt modelLines w) _ k _ (λ g. refl)
+line-stays m k w ModelFirst = stays-named (m .first) (lineAt modelLines w) _ k w _ (λ g. refl)
 line-stays m k w ModelShut = refl
-line-stays m k w (CurrentRows o r) = row-stays (CurrentRows o) m r k (rowOf (words w))
-line-stays m k w (RampLines o g) = stays-named g (lineAt rampLines w) _ k _ (λ h. refl)
+line-stays m k w (CurrentRows o r) = row-stays (CurrentRows o) m r k (toldIn w (rowOf w))
+line-stays m k w (RampLines o g) = stays-named g (lineAt rampLines w) _ k w _ (λ h. refl)
 line-stays m k w (WaveformRows o g r) = waveform-stays m o g r k w
 
 -- ---- its keywords
@@ -110,8 +115,8 @@ part-stays : (m : ModelState) (k : ℕ) (w : List ℕ) (p : ModelPart) → stays
 unfolding waveformPart singlePart
 part-stays m k w p =
     cond-all (λ (z : Went). stays z ≡ true) (eqb (modelPlace p) (modelPlace (Waveform Rising))) _ _
-    (λ t. stays-unless _ _ _ (stays-refuse _ _ _ _ refl))
-    (λ t. stays-refuse _ _ _ _ (stays-unless _ _ _ refl))
+    (λ t. stays-passes _ _ _ (stays-refuse _ _ _ _ refl))
+    (λ t. stays-refuse _ _ _ _ (stays-passes _ _ _ refl))
 
 shut-stays : (m : ModelState) (l : ModelList) → stays (modelShut m l) ≡ true
 shut-stays m ModelFirst = refl
@@ -127,7 +132,7 @@ keyed-stays m k w (says key.IbisVer) h = refl
 keyed-stays m k w (says (key.InHeader p)) h = refl
 keyed-stays m k w (says (key.Opens o)) h = cc
 keyed-stays m k w (says (key.InComponent p)) h = refl
-keyed-stays m k w (says (key.InModel p)) h = part-stays m k (argument w) p
+keyed-stays m k w (says (key.InModel p)) h = part-stays m k w p
 keyed-stays m k w (says key.End) h = cc
 
 -- ---- any line
@@ -142,4 +147,4 @@ plain-stays m k w h =
 pub text-stays : (m : ModelState) (t : Text) → isWithin t ≡ true → stays (onText (InModel m) t) ≡ true
 unfolding onChange
 text-stays m (plain k w) h = plain-stays m k w (sym (within-key (plain k w)) ∙ h)
-text-stays m (change k n) h = stays-refuse _ _ _ _ (stays-refuse _ _ _ _ (stays-refuse _ _ _ _ (stays-unless _ _ _ refl)))
+text-stays m (change k x) h = stays-refuse _ _ _ _ (stays-refuse _ _ _ _ (stays-refuse _ _ _ _ (stays-passes _ _ _ refl)))

@@ -81,7 +81,7 @@ Spares {section = section} stands n k =
 
 pub record Keeps {c : ℕ} {section : List Physical} (s t : List ℕ) (first : Stands c section s) (second : Stands c section t) (m : Lengths) : Type 0 where
   pub accepted : AcceptedFile m t → SameIn s t first second
-  pub refusal : (n k : ℕ) → outcome m t ≡ refused n k → Spares second n k
+  pub refusal : (n k column : ℕ) → outcome m t ≡ refused n k column → Spares second n k
 
 abbrev pub Demand3 : Type 0
 Demand3 =

@@ -6,6 +6,7 @@ use mathlib.Core.Bool.{Bool, false, cond, not, _&&_}
 use lib.ListN.{length}
 use Rattle.laws.specs.Lists.{all}
 use Rattle.laws.specs.Said.{orElse}
+use Rattle.records.specs.Flaws.{bare}
 use Rattle.lines.specs.Lines.{Physical, cut}
 use Rattle.cut_lines.specs.Change.{isChange, changeOf}
 use Rattle.cut_lines.specs.Texts.{Text, plain, change, textsFrom}
@@ -13,7 +14,7 @@ use Rattle.rules.specs.Reading.{isKey, isWithin, sectionsIn}
 
 -- what cutting leaves of a line; its number and a [Comment Char] line's fault do not count here
 unfoldable pub textOn : ℕ → Physical → Text
-textOn c l = cond (isChange (l .bytes)) (change 0 0) (plain 0 (cut c (l .bytes)))
+textOn c l = cond (isChange (l .bytes)) (change 0 (bare 0)) (plain 0 (cut c (l .bytes)))
 
 -- the comment character in force after a line, and after lines
 unfoldable pub charAfterLine : ℕ → Physical → ℕ

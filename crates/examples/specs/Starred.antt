@@ -22,13 +22,13 @@ use Rattle.records.specs.declared.Verdict.{Verdict}
 use Rattle.records.specs.declared.Verdict.the-variants.{Accepted, Refused}
 use Rattle.examples.specs.Computing.{computing}
 
--- refused with fault n at line k
+-- refused with fault n at line k, with no column
 abbrev pub refusedAt : ℕ → ℕ → Verdict
-refusedAt n k = Refused (record { number = n; line = k })
+refusedAt n k = Refused (record { number = n; line = k; column = 0 })
 
 abbrev pub verdict : Outcome → Verdict
 verdict (passed h) = Accepted
-verdict (refused n k) = refusedAt n k
+verdict (refused n k c) = Refused (record { number = n; line = k; column = c })
 
 abbrev pub atBounds : Lengths
 atBounds = record { components = 8; pins = 512; selectors = 32; choices = 256; models = 64; waveforms = 1024; rows = 1000 }
@@ -82,7 +82,7 @@ starred =
     ∷ number "1e25" (fault 12)
     ∷ number "0e99" (0 e+ 0)
     ∷ line 120 Clean
-    ∷ line 121 (Faulty (record { number = 3; line = 1 }))
+    ∷ line 121 (Faulty (record { number = 3; line = 1; column = 0 }))
     ∷ file "" (refusedAt 19 1)
     -- not starred
     ∷ file (listing "1 DOOR in1" "2 VSS GND" "Model_type Input") Accepted

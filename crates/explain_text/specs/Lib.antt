@@ -1,4 +1,3 @@
--- What a person reads of a file: a refusal with its line, or a summary.
+-- What a person reads of an accepted file: a summary.
 pub mod Capacitances
-pub mod Refusals
 pub mod Summaries

@@ -1,11 +1,9 @@
-// What a person reads of a file, as bytes in a lent buffer: a refusal with its line, or a summary in columns.
+// What a person reads of an accepted file, as bytes in a lent buffer: a summary in columns.
 pub mod capacitances; // capacitances.rt: the die capacitance of models in columns
-pub mod refusals; // refusals.rt: where, which fault, the line itself, and what to look at
 pub mod summaries; // summaries.rt: the file, and its pins in columns
 
 pub use capacitances::put_capacitance_heading;
 pub use capacitances::put_capacitances;
-pub use refusals::put_refusal;
 pub use summaries::Widths;
 pub use summaries::put_bare_pin;
 pub use summaries::put_component;

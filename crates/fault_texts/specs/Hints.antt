@@ -18,7 +18,7 @@ hints =
     ∷ bytes "Look further up in the same section, and leave one of the two."
     ∷ bytes "The line is the keyword of the section or table that lacks something: compare it with a whole one."
     ∷ bytes "Count the words, and look at the spelling, the length and the letter case of each."
-    ∷ bytes "Digits with at most one point, perhaps a power, then letters only; NA stands for min and max and inside a table only."
+    ∷ bytes "A number is perhaps a sign, digits with at most one point, perhaps a power, then letters only."
     ∷ bytes "At most 15 digits, and a power of ten from -40 to 24. M is mega, m is milli."
     ∷ bytes "The first column rises from row to row; 2 to 100 rows, of a waveform 2 to 1,000; the first and last typ are numbers."
     ∷ bytes "Look for the name further up: names of components, of pins in one component, of models and selectors, of rows in one selector."

@@ -19,7 +19,7 @@ pub fn put_hint(out: &mut [u8], at: usize, number: u8) -> usize
         Look further up in the same section, and leave one of the two.\n\
         The line is the keyword of the section or table that lacks something: compare it with a whole one.\n\
         Count the words, and look at the spelling, the length and the letter case of each.\n\
-        Digits with at most one point, perhaps a power, then letters only; NA stands for min and max and inside a table only.\n\
+        A number is perhaps a sign, digits with at most one point, perhaps a power, then letters only.\n\
         At most 15 digits, and a power of ten from -40 to 24. M is mega, m is milli.\n\
         The first column rises from row to row; 2 to 100 rows, of a waveform 2 to 1,000; the first and last typ are numbers.\n\
         Look for the name further up: names of components, of pins in one component, of models and selectors, of rows in one selector.\n\

@@ -39,9 +39,9 @@ first-placed s c e = subst (Placed s) (sym e) (record { within = zero-le; lines 
 
 -- ---- refused
 
-pub refuses : (l : Lengths) (s xs : List ℕ) (r : Answer) (n k : ℕ) → outcome l s ≡ refused n k → r ≡ refusal n k → Outlines l s r xs
+pub refuses : (l : Lengths) (s xs : List ℕ) (r : Answer) (f : Fault) → outcome l s ≡ refused (f .number) (f .line) (f .column) → r ≡ refusal f → Outlines l s r xs
 unfolding answerOf
-refuses l s xs r n k is e = record { answer = e ∙ sym (ap (answerFor (fileIn (textsOf s))) is); sorted = subst (SortedFor l s xs) (sym is) tt }
+refuses l s xs r f is e = record { answer = e ∙ sym (ap (answerFor (fileIn (textsOf s))) is); sorted = subst (SortedFor l s xs) (sym is) tt }
 
 -- ---- accepted
 
@@ -83,11 +83,11 @@ module _ (l : Lengths) (s xs : List ℕ) (t : Tally) (read : ReadWhole l s xs t)
 
 module _ (l : Lengths) (s xs : List ℕ) (z : Scanned) (clean : bytesFault s ≡ Clean)
     (read : runLog l (past s firstCursor) BeforeVersion emptyLog (rest s firstCursor) ≡ finishIs s xs z) where
-  pub twice : (k : ℕ) → clash (map entryOf (notesTo s xs (z .tally .names))) ≡ some k → outcome l s ≡ refused 14 k
+  pub twice : (k : ℕ) → clash (map entryOf (notesTo s xs (z .tally .names))) ≡ some k → outcome l s ≡ refused 14 k 0
   unfolding logIn
   twice k h = used-twice l s clean (finishIs s xs z) read k h
 
-  pub broken : (f : Fault) → clash (map entryOf (notesTo s xs (z .tally .names))) ≡ none → z .ending ≡ Broken f → outcome l s ≡ refused (f .number) (f .line)
+  pub broken : (f : Fault) → clash (map entryOf (notesTo s xs (z .tally .names))) ≡ none → z .ending ≡ Broken f → outcome l s ≡ refused (f .number) (f .line) (f .column)
   unfolding logIn
   broken f h e = broken-off l s clean (finishIs s xs z) read f h (ap faultOfEnding e)
 
@@ -106,7 +106,7 @@ module _ (l : Lengths) (s xs : List ℕ) (z : Scanned) (clean : bytesFault s ≡
 
 verdict-for : (f : FileIs) (o : Outcome) → answerFor f o .verdict ≡ verdictOf o
 verdict-for f (passed h) = refl
-verdict-for f (refused n k) = refl
+verdict-for f (refused n k c) = refl
 
 pub verdict-is : (l : Lengths) (s : List ℕ) → answerOf l s .verdict ≡ verdictOf (outcome l s)
 unfolding answerOf

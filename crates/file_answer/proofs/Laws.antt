@@ -40,7 +40,7 @@ module _ (l : Lengths) (s : List ℕ) where
   unfolding past
   past-all = omega arith
 
-  pub faulty : (f : Fault) → bytesFault s ≡ Faulty f → outcome l s ≡ refused (f .number) (f .line)
+  pub faulty : (f : Fault) → bytesFault s ≡ Faulty f → outcome l s ≡ refused (f .number) (f .line) (f .column)
   unfolding outcome
   faulty f h = rw h refl
 
@@ -49,7 +49,7 @@ module _ (l : Lengths) (s : List ℕ) where
     unfolding bytesFault
     small =
         by-order (length s) 65536 (λ h. h)
-        (λ h. let z : Faulty (record { number = 1; line = 0 }) ≡ Clean = sym (cond-no _ _ (lt-leb (length s) 65536 h)) ∙ clean in impossible (cc))
+        (λ h. let z : Faulty (record { number = 1; line = 0; column = 0 }) ≡ Clean = sym (cond-no _ _ (lt-leb (length s) 65536 h)) ∙ clean in impossible (cc))
 
     pub clean-first : CleanFrom s firstCursor
     unfolding bytesFault
@@ -62,10 +62,10 @@ module _ (l : Lengths) (s : List ℕ) where
         ∙ settles l (past s firstCursor) (rest s firstCursor) BeforeVersion emptyLog empty-counted refl))
 
     module _ (f : Finish) (read : readTo l s ≡ f) where
-      pub used-twice : (k : ℕ) → clash (entries (f .log)) ≡ some k → outcome l s ≡ refused 14 k
+      pub used-twice : (k : ℕ) → clash (entries (f .log)) ≡ some k → outcome l s ≡ refused 14 k 0
       used-twice k h = clean-outcome ∙ (rw read rw h refl)
 
-      pub broken-off : (x : Fault) → clash (entries (f .log)) ≡ none → f .fault ≡ some x → outcome l s ≡ refused (x .number) (x .line)
+      pub broken-off : (x : Fault) → clash (entries (f .log)) ≡ none → f .fault ≡ some x → outcome l s ≡ refused (x .number) (x .line) (x .column)
       broken-off x h g = clean-outcome ∙ (rw read rw h rw g refl)
 
       pub read-through : clash (entries (f .log)) ≡ none → f .fault ≡ none

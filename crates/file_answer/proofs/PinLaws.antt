@@ -1,13 +1,13 @@
 -- A pin row behind the first one is noted and counted, and leaves the stage as it is.
 use Prim.Native.Nat.{ℕ, _+_, _-_, _≤_, _<_}
 use mathlib.Core.Path.{_≡_, refl, sym, ap, _∙_, subst}
-use mathlib.Core.List.{List, _∷_}
+use mathlib.Core.List.{List, [], _∷_}
 use mathlib.Core.Bool.{Bool, true}
 use native.Mathlib.Omega.{arith}
 use lib.ListN.{length, drop}
 use Rattle.laws.specs.Lists.{part}
 use Rattle.laws.proofs.Lists.{part-length, part-part}
-use Rattle.laws.proofs.Tests.{cond-no, by-order}
+use Rattle.laws.proofs.Tests.{by-test, by-order, cond-no}
 use Rattle.words.specs.Words.{word, words}
 use Rattle.words.specs.declared.Word.{Word}
 use Rattle.words.proofs.Chains.{link, done, words-under, words-from}
@@ -16,16 +16,16 @@ use Rattle.cut_lines.specs.declared.Cursor.{Cursor}
 use Rattle.records.specs.Bounds.{most}
 use Rattle.records.specs.declared.Kind.the-variants.{OfPin}
 use Rattle.records.specs.declared.Lengths.{Lengths}
-use Rattle.rules.specs.Going.{unless}
+use Rattle.line_rules.specs.Fields.{isPinName, isPinModel, isSized}
+use Rattle.rules.specs.Going.{passes}
 use Rattle.rules.specs.Whole.{bound}
-use Rattle.rules.specs.Component.{withList}
+use Rattle.rules.specs.Component.{withList, pinFlaw}
 use Rattle.rules.specs.Steps.{onPlain}
 use Rattle.rules.specs.declared.ComponentList.the-variants.{PinRows}
 use Rattle.rules.specs.declared.ComponentState.{ComponentState}
 use Rattle.rules.specs.declared.Stage.{Stage}
 use Rattle.rules.specs.declared.Stage.the-variants.{InComponent, AfterEnd}
 use Rattle.rules.specs.declared.Event.the-variants.{PinRow}
-use Rattle.component_steps.proofs.Laws.{row-few}
 use Rattle.notes.specs.Noted.{going}
 use Rattle.note_words.specs.Store.{namesHeld, storeLength}
 use Rattle.noted_events.specs.Events.{logOf, loggedAt, KeptCounts, Ready}
@@ -41,10 +41,25 @@ use Rattle.file_answer.proofs.ScanLaws.{ready, text-going, reached-on}
 -- ---- the stage
 
 pub pins-kept : (c : ComponentState) (o : ℕ) (long : Bool) → KeepsPins (InComponent (withList c (PinRows o long true))) long
-unfolding onPlain unless
+unfolding onPlain passes
 pins-kept c o long k w plain fine = cond-no _ _ plain ∙ (rw fine refl)
 
 -- ---- one pin
+
+few-words : (ws : List (List ℕ)) → length ws ≤ 2 → word 2 ws ≡ []
+unfolding word
+few-words [] h = refl
+few-words (a ∷ []) h = refl
+few-words (a ∷ b ∷ []) h = refl
+few-words (a ∷ b ∷ c ∷ ws) h = absurd (omega arith)
+
+-- a row of two words or fewer lacks its model, if none of its names is at fault before
+row-few : (long : Bool) (w : List ℕ) → length (words w) ≤ 2 → pinFlaw long w .number ≡ 10
+unfolding pinFlaw isPinModel isSized
+row-few long w h =
+    by-test (isPinName (word 0 (words w)))
+    (λ a. by-test (isSized 40 (word 1 (words w))) (λ b. rw (a, b, few-words (words w) h) refl) (λ b. rw (a, b) refl))
+    (λ a. rw a refl)
 
 module _ (l : Lengths) (s xs : List ℕ) (t : Tally) (p : Spot) (long : Bool) (ys : List ℕ) (ready : Ready s xs t p) (room : t .counts .pins < bound l OfPin)
     (pin : PinPut s xs (t .names) (t .counts .pins) (p .start) (p .end) long ys) where
@@ -55,7 +70,7 @@ module _ (l : Lengths) (s xs : List ℕ) (t : Tally) (p : Spot) (long : Bool) (y
   model-there : pin .names .model .start < length w
   model-there =
       by-order (length w) (pin .names .model .start)
-      (λ h. let z = row-few long (words w) (words-under (link (pin .lie .pin) (link (pin .lie .signal) done)) (pin .lie .model) h) ∙ pin .pin in absurd (omega (arith, z)))
+      (λ h. absurd (omega (arith, pin .pin, row-few long w (words-under (link (pin .lie .pin) (link (pin .lie .signal) done)) (pin .lie .model) h))))
       (λ h. h)
 
   names-said : words w ≡ part (pin .names .pin .start) (pin .names .pin .end) w ∷ part (pin .names .signal .start) (pin .names .signal .end) w ∷ part (pin .names .model .start) (pin .names .model .end) w ∷ words (drop (pin .names .model .end) w)

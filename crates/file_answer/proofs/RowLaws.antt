@@ -6,12 +6,13 @@ use mathlib.Core.Bool.{Bool, cond}
 use native.Mathlib.Omega.{arith}
 use lib.Dec.{ltb, eqb}
 use borrow.Author.Tests.{lt-leb}
-use Rattle.laws.specs.Said.{Said, says, fault}
+use Rattle.laws.specs.Said.{says, fault}
 use Rattle.laws.specs.Lists.{part}
 use Rattle.laws.proofs.Tests.{by-test, cond-no, impossible}
 use Rattle.decimal.specs.Answers.{pastNumbers, decimalIn}
 use Rattle.decimal.specs.declared.Decimal.{Decimal}
 use Rattle.words.specs.Words.{word, words}
+use Rattle.records.specs.Flaws.{Reads, toldIn}
 use Rattle.line_rules.specs.Fields.{rowOf}
 use Rattle.cut_lines.specs.Texts.{Text, plain}
 use Rattle.line_cells.specs.declared.RowWords.{RowWords}
@@ -47,30 +48,30 @@ use Rattle.file_answer.proofs.ScanLaws.{reached-on}
 -- ---- the tables
 
 pub current-holds : (o : ℕ) → HoldsRows (CurrentRows o)
-current-holds o m k w r y e = ap (rowLine (CurrentRows o) m r k) e
+current-holds o m k w r y e = ap (λ (x : Reads line.Row). rowLine (CurrentRows o) m r k (toldIn w x)) e
 
 pub waveform-holds : (o : ℕ) (g : Given) → HoldsRows (WaveformRows o g)
 unfolding waveformLine
 waveform-holds o g m k w r y e =
     by-test (beginsLetter (word 0 (words w)))
-    (λ b. let z = sym (letter-no-row (words w) b) ∙ e in impossible (cc))
-    (λ b. cond-no _ _ b ∙ ap (rowLine (WaveformRows o g) m r k) e)
+    (λ b. let z = sym (letter-no-row w b) ∙ e in impossible (cc))
+    (λ b. cond-no _ _ b ∙ ap (λ (x : Reads line.Row). rowLine (WaveformRows o g) m r k (toldIn w x)) e)
 
 -- ---- one row
 
-row-said : (r more : RowsSeen) (x : Said line.Row) → rowStep r x ≡ step.Next more → (y : line.Row) × (x ≡ says y)
-row-said r more (says y) h = (y, refl)
-row-said r more (fault n) h = impossible (cc)
+row-said : (w : List ℕ) (r more : RowsSeen) (x : Reads line.Row) → rowStep r (toldIn w x) ≡ step.Next more → (y : line.Row) × (x ≡ says y)
+row-said w r more (says y) h = (y, refl)
+row-said w r more (fault f) h = impossible (cc)
 
 module _ (m : ModelState) (table : RowsSeen → ModelList) (holds : HoldsRows table) (w : List ℕ) (r more : RowsSeen) (row : RowIs w r more) where
   row-on : (k : ℕ) → onPlain (InModel (withModelList m (table r))) k w ≡ On (InModel (withModelList m (table more))) TableRow
   unfolding onPlain
   row-on k =
-      let y = row-said r more (rowOf (words w)) (row .row) in
+      let y = row-said w r more (rowOf w) (row .row) in
       cond-no _ _ (row .unbracketed)
       ∙ holds (withModelList m (table r)) k w r (y .0) (y .1)
       ∙ row-line table (withModelList m (table r)) r k (says (y .0))
-      ∙ ap (rowWent table (withModelList m (table r)) k) (ap (rowStep r) (sym (y .1)) ∙ row .row)
+      ∙ ap (rowWent table (withModelList m (table r)) k) (ap (λ (x : Reads line.Row). rowStep r (toldIn w x)) (sym (y .1)) ∙ row .row)
 
   row-runs : (l : Lengths) (s xs : List ℕ) (t : Tally) (p k c : ℕ) (ts : List Text) → c < l .rows
       → runLog l p (InModel (withModelList m (table r))) (logOf s xs (withRows t c)) (plain k w ∷ ts) ≡ runLog l p (InModel (withModelList m (table more))) (logOf s xs (withRows t (c + 1))) ts

@@ -9,11 +9,13 @@ use borrow.Author.Tests.{eq-eqb, ne-eqb}
 use lib.ListN.{length}
 use Rattle.laws.specs.Lists.{part}
 use Rattle.laws.proofs.Tests.{by-test, cond-yes, cond-no, impossible}
+use Rattle.records.specs.Flaws.{atLine}
 use Rattle.records.specs.declared.Fault.{Fault}
+use Rattle.records.specs.declared.LineFault.{LineFault}
 use Rattle.cut_lines.specs.Texts.{Text, plain}
 use Rattle.cut_lines.specs.Cursors.{rest, past, firstCursor, CleanFrom, Goes, TextIs, ChangeIs, OutIs}
 use Rattle.cut_lines.specs.declared.Cursor.{Cursor}
-use Rattle.rules.specs.Going.{stop, unless, refuse, quietly}
+use Rattle.rules.specs.Going.{passes, refuse, quietly}
 use Rattle.rules.specs.Steps.{isBefore, isEnded, onPlain, onChange}
 use Rattle.rules.specs.Whole.{bound}
 use Rattle.records.specs.Bounds.{mostWaveforms}
@@ -46,9 +48,9 @@ module _ (l : Lengths) (n : ℕ) (s xs ys : List ℕ) (g : Stage) (t : Tally) (p
       → textStep l n s xs g t p ≡ runLog l n u (logOf s ys v) (rest s (p .next))
   plain-going u e v h k = rw h rw k refl
 
-  pub plain-full : (u : Stage) (e : Event) (m : ℕ) (v : Tally) → onPlain g (p .line) (part (p .start) (p .end) s) ≡ On u e → loggedAt l s xs t p e ≡ full m (p .line) (logOf s ys v)
-      → textStep l n s xs g t p ≡ broken m (p .line) (logOf s ys v)
-  plain-full u e m v h k = rw h rw k refl
+  pub plain-full : (u : Stage) (e : Event) (f : LineFault) (v : Tally) → onPlain g (p .line) (part (p .start) (p .end) s) ≡ On u e → loggedAt l s xs t p e ≡ full f (p .line) (logOf s ys v)
+      → textStep l n s xs g t p ≡ broken (atLine (p .line) f) (logOf s ys v)
+  plain-full u e f v h k = rw h rw k refl
 
   pub plain-stop : (f : Fault) → onPlain g (p .line) (part (p .start) (p .end) s) ≡ Stop f → textStep l n s xs g t p ≡ finishIs s xs (record { ending = Broken f; tally = t })
   plain-stop f h = rw h refl
@@ -57,7 +59,7 @@ module _ (l : Lengths) (n : ℕ) (s xs ys : List ℕ) (g : Stage) (t : Tally) (p
 
 abbrev numberOf : Logged → ℕ
 numberOf (going g) = 1
-numberOf (full n k g) = n
+numberOf (full f k g) = f .number
 
 numbered-cond : (b : Bool) (x y : Logged) → eqb (numberOf x) 0 ≡ false → eqb (numberOf y) 0 ≡ false → eqb (numberOf (cond b x y)) 0 ≡ false
 numbered-cond true x y h k = h
@@ -67,6 +69,13 @@ numbered-note : (l : Lengths) (g : Log) (n : Note) → eqb (numberOf (withNote l
 unfolding withNote
 numbered-note l g n = numbered-cond (leb (bound l (n .kind)) (used (g .counts) (n .kind))) _ _ refl refl
 
+-- [End], by the fault of its own line
+numbered-end : (k : ℕ) (g : Log) (f : LineFault) → eqb (numberOf (cond (eqb (f .number) 0) (going g) (full f k g))) 0 ≡ false
+numbered-end k g f =
+    by-test (eqb (f .number) 0)
+    (λ b. ap (λ (x : Logged). eqb (numberOf x) 0) (cond-yes _ _ b))
+    (λ b. ap (λ (x : Logged). eqb (numberOf x) 0) (cond-no _ _ b) ∙ b)
+
 numbered : (l : Lengths) (g : Log) (t : Text) (ts : List Text) (e : Event) → eqb (numberOf (logged l g t ts e)) 0 ≡ false
 numbered l g t ts event.Quiet = refl
 numbered l g t ts (event.Opened o) = numbered-note l g _
@@ -74,47 +83,47 @@ numbered l g t ts event.PinRow = numbered-note l g _
 numbered l g t ts event.ChoiceRow = numbered-note l g _
 numbered l g t ts event.WaveformOpened = numbered-cond (leb (min mostWaveforms (l .waveforms)) (g .counts .waveforms)) _ _ refl refl
 numbered l g t ts event.TableRow = numbered-cond (leb (l .rows) (g .counts .rows)) _ _ refl refl
-numbered l g t ts (event.Ended alone) = numbered-cond (eqb (g .counts .components) 0) _ _ refl (numbered-cond alone _ _ refl refl)
+numbered l g t ts (event.Ended f) = numbered-cond (eqb (g .counts .components) 0) _ _ refl (numbered-end _ g f)
 
-pub full-told : (l : Lengths) (s xs ys : List ℕ) (t : Tally) (p : Spot) (e : Event) (n : ℕ) (v : Tally) → loggedAt l s xs t p e ≡ toldIs s ys (p .line) (Full n v)
-    → Full n v ≡ toldBy (record { tally = v; fault = n })
-full-told l s xs ys t p e n v h =
+pub full-told : (l : Lengths) (s xs ys : List ℕ) (t : Tally) (p : Spot) (e : Event) (f : LineFault) (v : Tally) → loggedAt l s xs t p e ≡ toldIs s ys (p .line) (Full f v)
+    → Full f v ≡ toldBy (record { tally = v; fault = f })
+full-told l s xs ys t p e f v h =
     sym (cond-no _ _ (ap (λ (x : Logged). eqb (numberOf x) 0) (sym h) ∙ numbered l (logOf s xs t) (plain (p .line) (part (p .start) (p .end) s)) (rest s (p .next)) e))
 
 -- ---- a line that is noted, and one that is not
 
-told-going : (r : NotedLine) → r .fault ≡ 0 → toldBy r ≡ Going (r .tally)
-told-going r h = cond-yes _ _ (eq-eqb (r .fault) 0 h)
+told-going : (r : NotedLine) → r .fault .number ≡ 0 → toldBy r ≡ Going (r .tally)
+told-going r h = cond-yes _ _ (eq-eqb (r .fault .number) 0 h)
 
-told-full : (r : NotedLine) → (r .fault ≡ 0 → ⊥) → toldBy r ≡ Full (r .fault) (r .tally)
-told-full r h = cond-no _ _ (ne-eqb (r .fault) 0 h)
+told-full : (r : NotedLine) → (r .fault .number ≡ 0 → ⊥) → toldBy r ≡ Full (r .fault) (r .tally)
+told-full r h = cond-no _ _ (ne-eqb (r .fault .number) 0 h)
 
 -- ---- a [Comment Char] line adds nothing
 
-stop-on : {X : Type 0} (n k : ℕ) (u : Stage) (e : Event) → stop n k ≡ On u e → X
-stop-on n k u e h = impossible (cc)
+stop-on : {X : Type 0} (f : Fault) (u : Stage) (e : Event) → Stop f ≡ On u e → X
+stop-on f u e h = impossible (cc)
 
 module _ (u : Stage) (e : Event) where
   quiet-refuse : (t : Bool) (n k : ℕ) (went : Went) → (went ≡ On u e → e ≡ Quiet) → refuse t n k went ≡ On u e → e ≡ Quiet
   unfolding refuse
-  quiet-refuse t n k went q h = by-test t (λ b. stop-on n k u e (sym (cond-yes _ _ b) ∙ h)) (λ b. q (sym (cond-no _ _ b) ∙ h))
+  quiet-refuse t n k went q h = by-test t (λ b. stop-on _ u e (sym (cond-yes _ _ b) ∙ h)) (λ b. q (sym (cond-no _ _ b) ∙ h))
 
-  quiet-unless : (n k : ℕ) (s : Stage) → unless n k (quietly s) ≡ On u e → e ≡ Quiet
-  unfolding unless
-  quiet-unless n k s h =
-      by-test (eqb n 0)
+  quiet-passes : (f : LineFault) (k : ℕ) (s : Stage) → passes f k (quietly s) ≡ On u e → e ≡ Quiet
+  unfolding passes
+  quiet-passes f k s h =
+      by-test (eqb (f .number) 0)
       (λ b. let z : On s Quiet ≡ On u e = sym (cond-yes _ _ b) ∙ h in cc)
-      (λ b. stop-on n k u e (sym (cond-no _ _ b) ∙ h))
+      (λ b. stop-on _ u e (sym (cond-no _ _ b) ∙ h))
 
-  quiet-change : (g : Stage) (k n : ℕ) → onChange g k n ≡ On u e → e ≡ Quiet
+  quiet-change : (g : Stage) (k : ℕ) (f : LineFault) → onChange g k f ≡ On u e → e ≡ Quiet
   unfolding onChange
-  quiet-change g k n =
+  quiet-change g k f =
       quiet-refuse (isEnded g) 7 k _
-      (quiet-refuse (eqb n 5) 5 k _
+      (quiet-refuse (eqb (f .number) 5) 5 k _
       (quiet-refuse (isBefore g) 7 k _
-      (quiet-unless n k g)))
+      (quiet-passes f k g)))
 
-module _ (l : Lengths) (n : ℕ) (s xs : List ℕ) (g : Stage) (t : Tally) (k f : ℕ) (c : Cursor) where
+module _ (l : Lengths) (n : ℕ) (s xs : List ℕ) (g : Stage) (t : Tally) (k : ℕ) (f : LineFault) (c : Cursor) where
   pub change-on : (u : Stage) (e : Event) → onChange g k f ≡ On u e → changeStep l n s xs g t k f c ≡ runLog l n u (logOf s xs t) (rest s c)
   change-on u e h = rw h rw (quiet-change u e g k f h) refl
 
@@ -131,7 +140,7 @@ module _ (l : Lengths) (s xs : List ℕ) (x : Standing) where
   unfolding runLog
   run-text p h = rw (h .more) refl
 
-  pub run-change : (k f : ℕ) (n : Cursor) → ChangeIs s (x .cursor) k f n → runFrom l s xs x ≡ changeStep l (past s (x .cursor)) s xs (x .stage) (x .tally) k f n
+  pub run-change : (k : ℕ) (f : LineFault) (n : Cursor) → ChangeIs s (x .cursor) k f n → runFrom l s xs x ≡ changeStep l (past s (x .cursor)) s xs (x .stage) (x .tally) k f n
   unfolding runLog
   run-change k f n h = rw (h .more) refl
 
@@ -153,9 +162,9 @@ module _ (l : Lengths) (s xs ys : List ℕ) (g : Stage) (c : Cursor) (t : Tally)
       ∙ plain-going l (past s c) s xs ys g t p u e v h k
       ∙ ap (λ (m : ℕ). runLog l m u (logOf s ys v) (rest s (p .next))) (text .goes .ends)
 
-  text-full : (u : Stage) (e : Event) (n : ℕ) (v : Tally) → onPlain g (p .line) (part (p .start) (p .end) s) ≡ On u e → loggedAt l s xs t p e ≡ full n (p .line) (logOf s ys v)
-      → runFrom l s xs (standing g c t) ≡ finishIs s ys (record { ending = Broken (record { number = n; line = p .line }); tally = v })
-  text-full u e n v h k = run-text l s xs (standing g c t) p text ∙ plain-full l (past s c) s xs ys g t p u e n v h k
+  text-full : (u : Stage) (e : Event) (f : LineFault) (v : Tally) → onPlain g (p .line) (part (p .start) (p .end) s) ≡ On u e → loggedAt l s xs t p e ≡ full f (p .line) (logOf s ys v)
+      → runFrom l s xs (standing g c t) ≡ finishIs s ys (record { ending = Broken (atLine (p .line) f); tally = v })
+  text-full u e f v h k = run-text l s xs (standing g c t) p text ∙ plain-full l (past s c) s xs ys g t p u e f v h k
 
   pub text-stop : (f : Fault) → onPlain g (p .line) (part (p .start) (p .end) s) ≡ Stop f → runFrom l s xs (standing g c t) ≡ finishIs s xs (record { ending = Broken f; tally = t })
   text-stop f h = run-text l s xs (standing g c t) p text ∙ plain-stop l (past s c) s xs ys g t p f h
@@ -169,21 +178,21 @@ module _ (l : Lengths) (s xs ys : List ℕ) (g : Stage) (c : Cursor) (t : Tally)
   noted-here : loggedAt l s xs t p e ≡ toldIs s ys (p .line) (toldBy r)
   noted-here = subst (λ (z : Spot). loggedAt l s xs t z e ≡ toldIs s ys (z .line) (toldBy r)) is noted
 
-  pub noted-going : (u : Stage) → onPlain g (p .line) (part (p .start) (p .end) s) ≡ On u e → r .fault ≡ 0 → runFrom l s xs (standing g c t) ≡ runFrom l s ys (standing u (p .next) (r .tally))
+  pub noted-going : (u : Stage) → onPlain g (p .line) (part (p .start) (p .end) s) ≡ On u e → r .fault .number ≡ 0 → runFrom l s xs (standing g c t) ≡ runFrom l s ys (standing u (p .next) (r .tally))
   noted-going u h z = text-going l s xs ys g c t p text u e (r .tally) h (noted-here ∙ ap (toldIs s ys (p .line)) (told-going r z))
 
-  pub noted-full : (u : Stage) → onPlain g (p .line) (part (p .start) (p .end) s) ≡ On u e → (r .fault ≡ 0 → ⊥)
-      → runFrom l s xs (standing g c t) ≡ finishIs s ys (record { ending = Broken (record { number = r .fault; line = p .line }); tally = r .tally })
+  pub noted-full : (u : Stage) → onPlain g (p .line) (part (p .start) (p .end) s) ≡ On u e → (r .fault .number ≡ 0 → ⊥)
+      → runFrom l s xs (standing g c t) ≡ finishIs s ys (record { ending = Broken (atLine (p .line) (r .fault)); tally = r .tally })
   noted-full u h z = text-full l s xs ys g c t p text u e (r .fault) (r .tally) h (noted-here ∙ ap (toldIs s ys (p .line)) (told-full r z))
 
 pub noted-sound : (l : Lengths) (s xs ys : List ℕ) (g : Stage) (c : Cursor) (t : Tally) (p : Spot) → TextIs s c (p .line) (p .start) (p .end) (p .next) → (r : NotedLine) → Ground s xs c t → length ys ≡ length xs
-    → KeptBy ys t (toldBy r) → r .fault ≡ 0 → Ground s ys (p .next) (r .tally)
+    → KeptBy ys t (toldBy r) → r .fault .number ≡ 0 → Ground s ys (p .next) (r .tally)
 noted-sound l s xs ys g c t p text r h k m z = text-sound l s xs ys g c t p text (r .tally) h k (subst (KeptBy ys t) (told-going r z) m)
 
-pub noted-names : (xs : List ℕ) (t : Tally) (r : NotedLine) → KeptBy xs t (toldBy r) → (r .fault ≡ 0 → ⊥) → r .tally .names ≤ mostNames
+pub noted-names : (xs : List ℕ) (t : Tally) (r : NotedLine) → KeptBy xs t (toldBy r) → (r .fault .number ≡ 0 → ⊥) → r .tally .names ≤ mostNames
 noted-names xs t r m z = subst (KeptBy xs t) (told-full r z) m
 
-module _ (l : Lengths) (s xs : List ℕ) (g : Stage) (c : Cursor) (t : Tally) (k f : ℕ) (n : Cursor) (line : ChangeIs s c k f n) where
+module _ (l : Lengths) (s xs : List ℕ) (g : Stage) (c : Cursor) (t : Tally) (k : ℕ) (f : LineFault) (n : Cursor) (line : ChangeIs s c k f n) where
   pub line-on : (u : Stage) (e : Event) → onChange g k f ≡ On u e → runFrom l s xs (standing g c t) ≡ runFrom l s xs (standing u n t)
   line-on u e h =
       run-change l s xs (standing g c t) k f n line

@@ -5,6 +5,7 @@ use Rattle.rules.specs.Reading.{FileIs, fileIn}
 use Rattle.layout.specs.Laid.{laid, countsOf}
 use Rattle.records.specs.Stored.{wordsLaid}
 use Rattle.rules.specs.Whole.{Outcome, passed, refused, outcome, textsOf}
+use Rattle.records.specs.declared.Fault.{Fault}
 use Rattle.records.specs.declared.Lengths.{Lengths}
 use Rattle.notes.specs.Noted.{nothingUsed}
 use Rattle.records.specs.declared.Verdict.{Verdict}
@@ -13,18 +14,18 @@ use Rattle.records.specs.declared.Answer.{Answer}
 
 abbrev pub verdictOf : Outcome → Verdict
 verdictOf (passed h) = Accepted
-verdictOf (refused n k) = Refused (record { number = n; line = k })
+verdictOf (refused n k c) = Refused (record { number = n; line = k; column = c })
 
 -- of a refused file nothing is told but the fault
-abbrev pub refusal : ℕ → ℕ → Answer
-refusal n k = record { verdict = Refused (record { number = n; line = k }); counts = nothingUsed; header = record { name = wordsLaid []; revision = wordsLaid [] } }
+abbrev pub refusal : Fault → Answer
+refusal f = record { verdict = Refused f; counts = nothingUsed; header = record { name = wordsLaid []; revision = wordsLaid [] } }
 
 abbrev pub acceptance : FileIs → Answer
 acceptance f = record { verdict = Accepted; counts = countsOf (laid f); header = record { name = wordsLaid (f .name); revision = wordsLaid (f .revision) } }
 
 abbrev pub answerFor : FileIs → Outcome → Answer
 answerFor f (passed h) = acceptance f
-answerFor f (refused n k) = refusal n k
+answerFor f (refused n k c) = refusal (record { number = n; line = k; column = c })
 
 -- l are the lengths of the lent tables
 unfoldable pub answerOf : Lengths → List ℕ → Answer

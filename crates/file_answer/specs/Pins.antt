@@ -4,13 +4,12 @@ use mathlib.Core.Path.{_≡_}
 use mathlib.Core.List.{List}
 use mathlib.Core.Bool.{Bool, true, false}
 use Rattle.laws.specs.Lists.{part}
-use Rattle.words.specs.Words.{words}
 use Rattle.line_rules.specs.Fields.{isBracketed}
 use Rattle.cut_lines.specs.Cursors.{Goes}
 use Rattle.cut_lines.specs.declared.Cursor.{Cursor}
 use Rattle.records.specs.declared.Kind.the-variants.{OfPin}
 use Rattle.records.specs.declared.Lengths.{Lengths}
-use Rattle.rules.specs.Component.{pinFault}
+use Rattle.rules.specs.Component.{pinFlaw}
 use Rattle.rules.specs.Steps.{onPlain}
 use Rattle.rules.specs.declared.Stage.{Stage}
 use Rattle.rules.specs.declared.Event.the-variants.{PinRow}
@@ -34,7 +33,7 @@ pinNote a e r =
 -- the text from a to e is a pin row, and is noted as name i in file order and pin j
 pub record PinPut (s xs : List ℕ) (i j a e : ℕ) (long : Bool) (ys : List ℕ) : Type 0 where
   pub unbracketed : isBracketed (part a e s) ≡ false
-  pub pin : pinFault long (words (part a e s)) ≡ 0
+  pub pin : pinFlaw long (part a e s) .number ≡ 0
   pub names : PinNames
   pub lie : NamesLie (part a e s) names
   pub written : ys ≡ withName xs i (liesAt OfPin j) (wordsOfRow (pinNote a e names))
@@ -55,7 +54,7 @@ onePin t = withPins t (t .names + 1) (t .counts .pins + 1)
 
 -- a stage in which pin rows are read, and which they leave as it is
 abbrev pub KeepsPins : Stage → Bool → Type 0
-KeepsPins g long = (k : ℕ) (w : List ℕ) → isBracketed w ≡ false → pinFault long (words w) ≡ 0 → onPlain g k w ≡ On g PinRow
+KeepsPins g long = (k : ℕ) (w : List ℕ) → isBracketed w ≡ false → pinFlaw long w .number ≡ 0 → onPlain g k w ≡ On g PinRow
 
 -- the texts from c on begin with a pin row
 pub record PinNext (l : Lengths) (s xs : List ℕ) (c : Cursor) (t : Tally) (long : Bool) (ys : List ℕ) (next : Cursor) : Type 0 where

@@ -7,7 +7,7 @@ use lib.Dec.{ltb}
 use Rattle.laws.specs.Said.{says}
 use Rattle.decimal.specs.Answers.{pastNumbers, decimalIn}
 use Rattle.decimal.specs.declared.Decimal.{Decimal}
-use Rattle.words.specs.Words.{words}
+use Rattle.records.specs.Flaws.{toldIn}
 use Rattle.line_rules.specs.Fields.{isBracketed, rowOf}
 use Rattle.line_cells.specs.declared.RowWords.{RowWords}
 use Rattle.cut_lines.specs.Cursors.{Placed}
@@ -35,7 +35,7 @@ seenRows count last head tail = record { count = count; last = last; head = head
 -- w is a row after r
 pub record RowIs (w : List ℕ) (r more : RowsSeen) : Type 0 where
   pub unbracketed : isBracketed w ≡ false
-  pub row : rowStep r (rowOf (words w)) ≡ step.Next more
+  pub row : rowStep r (toldIn w (rowOf w)) ≡ step.Next more
 
 -- x is amiss, or w as a row after so many, the last of which has this number
 abbrev pub RowIn : List ℕ → ℕ → Decimal → RowWords → Type 0
@@ -47,7 +47,7 @@ RowIn w count last x =
 
 -- the list of a model's state whose lines are rows
 abbrev pub HoldsRows : (RowsSeen → ModelList) → Type 0
-HoldsRows table = (m : ModelState) (k : ℕ) (w : List ℕ) (r : RowsSeen) (y : line.Row) → rowOf (words w) ≡ says y → modelLine m k w (table r) ≡ rowLine table m r k (says y)
+HoldsRows table = (m : ModelState) (k : ℕ) (w : List ℕ) (r : RowsSeen) (y : line.Row) → rowOf w ≡ says y → modelLine m k w (table r) ≡ rowLine table m r k (says y)
 
 -- with n rows in the file
 abbrev pub withRows : Tally → ℕ → Tally

@@ -8,6 +8,7 @@ use lib.Dec.{eqb}
 use lib.ListN.{length}
 use Rattle.laws.specs.Lists.{part}
 use Rattle.records.specs.declared.Fault.{Fault}
+use Rattle.records.specs.declared.LineFault.{LineFault}
 use Rattle.cut_lines.specs.Texts.{plain, change}
 use Rattle.cut_lines.specs.Cursors.{firstCursor, rest, past, CleanFrom, Placed}
 use Rattle.cut_lines.specs.declared.Cursor.{Cursor}
@@ -42,13 +43,13 @@ textStep l n s xs g t p =
     (λ (u : Stage) (h : Log). runLog l n u h (rest s (p .next)))
     (onPlain g (p .line) (part (p .start) (p .end) s))
 
-abbrev pub changeStep : Lengths → ℕ → List ℕ → List ℕ → Stage → Tally → ℕ → ℕ → Cursor → Finish
+abbrev pub changeStep : Lengths → ℕ → List ℕ → List ℕ → Stage → Tally → ℕ → LineFault → Cursor → Finish
 changeStep l n s xs g t k f c =
     afterWent l (logOf s xs t) (change k f) (rest s c) (λ (u : Stage) (h : Log). runLog l n u h (rest s c)) (onChange g k f)
 
 -- a line's event as it was noted
 abbrev pub toldBy : NotedLine → Told
-toldBy r = cond (eqb (r .fault) 0) (Going (r .tally)) (Full (r .fault) (r .tally))
+toldBy r = cond (eqb (r .fault .number) 0) (Going (r .tally)) (Full (r .fault) (r .tally))
 
 -- lines read to the end leave a tally within the bounds, and a store filed by it
 abbrev pub WithinAt : List ℕ → Tally → Ending → Type 0

@@ -34,7 +34,7 @@ pub record Sorted (l : Lengths) (s xs : List ℕ) : Type 0 where
 
 abbrev pub SortedFor : Lengths → List ℕ → List ℕ → Outcome → Type 0
 SortedFor l s xs (passed h) = Sorted l s xs
-SortedFor l s xs (refused n k) = Unit {0}
+SortedFor l s xs (refused n k c) = Unit {0}
 
 pub record Outlines (l : Lengths) (s : List ℕ) (r : Answer) (xs : List ℕ) : Type 0 where
   pub answer : r ≡ answerOf l s

@@ -2,6 +2,7 @@
 use cut_lines::Cursor;
 use noted_events::Tally;
 use records::Fault;
+use records::LineFault;
 use rules::RowsSeen;
 use rules::Stage;
 
@@ -44,8 +45,8 @@ pub struct Scanned {
     pub tally: Tally,
 }
 
-// What is noted and counted behind a line; or the number of its fault, where there was no room.
+// What is noted and counted behind a line, and its fault, where there was no room; 0 for none.
 pub struct NotedLine {
     pub tally: Tally,
-    pub fault: u8,
+    pub fault: LineFault,
 }

@@ -62,7 +62,7 @@ fn pin_noted(
         return false;
     }
     let names = pin_names(w);
-    if row_fault(w, names, long) != 0 {
+    if row_fault(w, names, long).number != 0 {
         return false;
     }
     let x = pin_note(start, end, names);

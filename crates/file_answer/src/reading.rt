@@ -3,6 +3,7 @@ ghost use mathlib.Core.Path.{_≡_};
 ghost use mathlib.Core.List.{List};
 ghost use Prim.Native.Nat.{ℕ, _≤_};
 ghost use lib.ListN.{length};
+ghost use Rattle.records.specs.Flaws.{bare, atLine};
 ghost use Rattle.cut_lines.specs.Cursors.{rest, past, firstCursor, CleanFrom};
 ghost use Rattle.rules.specs.declared.Stage.the-variants.{BeforeVersion};
 ghost use Rattle.notes.specs.Noted.{runLog, emptyLog, outOfLines};
@@ -24,6 +25,7 @@ use noted_events::Told;
 use noted_events::events::note_event;
 use records::Fault;
 use records::Lengths;
+use records::LineFault;
 use rules::Event;
 use rules::Stage;
 use rules::Went;
@@ -37,14 +39,15 @@ fn broken(f: Fault, t: Tally) -> Scanned
     }
 }
 
-// Fault n, at the line that has no room for what it adds.
-fn broken_at(n: u8, line: u64, t: Tally) -> Scanned
-    ensures { λ r. ⌜ r ≡ record { ending = Broken (record { number = n; line = line }); tally = t } ⌝ }
+// The fault of a line that has no room for what it adds, or of [End]'s own.
+fn broken_at(f: LineFault, line: u64, t: Tally) -> Scanned
+    ensures { λ r. ⌜ r ≡ record { ending = Broken (atLine line f); tally = t } ⌝ }
 {
     broken(
         Fault {
-            number: n,
+            number: f.number,
             line: line,
+            column: f.column,
         },
         t,
     )
@@ -71,6 +74,19 @@ fn stands(stage: Stage, cursor: Cursor, tally: Tally) -> Standing
     }
 }
 
+// Behind a line without fault.
+fn faultless(t: Tally) -> NotedLine
+    ensures { λ r. ⌜ r ≡ record { tally = t; fault = bare 0 } ⌝ }
+{
+    NotedLine {
+        tally: t,
+        fault: LineFault {
+            number: 0,
+            column: 0,
+        },
+    }
+}
+
 // Notes and counts what a line adds; most add nothing.
 fn note_line(notes: &mut [u16], src: &[u8], l: Lengths, t: Tally, p: Spot, e: Event) -> NotedLine
     requires { ⌜ Ready (now src) (now notes) t p ⌝ }
@@ -78,16 +94,13 @@ fn note_line(notes: &mut [u16], src: &[u8], l: Lengths, t: Tally, p: Spot, e: Ev
     ensures { λ r. ⌜ KeptBy (now (notes .exit)) t (toldBy r) ⌝ }
 {
     if let Event::Quiet = e {
-        return NotedLine { tally: t, fault: 0 };
+        return faultless(t);
     }
     match note_event(notes, src, l, t, p, e) {
-        Told::Going(more) => NotedLine {
-            tally: more,
-            fault: 0,
-        },
-        Told::Full(number, full) => NotedLine {
+        Told::Going(more) => faultless(more),
+        Told::Full(fault, full) => NotedLine {
             tally: full,
-            fault: number,
+            fault: fault,
         },
     }
 }
@@ -126,6 +139,7 @@ fn out_of_lines(s: Stage, t: Tally, line: u64) -> Scanned
     let f = Fault {
         number: 19,
         line: line,
+        column: 0,
     };
     match s {
         Stage::BeforeVersion => broken(f, t),
@@ -164,8 +178,9 @@ pub fn scan(notes: &mut [u16], src: &[u8], l: Lengths) -> Scanned
                     let p = spot_at(line, start, end, next);
                     let noted = note_line(notes, src, l, tally, p, e);
                     tally = noted.tally;
-                    if noted.fault != 0 {
-                        return broken_at(noted.fault, line, tally);
+                    let fault = noted.fault;
+                    if fault.number != 0 {
+                        return broken_at(fault, line, tally);
                     }
                     if comes_in_numbers(e) {
                         let x = stands(stage, cursor, tally);

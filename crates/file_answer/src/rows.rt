@@ -16,19 +16,20 @@ use rules::ModelState;
 use rules::RowsSeen;
 use rules::Stage;
 
-// The row of a line that goes on the table of so many rows, the last of which has this number; else amiss.
+// The row of a line that goes on the table of so many rows, the last of which has this number; else amiss: what is told of it, column and all, the
+// line's own step says.
 fn row_in(w: &[u8], seen: u64, last: Decimal) -> RowWords
     ensures { λ x. ⌜ RowIn (now (w .entry)) seen last x ⌝ }
 {
     if named_lines::bracketed(w) {
-        return line_cells::amiss(10);
+        return line_cells::amiss(10, 0);
     }
     let row = line_cells::row_words(w);
     if row.fault != 0 {
         return row;
     }
     if !model_steps::rising(seen, last, decimal::decimal_in(row.number)) {
-        return line_cells::amiss(13);
+        return line_cells::amiss(13, 0);
     }
     row
 }

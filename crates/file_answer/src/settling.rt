@@ -27,7 +27,7 @@ use records::Lengths;
 use records::Verdict;
 
 fn refused(f: Fault) -> Answer
-    ensures { λ r. ⌜ r ≡ refusal (f .number) (f .line) ⌝ }
+    ensures { λ r. ⌜ r ≡ refusal f ⌝ }
 {
     Answer {
         verdict: Verdict::Refused(f),
@@ -80,6 +80,7 @@ fn settle(src: &[u8], l: Lengths, notes: &mut [u16]) -> Answer
         Clash::At(k) => refused(Fault {
             number: 14,
             line: k,
+            column: 0,
         }),
         Clash::NoClash => match ending {
             Ending::Whole => last_checks(src, l, t, notes),

@@ -16,7 +16,8 @@ use Rattle.laws.proofs.Fronts.{front-whole, other-yes}
 use Rattle.lines.specs.Lines.{Physical, isReturn, ontoLine, linesOf, cut}
 use Rattle.cut_lines.specs.Change.{isChange, changeOf}
 use Rattle.cut_lines.specs.Texts.{Text, change, textsFrom}
-use Rattle.laws.specs.Said.{Said, says, fault, faultIn, orElse}
+use Rattle.laws.specs.Said.{says, fault, orElse}
+use Rattle.records.specs.Flaws.{Reads, flawIn, told}
 use Rattle.cut_lines.specs.Cursors.{rest}
 use Rattle.from_notes.specs.Made.{markOf, StandsAt}
 
@@ -52,10 +53,10 @@ cut-lacks : (c : ℕ) (w : List ℕ) → all (other c) w ≡ true → cut c w �
 unfolding cut
 cut-lacks c w h = ap (trim isBlank) (front-whole (other c) w h)
 
-after-marks : (c d k : ℕ) (ls : List Physical) → textsFrom c k ls ≡ textsFrom d k ls → (r : Said ℕ)
+after-marks : (c d k : ℕ) (ls : List Physical) → textsFrom c k ls ≡ textsFrom d k ls → (r : Reads ℕ)
     → textsFrom (orElse c r) k ls ≡ textsFrom (orElse d r) k ls
 after-marks c d k ls e (says x) = refl
-after-marks c d k ls e (fault n) = e
+after-marks c d k ls e (fault f) = e
 
 texts-marks : (c d k : ℕ) (ls : List Physical) → all (lacks c) ls ≡ true → all (lacks d) ls ≡ true → textsFrom c k ls ≡ textsFrom d k ls
 unfolding textsFrom all
@@ -64,7 +65,7 @@ texts-marks c d k (l ∷ ls) h g =
     let ih = texts-marks c d (k + 1) ls (and-second (lacks c l) _ h) (and-second (lacks d l) _ g) in
     let e = cut-lacks c (l .bytes) (and-first (lacks c l) _ h) ∙ sym (cut-lacks d (l .bytes) (and-first (lacks d l) _ g)) in
     by-test (isChange (l .bytes))
-    (λ t. rw t (ap (λ (ts : List Text). change k (faultIn (changeOf (l .bytes))) ∷ ts) (after-marks c d (k + 1) ls ih (changeOf (l .bytes)))))
+    (λ t. rw t (ap (λ (ts : List Text). change k (told (l .bytes) (flawIn (changeOf (l .bytes)))) ∷ ts) (after-marks c d (k + 1) ls ih (changeOf (l .bytes)))))
     (λ t. rw t (rw (e, ih)))
 
 -- ---- a cursor by words

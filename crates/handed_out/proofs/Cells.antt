@@ -3,9 +3,8 @@ use Prim.Native.Nat.{ℕ}
 use Prim.Native.Char.{code}
 use mathlib.Core.List.{List, [], _∷_}
 use mathlib.Core.Bool.{_&&_}
-use lib.ListN.{length, drop}
-use lib.Dec.{eqb}
-use Rattle.laws.specs.Lists.{among, eqs}
+use lib.ListN.{drop}
+use Rattle.laws.specs.Lists.{begins, among}
 use Rattle.laws.specs.Said.{Said, says, fault}
 use Rattle.laws.proofs.Tests.{cond-all}
 use Rattle.decimal.specs.Decimal.{numberOf, givenCell, cellOf, isMissing}
@@ -13,26 +12,23 @@ use Rattle.decimal.specs.Fine.{Fine, FineNumber, FineCell, FineRead}
 use Rattle.decimal.specs.declared.Decimal.{Decimal}
 use Rattle.decimal.specs.declared.Cell.{Cell}
 use Rattle.decimal.proofs.Fine.{number-fine, cell-fine}
-use Rattle.words.specs.Words.{word, words}
+use Rattle.words.specs.Words.{restFrom}
+use Rattle.records.specs.Flaws.{Reads}
 use Rattle.records.specs.declared.Range.{Range}
 use Rattle.records.specs.declared.RampCell.{RampCell}
 use Rattle.records.specs.declared.RampTriple.{RampTriple}
-use Rattle.line_rules.specs.Fields.{exactly, typMinMax, cellsBy, threeCells, rowOf, ratioOf, slopeFrom, slopeOf, slopeOrMissing, isUpward, upward, threeSlopes, nameOf, behindName, cellsLine, groupLine, slopesLine, behindEquals, numberLine}
-use Rattle.line_rules.proofs.Says.{Says, says-on}
+use Rattle.line_rules.specs.Fields.{wordBy, typMinMax, cellsBy, threeCells, rowOf, ratioOf, slopeFrom, slopeOf, slopeOrMissing, isUpward, upward, threeSlopes, afterName, behindName, cellsLine, groupLine, slopesLine, behindEquals, numberLine}
+use Rattle.line_rules.proofs.Says.{Says, says-on, word-says, exactly-says}
 use Rattle.table_records.specs.Fine.{FineTriple, FineSlope, FineSlopes, FineRow}
 
--- ---- what is said of words has it
+-- ---- what is said of a text has it
 
 module _ {A : Type 0} (P : A → Type 0) where
-  exactly-says : (n : ℕ) (read : List (List ℕ) → Said A) (ws : List (List ℕ)) → Says P (read ws) → Says P (exactly n read ws)
-  unfolding exactly
-  exactly-says n read ws h = cond-all (Says P) (eqb (length ws) n) _ _ (λ e. h) (λ e. tt)
-
-  behind-says : (read : List (List ℕ) → Said A) → ((ws : List (List ℕ)) → Says P (read ws)) → (w : List ℕ) → Says P (behindName read w)
+  behind-says : (read : List ℕ → Reads A) → ((v : List ℕ) → Says P (read v)) → (w : List ℕ) → Says P (behindName read w)
   unfolding behindName
-  behind-says read h w = cond-all (Says P) (eqs (nameOf w) (word 0 (words w))) _ _ (λ e. h (drop 1 (words w))) (λ e. tt)
+  behind-says read h w = cond-all (Says P) (begins (code "=") (afterName w)) _ _ (λ e. tt) (λ e. h (afterName w))
 
-  three-say : {B : Type 0} (Q : B → Type 0) (kept : A → A → A → B) (typ min max : Said A) → ((a b c : A) → P a → P b → P c → Q (kept a b c))
+  three-say : {B : Type 0} (Q : B → Type 0) (kept : A → A → A → B) (typ min max : Reads A) → ((a b c : A) → P a → P b → P c → Q (kept a b c))
       → Says P typ → Says P min → Says P max → Says Q (typMinMax kept typ min max)
   three-say Q kept typ min max k x y z =
       says-on P Q typ _ x (λ a f. says-on P Q min _ y (λ b g. says-on P Q max _ z (λ c h. k a b c f g h)))
@@ -57,26 +53,26 @@ given-says : (w : List ℕ) → Says FineCell (givenCell w)
 unfolding givenCell
 given-says w = says-on Fine FineCell (numberOf w) _ (number-says w) (λ d h. h)
 
-by-says : (typ : List ℕ → Said Cell) → ((w : List ℕ) → Says FineCell (typ w)) → (ws : List (List ℕ)) → Says FineTriple (cellsBy typ ws)
+by-says : (typ : List ℕ → Said Cell) → ((w : List ℕ) → Says FineCell (typ w)) → (v : List ℕ) → Says FineTriple (cellsBy typ v)
 unfolding cellsBy
-by-says typ h ws =
-    exactly-says FineTriple 3 _ ws
-    (three-say FineCell FineTriple _ (typ (word 0 ws)) (cellOf (word 1 ws)) (cellOf (word 2 ws)) (λ a b c f g k. record { typ = f; min = g; max = k })
-    (h (word 0 ws)) (cell-says (word 1 ws)) (cell-says (word 2 ws)))
+by-says typ h v =
+    exactly-says FineTriple 3 _ v
+    (three-say FineCell FineTriple _ (wordBy typ 0 v) (wordBy cellOf 1 v) (wordBy cellOf 2 v) (λ a b c f g k. record { typ = f; min = g; max = k })
+    (word-says FineCell typ h 0 v) (word-says FineCell cellOf cell-says 1 v) (word-says FineCell cellOf cell-says 2 v))
 
-pub cells-say : (ws : List (List ℕ)) → Says FineTriple (cellsBy cellOf ws)
+pub cells-say : (v : List ℕ) → Says FineTriple (cellsBy cellOf v)
 cells-say = by-says cellOf cell-says
 
-pub three-cells-say : (ws : List (List ℕ)) → Says FineTriple (threeCells ws)
+pub three-cells-say : (v : List ℕ) → Says FineTriple (threeCells v)
 unfolding threeCells
 three-cells-say = by-says givenCell given-says
 
-pub row-says : (ws : List (List ℕ)) → Says FineRow (rowOf ws)
+pub row-says : (w : List ℕ) → Says FineRow (rowOf w)
 unfolding rowOf
-row-says ws =
-    exactly-says FineRow 4 _ ws
-    (says-on Fine FineRow (numberOf (word 0 ws)) _ (number-says (word 0 ws))
-    (λ d x. says-on FineTriple FineRow (cellsBy cellOf (drop 1 ws)) _ (cells-say (drop 1 ws)) (λ t y. record { number = x; cells = y })))
+row-says w =
+    exactly-says FineRow 4 _ w
+    (says-on Fine FineRow (wordBy numberOf 0 w) _ (word-says Fine numberOf number-says 0 w)
+    (λ d x. says-on FineTriple FineRow (cellsBy cellOf (restFrom 1 w)) _ (cells-say (restFrom 1 w)) (λ t y. record { number = x; cells = y })))
 
 -- ---- slopes
 
@@ -101,19 +97,19 @@ slope-or-says w = cond-all (Says FineSlope) (isMissing w) _ _ (λ e. tt) (λ e. 
 
 upward-says : (t : RampTriple) → FineSlopes t → Says FineSlopes (upward t)
 unfolding upward
-upward-says t h = cond-all (Says FineSlopes) (isUpward (t .typ) && (isUpward (t .min) && isUpward (t .max))) (says t) (fault 13) (λ e. h) (λ e. tt)
+upward-says t h = cond-all (Says FineSlopes) (isUpward (t .typ) && (isUpward (t .min) && isUpward (t .max))) (says t) _ (λ e. h) (λ e. tt)
 
-slopes-say : (ws : List (List ℕ)) → Says FineSlopes (threeSlopes ws)
+slopes-say : (v : List ℕ) → Says FineSlopes (threeSlopes v)
 unfolding threeSlopes
-slopes-say ws =
+slopes-say v =
     let kept : RampCell → RampCell → RampCell → RampTriple = λ a b c. record { typ = a; min = b; max = c } in
-    let typ = slopeOf (word 0 ws) in
-    let min = slopeOrMissing (word 1 ws) in
-    let max = slopeOrMissing (word 2 ws) in
-    exactly-says FineSlopes 3 _ ws
+    let typ = wordBy slopeOf 0 v in
+    let min = wordBy slopeOrMissing 1 v in
+    let max = wordBy slopeOrMissing 2 v in
+    exactly-says FineSlopes 3 _ v
     (says-on FineSlopes FineSlopes (typMinMax kept typ min max) upward
     (three-say FineSlope FineSlopes kept typ min max (λ a b c f g k. record { typ = f; min = g; max = k })
-    (slope-says (word 0 ws)) (slope-or-says (word 1 ws)) (slope-or-says (word 2 ws)))
+    (word-says FineSlope slopeOf slope-says 0 v) (word-says FineSlope slopeOrMissing slope-or-says 1 v) (word-says FineSlope slopeOrMissing slope-or-says 2 v))
     upward-says)
 
 -- ---- named lines
@@ -133,11 +129,10 @@ pub slopes-line : (w : List ℕ) → Says FineSlopes (slopesLine w)
 unfolding slopesLine
 slopes-line = behind-says FineSlopes threeSlopes slopes-say
 
-equals-say : (bs : List ℕ) → Says FineCell (behindEquals bs)
+equals-say : (v : List ℕ) → Says FineCell (behindEquals v)
 unfolding behindEquals
-equals-say [] = tt
-equals-say (b ∷ bs) =
-    cond-all (Says FineCell) (eqb b (code "=")) _ _ (λ e. exactly-says FineCell 1 (λ ws. givenCell (word 0 ws)) (words bs) (given-says (word 0 (words bs)))) (λ e. tt)
+equals-say v =
+    cond-all (Says FineCell) (begins (code "=") v) _ _ (λ e. exactly-says FineCell 1 _ (drop 1 v) (word-says FineCell givenCell given-says 0 (drop 1 v))) (λ e. tt)
 
 pub number-line : (w : List ℕ) → Says FineCell (numberLine w)
 unfolding numberLine

@@ -4,8 +4,9 @@ use mathlib.Core.List.{List, [], _∷_, flatMap}
 use lib.ListN.{length}
 use Rattle.laws.specs.Bytes.{bytes}
 use Rattle.laws.specs.Lists.{oneOf}
-use Rattle.laws.specs.Said.{Said, says, fault}
+use Rattle.laws.specs.Said.{says, fault}
 use Rattle.words.specs.Words.{words}
+use Rattle.records.specs.Flaws.{Reads}
 use Rattle.records.specs.declared.Row.{Row}
 use Rattle.line_rules.specs.Fields.{rowOf}
 use Rattle.line_rules.specs.Tables.{waveformKeywords}
@@ -29,14 +30,14 @@ waveforms-fine (t ∷ ts) n =
     each-if FineWaveform (oneOf (t .key) (words (bytes waveformKeywords))) _ (waveformsLaid ts (n + length (rowsOf t)))
     (waveform-fine n (edgeOf (t .key)) (t .lines), tt) (waveforms-fine ts (n + length (rowsOf t)))
 
-row-onto : (x : Said Row) (rs : List Row) → Says FineRow x → Each FineRow rs → Each FineRow (ontoRows x rs)
+row-onto : (x : Reads Row) (rs : List Row) → Says FineRow x → Each FineRow rs → Each FineRow (ontoRows x rs)
 row-onto (says r) rs h k = (h, k)
-row-onto (fault n) rs h k = k
+row-onto (fault f) rs h k = k
 
 rows-fine : (ls : List (List ℕ)) → Each FineRow (rowsIn ls)
 unfolding rowsIn
 rows-fine [] = tt
-rows-fine (w ∷ ws) = row-onto (rowOf (words w)) (rowsIn ws) (row-says (words w)) (rows-fine ws)
+rows-fine (w ∷ ws) = row-onto (rowOf w) (rowsIn ws) (row-says w) (rows-fine ws)
 
 all-rows : (ts : List TableIs) → Each FineRow (flatMap rowsOf ts)
 unfolding flatMap

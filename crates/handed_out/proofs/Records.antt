@@ -13,7 +13,7 @@ use Rattle.laws.proofs.Tests.{cond-all}
 use Rattle.decimal.specs.Fine.{FineCell}
 use Rattle.decimal.specs.declared.Cell.{Cell}
 use Rattle.decimal.specs.declared.Cell.the-variants.{Number, Missing}
-use Rattle.words.specs.Words.{word, words}
+use Rattle.words.specs.Words.{word, words, restFrom}
 use Rattle.cut_lines.specs.Texts.{Text}
 use Rattle.records.specs.Stored.{padded, nameLaid, wordsLaid, noCells, noSlopes}
 use Rattle.records.specs.declared.Span.{Span}
@@ -99,14 +99,14 @@ kept-bytes : (w : List ℕ) → Each IsByte w → Each IsByte (keptModel w)
 unfolding keptModel
 kept-bytes w h = cond-all (Each IsByte) (needsNoModel w) _ _ (λ e. each-map IsByte IsByte capital capital-byte w h) (λ e. h)
 
-pin-cells : (ws : List (List ℕ)) → Says FineTriple (pinCells ws)
+pin-cells : (v : List ℕ) → Says FineTriple (pinCells v)
 unfolding pinCells
-pin-cells ws = cond-all (Says FineTriple) (eqb (length ws) 0) (says noCells) _ (λ e. no-cells) (λ e. cells-say ws)
+pin-cells v = cond-all (Says FineTriple) (eqb (length (words v)) 0) (says noCells) _ (λ e. no-cells) (λ e. cells-say v)
 
 pin-fine : (w : List ℕ) → Each IsByte w → FinePin (pinIn w)
 unfolding pinIn
 pin-fine w h =
-    let cells = or-says FineTriple noCells (pinCells (drop 3 (words w))) no-cells (pin-cells (drop 3 (words w))) in
+    let cells = or-says FineTriple noCells (pinCells (restFrom 3 w)) no-cells (pin-cells (restFrom 3 w)) in
     record {
       name = name-fine (word 0 (words w)) (each-word IsByte 0 w h);
       signal = name-fine (word 1 (words w)) (each-word IsByte 1 w h);
@@ -171,7 +171,7 @@ module _ (ts : List Text) (h : Each (TextHas IsByte) ts) where
   range-fine : (name : String) → FineTriple (keySays name rangeIn noRange ts .cells)
   range-fine name =
       key-says IsByte FineRange name rangeIn noRange ts
-      (λ w ls k. or-says FineTriple noCells (threeCells (words w)) no-cells (three-cells-say (words w))) no-cells h
+      (λ w ls k. or-says FineTriple noCells (threeCells w) no-cells (three-cells-say w)) no-cells h
 
   ramp-fine : FineRamp (keySays "ramp" rampIn noRamp ts)
   ramp-fine =

@@ -26,7 +26,7 @@ module _ (P : ℕ → Type 0) where
 
   abbrev pub TextHas : Text → Type 0
   TextHas (plain k w) = Each P w
-  TextHas (change k n) = Unit {0}
+  TextHas (change k f) = Unit {0}
 
   abbrev pub SectionHas : SectionIs → Type 0
   SectionHas (component w ts) = Each P w × Each TextHas ts
@@ -79,13 +79,13 @@ module _ (P : ℕ → Type 0) where
   unfolding argument closing
   argument-has (plain k w) h =
       each-after P isBlank (drop 1 (closing w)) (each-drop P 1 (closing w) (each-after P (other (code "]")) (drop 1 w) (each-drop P 1 w h)))
-  argument-has (change k n) h = tt
+  argument-has (change k f) h = tt
 
   pub each-under : (ts : List Text) → Each TextHas ts → Each (Each P) (under ts)
   unfolding under
   each-under [] h = tt
   each-under (plain k w ∷ ts) h = cond-all (Each (Each P)) (isBracketed w) _ _ (λ e. tt) (λ e. (h .0, each-under ts (h .1)))
-  each-under (change k n ∷ ts) h = each-under ts (h .1)
+  each-under (change k f ∷ ts) h = each-under ts (h .1)
 
   pub each-lines-under : (name : String) (ts : List Text) → Each TextHas ts → Each (Each P) (linesUnder name ts)
   unfolding linesUnder

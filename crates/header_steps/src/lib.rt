@@ -1,19 +1,27 @@
 // The header's steps: [IBIS Ver], [File Name], [File Rev] and the five texts.
 ghost use mathlib.Core.Path.{_≡_};
-ghost use Rattle.rules.specs.Header.{version, headerPlace, headerFault, headerPart, headerLine, headerShut, headerDone};
+ghost use Prim.Native.Nat.{_≤_};
+ghost use lib.ListN.{length, drop};
+ghost use Rattle.records.specs.Flaws.{told};
+ghost use Rattle.keywords.specs.Answers.{ArgumentFrom};
+ghost use Rattle.rules.specs.Header.{version, headerPlace, headerFlaw, headerPart, headerLine, headerShut, headerDone};
 use keywords::HeaderPart;
 use keywords::HeaderText;
+use named_lines::Form;
+use records::LineFault;
 use rules::Event;
 use rules::HeaderState;
 use rules::Stage;
 use rules::Went;
 
-// [IBIS Ver] at line k.
-pub fn open_header(k: u64, argument: &[u8]) -> Went
-    ensures { λ r. ⌜ r ≡ version k (now (argument .entry)) ⌝ }
+// [IBIS Ver] at line k, whose argument begins at a place.
+pub fn open_header(k: u64, w: &[u8], at: usize) -> Went
+    requires { ⌜ ArgumentFrom (now w) at ⌝ }
+    ensures { λ r. ⌜ r ≡ version k (now (w .entry)) ⌝ }
 {
-    if !words::same(argument, b"5.0") {
-        return rules::stopped(10, k);
+    let fault = named_lines::argument_fault(w, at, Form::Version);
+    if fault.number != 0 {
+        return rules::stopped_at(fault, k);
     }
     let h = HeaderState {
         line: k,
@@ -42,34 +50,37 @@ fn part_place(p: HeaderPart) -> usize
     }
 }
 
-fn part_fault(argument: &[u8], p: HeaderPart) -> u8
-    ensures { λ r. ⌜ r ≡ headerFault (now (argument .entry)) p ⌝ }
+// What is wrong with its argument, which begins at a place.
+fn part_fault(w: &[u8], at: usize, p: HeaderPart) -> LineFault
+    requires { ⌜ at ≤ length (now w) ⌝ }
+    ensures { λ r. ⌜ r ≡ told (now (w .entry)) (headerFlaw (drop at (now (w .entry))) p) ⌝ }
 {
     match p {
-        HeaderPart::FileName => {
-            if named_lines::one_file_name(argument) {
-                0
+        HeaderPart::FileName => named_lines::argument_fault(w, at, Form::FileName),
+        HeaderPart::FileRev => {
+            if at < w.len() {
+                records::bare_fault(0)
             } else {
-                10
+                records::at_fault(10, at)
             }
         }
-        HeaderPart::FileRev => { if argument.len() == 0 { 10 } else { 0 } }
-        HeaderPart::FreeText(_) => 0,
+        HeaderPart::FreeText(_) => records::bare_fault(0),
     }
 }
 
-// A keyword of the header at line k.
-pub fn header_part(h: HeaderState, k: u64, argument: &[u8], p: HeaderPart) -> Went
-    ensures { λ r. ⌜ r ≡ headerPart h k (now (argument .entry)) p ⌝ }
+// A keyword of the header at line k, whose argument begins at a place.
+pub fn header_part(h: HeaderState, k: u64, w: &[u8], at: usize, p: HeaderPart) -> Went
+    requires { ⌜ ArgumentFrom (now w) at ⌝ }
+    ensures { λ r. ⌜ r ≡ headerPart h k (now (w .entry)) p ⌝ }
 {
     let place = part_place(p);
     let parts = h.parts;
     if given::is_given(parts, place) {
         return rules::stopped(8, k);
     }
-    let fault = part_fault(argument, p);
-    if fault != 0 {
-        return rules::stopped(fault, k);
+    let fault = part_fault(w, at, p);
+    if fault.number != 0 {
+        return rules::stopped_at(fault, k);
     }
     let next = HeaderState {
         line: h.line,

@@ -31,8 +31,8 @@ left-by s a u r (passed h) e q v =
       counts = ap (λ (x : Answer). x .counts) answer;
       holds = subst (λ (x : Lent). Holds x (laid (read s))) (sym (q .tables ∙ ap (λ (y : Outcome). left y (laid (read s)) a) e)) (over-holds a (laid (read s)));
     }
-left-by s a u r (refused n k) e q v =
-    let told : Refused (record { number = n; line = k }) ≡ Accepted = sym (ap (λ (x : Answer). x .verdict) (q .answer ∙ ap (answerFor (read s)) e)) ∙ v in
+left-by s a u r (refused n k c) e q v =
+    let told : Refused (record { number = n; line = k; column = c }) ≡ Accepted = sym (ap (λ (x : Answer). x .verdict) (q .answer ∙ ap (answerFor (read s)) e)) ∙ v in
     let z : _≡_ {A = ℕ} 0 1 = cc in
     impossible z
 

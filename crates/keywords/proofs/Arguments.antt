@@ -8,15 +8,14 @@ use native.Mathlib.Omega.{arith}
 use lib.ListN.{length, drop, length-drop, drop-of-length-le}
 use lib.Seq.{drop-drop}
 use Rattle.laws.specs.Bytes.{isBlank}
-use Rattle.laws.specs.Lists.{front, after, other, part, oneOf}
+use Rattle.laws.specs.Lists.{front, after, other, oneOf}
 use Rattle.laws.proofs.Tests.{by-test, by-order, cond-yes, cond-no}
-use Rattle.laws.proofs.Lists.{part-rest}
 use Rattle.laws.proofs.Fronts.{after-at}
 use Rattle.name_table.specs.Names.{meaning}
 use Rattle.hierarchy.specs.Hierarchy.{hierarchy}
 use Rattle.keywords.specs.Form.{closing, isFormed, spelled, inside, argument}
 use Rattle.keywords.specs.Carried.{carried}
-use Rattle.keywords.specs.Answers.{known, keywordOrNothing, keyRead}
+use Rattle.keywords.specs.Answers.{known, keywordOrNothing, keyRead, ArgumentFrom}
 use Rattle.keywords.specs.declared.Keyword.{Keyword}
 use Rattle.keywords.specs.declared.Named.{Named}
 use Rattle.keywords.specs.declared.Named.the-variants.{Is, Nothing}
@@ -68,10 +67,6 @@ module _ (w : List ℕ) {key : Keyword} {at : ℕ} (e : keyRead w ≡ Known key 
       (λ h. ap (place n) (cond-yes _ _ h) ∙ known-place n (oneOf (spelled (inside w)) hierarchy) (keywordOrNothing (meaning (spelled (inside w)) carried)))
       (λ h. ap (place n) (cond-no _ _ h))
 
-  pub key-within : at ≤ length w
-  key-within = omega (arith, key-place)
-
-  -- the part that the code hands on
-  pub key-argument : part at (length w) w ≡ argument w
-  key-argument =
-      part-rest w at ∙ ap (λ (n : ℕ). drop n w) key-place ∙ argument-rest w
+  -- the place that the code hands on
+  pub key-argument : ArgumentFrom w at
+  key-argument = record { text = ap (λ (n : ℕ). drop n w) key-place ∙ argument-rest w; within = omega (arith, key-place) }

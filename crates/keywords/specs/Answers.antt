@@ -1,9 +1,10 @@
 -- What the code answers to a keyword line: document 01's number for each case, and where the argument begins.
-use Prim.Native.Nat.{ℕ, _-_}
+use Prim.Native.Nat.{ℕ, _-_, _≤_}
+use mathlib.Core.Path.{_≡_}
 use mathlib.Core.List.{List}
 use mathlib.Core.Bool.{Bool, cond}
 use mathlib.Core.Option.{Option, none, some}
-use lib.ListN.{length}
+use lib.ListN.{length, drop}
 use Rattle.laws.specs.Lists.{oneOf}
 use Rattle.laws.specs.Said.{Said, says, fault}
 use Rattle.name_table.specs.Names.{meaning}
@@ -37,3 +38,8 @@ unfoldable pub keyRead : List ℕ → KeyRead
 keyRead w =
     let name = spelled (inside w) in
     cond (isFormed w) (known (length w - length (argument w)) (oneOf name hierarchy) (keywordOrNothing (meaning name carried))) Malformed
+
+-- the argument of a keyword line begins there
+pub record ArgumentFrom (w : List ℕ) (at : ℕ) : Type 0 where
+  pub text : drop at w ≡ argument w
+  pub within : at ≤ length w

@@ -22,6 +22,7 @@ use Rattle.keywords.specs.declared.CurrentTable.the-variants.{Pulldown, Pullup,
 use Rattle.keywords.proofs.Spelling.{spelling}
 use Rattle.records.specs.declared.Edge.the-variants.{Rising, Falling}
 use Rattle.records.specs.declared.Row.{Row}
+use Rattle.records.specs.declared.LineFault.{LineFault}
 use Rattle.cut_lines.specs.Texts.{Text, plain, change}
 use Rattle.line_rules.specs.Fields.{isBracketed}
 use Rattle.line_rules.specs.Tables.{tableKeywords}
@@ -130,9 +131,9 @@ under-none : under [] ≡ []
 unfolding under
 under-none = refl
 
-pub under-change : (k n : ℕ) (ts : List Text) → under (change k n ∷ ts) ≡ under ts
+pub under-change : (k : ℕ) (f : LineFault) (ts : List Text) → under (change k f ∷ ts) ≡ under ts
 unfolding under
-under-change k n ts = refl
+under-change k f ts = refl
 
 within-at : (t : Text) (ts : List Text) {x : Option Keyword} → keyAt t ≡ x → front isWithin (t ∷ ts) ≡ cond (not (isEnd x)) (t ∷ front isWithin ts) []
 unfolding front
@@ -153,8 +154,8 @@ under-within (plain k w ∷ ts) =
     ∙ under-line k w (front isWithin ts) b
     ∙ ap (λ (l : List (List ℕ)). w ∷ l) (under-within ts)
     ∙ sym (under-line k w ts b))
-under-within (change k n ∷ ts) =
-    ap under (within-at (change k n) ts refl) ∙ under-change k n (front isWithin ts) ∙ under-within ts ∙ sym (under-change k n ts)
+under-within (change k f ∷ ts) =
+    ap under (within-at (change k f) ts refl) ∙ under-change k f (front isWithin ts) ∙ under-within ts ∙ sym (under-change k f ts)
 
 -- ---- by a keyword's spelling
 

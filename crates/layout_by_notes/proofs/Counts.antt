@@ -17,6 +17,7 @@ use Rattle.records.specs.declared.Kind.the-variants.{OfComponent, OfPin, OfSele
 use Rattle.records.specs.declared.Lengths.{Lengths}
 use Rattle.rules.specs.declared.Event.{Event}
 use Rattle.rules.specs.declared.Event.the-variants.{Quiet, Opened, PinRow, ChoiceRow, WaveformOpened, TableRow, Ended}
+use Rattle.records.specs.Flaws.{bare}
 use Rattle.notes.specs.Noted.{used, oneMore, moreWaveforms, moreRows, Note, Log, emptyLog, sectionNote, rowNote, Logged, going, full, withNote, logged}
 use Rattle.records.specs.declared.Counts.{Counts}
 use Rattle.layout_by_notes.specs.Lies.{pick, isOf, Bounded, Fits}
@@ -33,7 +34,7 @@ logAfter h t ts PinRow = oneNoted h (rowNote OfPin (lineOf t) 2 (textOf t))
 logAfter h t ts ChoiceRow = oneNoted h (rowNote OfChoice (lineOf t) 0 (textOf t))
 logAfter h t ts WaveformOpened = record { notes = h .notes; counts = moreWaveforms (h .counts) }
 logAfter h t ts TableRow = record { notes = h .notes; counts = moreRows (h .counts) }
-logAfter h t ts (Ended alone) = h
+logAfter h t ts (Ended f) = h
 
 abbrev pub Room : Lengths → Counts → Event → Type 0
 Room l c Quiet = Unit {0}
@@ -44,12 +45,12 @@ Room l c PinRow = used c OfPin < bound l OfPin
 Room l c ChoiceRow = used c OfChoice < bound l OfChoice
 Room l c WaveformOpened = c .waveforms < min mostWaveforms (l .waveforms)
 Room l c TableRow = c .rows < l .rows
-Room l c (Ended alone) = Unit {0}
+Room l c (Ended f) = Unit {0}
 
 -- what is logged is that log, if anything
 abbrev pub Kept : (Log → Type 0) → Logged → Type 0
 Kept P (going g) = P g
-Kept P (full n k g) = Unit {0}
+Kept P (full f k g) = Unit {0}
 
 module _ (P : Log → Type 0) (l : Lengths) (h : Log) where
   kept-note : (n : Note) → (used (h .counts) (n .kind) < bound l (n .kind) → P (oneNoted h n)) → Kept P (withNote l h n)
@@ -65,11 +66,11 @@ module _ (P : Log → Type 0) (l : Lengths) (h : Log) where
   kept-after t ts ChoiceRow p = kept-note _ p
   kept-after t ts WaveformOpened p = cond-all (Kept P) _ _ _ (λ e. tt) (λ e. p (leb-false _ _ e))
   kept-after t ts TableRow p = cond-all (Kept P) _ _ _ (λ e. tt) (λ e. p (leb-false _ _ e))
-  kept-after t ts (Ended alone) p =
-      let late : Logged = full 10 (lineOf t) h in
-      cond-all (Kept P) (eqb (h .counts .components) 0) (full 9 (lineOf t) h) (cond alone (going h) late)
+  kept-after t ts (Ended f) p =
+      let late : Logged = full f (lineOf t) h in
+      cond-all (Kept P) (eqb (h .counts .components) 0) (full (bare 9) (lineOf t) h) (cond (eqb (f .number) 0) (going h) late)
       (λ e. tt)
-      (λ e. cond-all (Kept P) alone (going h) late (λ k. p tt) (λ k. tt))
+      (λ e. cond-all (Kept P) (eqb (f .number) 0) (going h) late (λ k. p tt) (λ k. tt))
 
 -- ---- each count is the number of notes of its kind
 
@@ -94,7 +95,7 @@ counted-after h t ts PinRow c = omega arith
 counted-after h t ts ChoiceRow c = omega arith
 counted-after h t ts WaveformOpened c = omega arith
 counted-after h t ts TableRow c = omega arith
-counted-after h t ts (Ended alone) c = c
+counted-after h t ts (Ended f) c = c
 
 -- ---- no count passes its bound
 
@@ -111,7 +112,7 @@ bounded-after l h t ts PinRow b r = omega arith
 bounded-after l h t ts ChoiceRow b r = omega arith
 bounded-after l h t ts WaveformOpened b r = omega arith
 bounded-after l h t ts TableRow b r = omega arith
-bounded-after l h t ts (Ended alone) b r = b
+bounded-after l h t ts (Ended f) b r = b
 
 pub bounded-fits : (l : Lengths) (c : Counts) → Bounded l c → Fits l c
 bounded-fits l c b = omega arith

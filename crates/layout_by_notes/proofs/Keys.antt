@@ -2,12 +2,11 @@
 use Prim.Native.Nat.{ℕ}
 use mathlib.Core.Path.{_≡_, refl, sym, ap, subst}
 use mathlib.Core.List.{List}
-use mathlib.Core.Bool.{Bool, true, false}
+use mathlib.Core.Bool.{true, false}
 use mathlib.Core.Option.{Option, none, some}
 use Rattle.laws.specs.Said.{Said, says, fault}
 use Rattle.laws.proofs.Tests.{cond-all}
 use Rattle.words.specs.Words.{word, words}
-use Rattle.keywords.specs.Form.{argument}
 use Rattle.keywords.specs.Carried.{keyOf}
 use Rattle.keywords.specs.declared.Keyword.{Keyword}
 use Rattle.keywords.specs.declared.Keyword.the-variants as key
@@ -29,6 +28,8 @@ use Rattle.rules.specs.Model.{beginsLetter, withFirst, rowLine, waveformLine, m
 use Rattle.rules.specs.Steps.{headerOf, componentOf, modelOf, shut, done, opened, within, onVersion, onKeyword, keyed, onLine, onPlain, onChange, onText}
 use Rattle.rules.proofs.Lettered.{letter-no-row}
 use Rattle.given.specs.declared.Given.{Given}
+use Rattle.records.specs.Flaws.{Flaw, Reads, toldIn}
+use Rattle.records.specs.declared.LineFault.{LineFault}
 use Rattle.records.specs.declared.Row.{Row}
 use Rattle.rules.specs.declared.RowsSeen.{RowsSeen}
 use Rattle.rules.specs.declared.ComponentList.{ComponentList}
@@ -41,7 +42,7 @@ use Rattle.rules.specs.declared.Stage.{Stage}
 use Rattle.rules.specs.declared.Stage.the-variants.{BeforeVersion, InHeader, InComponent, InSelector, InModel, AfterEnd}
 use Rattle.rules.specs.declared.Event.{Event}
 use Rattle.rules.specs.declared.Event.the-variants.{Quiet, Opened, PinRow, ChoiceRow, WaveformOpened, TableRow, Ended}
-use Rattle.layout_by_notes.proofs.Goes.{Goes, past-refuse, past-unless, past-once, past-named, past-closing, past-all, anywhere}
+use Rattle.layout_by_notes.proofs.Goes.{Goes, past-refuse, past-unless, past-passes, past-once, past-named, past-closing, past-all, anywhere}
 
 -- ---- what is open: the section, and what a line under the last keyword gives
 
@@ -82,9 +83,9 @@ pub data LineGives : Gives → List ℕ → Event → Type 0 where
   quiet : {w : List ℕ} → LineGives nothing w Quiet
   pin : {w : List ℕ} → LineGives pins w PinRow
   choice : {w : List ℕ} → LineGives choices w ChoiceRow
-  row : {w : List ℕ} {r : Row} → rowOf (words w) ≡ says r → LineGives rows w TableRow
+  row : {w : List ℕ} {r : Row} → rowOf w ≡ says r → LineGives rows w TableRow
   -- a waveform's named line
-  fixture : {w : List ℕ} {n : ℕ} → rowOf (words w) ≡ fault n → LineGives rows w Quiet
+  fixture : {w : List ℕ} {f : Flaw} → rowOf w ≡ fault f → LineGives rows w Quiet
 
 -- ---- what a keyword gives and opens, by the section it stands in
 
@@ -118,12 +119,12 @@ pub data KeyGives : Option Section → Keyword → Open → Event → Type 0 whe
   ofSection : {x : Option Section} (o : Section) → KeyGives x (key.Opens o) (sectionOpens o) (Opened o)
   ofComponent : (p : ComponentPart) → KeyGives (some Component) (key.InComponent p) (record { within = some Component; gives = componentOpens p }) Quiet
   ofModel : (p : ModelPart) → KeyGives (some Model) (key.InModel p) (record { within = some Model; gives = modelOpens p }) (modelEvent p)
-  ofEnd : {x : Option Section} {alone : Bool} → KeyGives x key.End closed (Ended alone)
+  ofEnd : {x : Option Section} {f : LineFault} → KeyGives x key.End closed (Ended f)
 
 -- ---- a text: from what is open before it to what is open behind it
 
 pub data Stepped : Open → Text → Open → Event → Type 0 where
-  byChange : {o : Open} {k n : ℕ} → Stepped o (change k n) o Quiet
+  byChange : {o : Open} {k : ℕ} {f : LineFault} → Stepped o (change k f) o Quiet
   byLine : {o : Open} {k : ℕ} {w : List ℕ} {e : Event} → isBracketed w ≡ false → LineGives (o .gives) w e → Stepped o (plain k w) o e
   byKey : {o u : Open} {k : ℕ} {w : List ℕ} {x : Keyword} {e : Event}
       → isBracketed w ≡ true → keyOf w ≡ says x → KeyGives (o .within) x u e → Stepped o (plain k w) u e
@@ -136,34 +137,34 @@ LineStep x g w s e = (openAt s ≡ record { within = x; gives = g }) × LineGive
 component-goes : (c : ComponentState) (k : ℕ) (w : List ℕ) (l : ComponentList) → componentGives (c .list) ≡ componentGives l
     → Goes (LineStep (some Component) (componentGives l) w) (componentLine c k w l)
 component-goes c k w ComponentFirst q =
-    past-named (LineStep (some Component) nothing w) (c .first) (lineAt componentLines w) _ k _ (λ h. (ap (λ (g : Gives). record { within = some Component; gives = g }) q, quiet))
+    past-named (LineStep (some Component) nothing w) (c .first) (lineAt componentLines w) _ k w _ (λ h. (ap (λ (g : Gives). record { within = some Component; gives = g }) q, quiet))
 component-goes c k w ComponentShut q = tt
-component-goes c k w (PackageLines o g) q = past-named (LineStep (some Component) nothing w) g (lineAt packageLines w) _ k _ (λ h. (refl, quiet))
-component-goes c k w (PinRows o long any) q = past-unless _ _ k _ (refl, pin)
+component-goes c k w (PackageLines o g) q = past-named (LineStep (some Component) nothing w) g (lineAt packageLines w) _ k w _ (λ h. (refl, quiet))
+component-goes c k w (PinRows o long any) q = past-passes _ _ k _ (refl, pin)
 
 -- a row goes on only where it is one
-row-goes : (P : Stage → Event → Type 0) (on : RowsSeen → ModelList) (m : ModelState) (r : RowsSeen) (k : ℕ) (x : Said Row)
+row-goes : (P : Stage → Event → Type 0) (on : RowsSeen → ModelList) (m : ModelState) (r : RowsSeen) (k : ℕ) (w : List ℕ) (x : Reads Row)
     → ((y : Row) → x ≡ says y → P (InModel (withModelList m (on (withRow r (y .number) (isNumber (y .cells .typ)))))) TableRow)
-    → Goes P (rowLine on m r k x)
-row-goes P on m r k (fault n) p = tt
-row-goes P on m r k (says y) p = past-refuse P _ 13 k _ (p y refl)
+    → Goes P (rowLine on m r k (toldIn w x))
+row-goes P on m r k w (fault f) p = tt
+row-goes P on m r k w (says y) p = past-refuse P _ 13 k _ (p y refl)
 
 waveform-goes : (m : ModelState) (o : ℕ) (g : Given) (r : RowsSeen) (k : ℕ) (w : List ℕ)
     → Goes (LineStep (some Model) rows w) (waveformLine m o g r k w)
 unfolding waveformLine
 waveform-goes m o g r k w =
     cond-all (Goes (LineStep (some Model) rows w)) (beginsLetter (word 0 (words w))) _ _
-    (λ b. past-refuse _ _ 7 k _ (past-named (LineStep (some Model) rows w) g (lineAt fixtures w) _ k _ (λ h. (refl, fixture (letter-no-row (words w) b)))))
-    (λ b. row-goes _ (WaveformRows o g) m r k (rowOf (words w)) (λ y e. (refl, row e)))
+    (λ b. past-refuse _ _ 7 k _ (past-named (LineStep (some Model) rows w) g (lineAt fixtures w) _ k w _ (λ h. (refl, fixture (letter-no-row w b)))))
+    (λ b. row-goes _ (WaveformRows o g) m r k w (rowOf w) (λ y e. (refl, row e)))
 
 model-goes : (m : ModelState) (k : ℕ) (w : List ℕ) (l : ModelList) → modelGives (m .list) ≡ modelGives l
     → Goes (LineStep (some Model) (modelGives l) w) (modelLine m k w l)
 unfolding withFirst
 model-goes m k w ModelFirst q =
-    past-named (LineStep (some Model) nothing w) (m .first) (lineAt modelLines w) _ k _ (λ h. (ap (λ (g : Gives). record { within = some Model; gives = g }) q, quiet))
+    past-named (LineStep (some Model) nothing w) (m .first) (lineAt modelLines w) _ k w _ (λ h. (ap (λ (g : Gives). record { within = some Model; gives = g }) q, quiet))
 model-goes m k w ModelShut q = tt
-model-goes m k w (CurrentRows o r) q = row-goes _ (CurrentRows o) m r k (rowOf (words w)) (λ y e. (refl, row e))
-model-goes m k w (RampLines o g) q = past-named (LineStep (some Model) nothing w) g (lineAt rampLines w) _ k _ (λ h. (refl, quiet))
+model-goes m k w (CurrentRows o r) q = row-goes _ (CurrentRows o) m r k w (rowOf w) (λ y e. (refl, row e))
+model-goes m k w (RampLines o g) q = past-named (LineStep (some Model) nothing w) g (lineAt rampLines w) _ k w _ (λ h. (refl, quiet))
 model-goes m k w (WaveformRows o g r) q = waveform-goes m o g r k w
 
 line-goes : (s : Stage) (k : ℕ) (w : List ℕ) → Goes (LineStep (openAt s .within) (openAt s .gives) w) (onLine s k w)
@@ -171,7 +172,7 @@ unfolding headerLine selectorLine
 line-goes BeforeVersion k w = tt
 line-goes (InHeader h) k w = cond-all (Goes (LineStep none nothing w)) (h .text) _ _ (λ e. (refl, quiet)) (λ e. tt)
 line-goes (InComponent c) k w = component-goes c k w (c .list) refl
-line-goes (InSelector s) k w = past-refuse _ _ 10 k _ (refl, choice)
+line-goes (InSelector s) k w = past-passes _ _ k _ (refl, choice)
 line-goes (InModel m) k w = model-goes m k w (m .list) refl
 line-goes AfterEnd k w = tt
 
@@ -208,7 +209,7 @@ KeyStep x a s e = KeyGives x a (openAt s) e
 
 version-goes : (s : Stage) (k : ℕ) (w : List ℕ) → Goes (KeyStep (openAt s .within) key.IbisVer) (onVersion s k w)
 unfolding onVersion version
-version-goes BeforeVersion k w = past-refuse _ _ 10 k _ ofVersion
+version-goes BeforeVersion k w = past-passes _ _ k _ ofVersion
 version-goes (InHeader h) k w = tt
 version-goes (InComponent c) k w = tt
 version-goes (InSelector s) k w = tt
@@ -226,9 +227,10 @@ header-key (InModel m) k w p = tt
 header-key AfterEnd k w p = tt
 
 section-goes : (x : Option Section) (k : ℕ) (w : List ℕ) (o : Section) → Goes (KeyStep x (key.Opens o)) (opened k w o)
-section-goes x k w Component = past-refuse _ _ 10 k _ (ofSection Component)
-section-goes x k w Selector = past-refuse _ _ 10 k _ (ofSection Selector)
-section-goes x k w Model = past-refuse _ _ 10 k _ (ofSection Model)
+unfolding opened
+section-goes x k w Component = past-passes _ _ k _ (ofSection Component)
+section-goes x k w Selector = past-passes _ _ k _ (ofSection Selector)
+section-goes x k w Model = past-passes _ _ k _ (ofSection Model)
 
 component-part : (c : ComponentState) (k : ℕ) (w : List ℕ) (p : ComponentPart)
     → Goes (KeyStep (some Component) (key.InComponent p)) (componentPart c k w p)
@@ -246,7 +248,7 @@ model-part m k w (Current Pullup) = past-once _ _ _ k _ (ofModel (Current Pullup
 model-part m k w (Current GndClamp) = past-once _ _ _ k _ (ofModel (Current GndClamp))
 model-part m k w (Current PowerClamp) = past-once _ _ _ k _ (ofModel (Current PowerClamp))
 model-part m k w Ramp = past-once _ _ _ k _ (ofModel Ramp)
-model-part m k w (Waveform e) = past-unless _ _ k _ (past-refuse _ _ 17 k _ (ofModel (Waveform e)))
+model-part m k w (Waveform e) = past-passes _ _ k _ (past-refuse _ _ 17 k _ (ofModel (Waveform e)))
 
 component-key : (s : Stage) (k : ℕ) (w : List ℕ) (p : ComponentPart)
     → Goes (KeyStep (openAt s .within) (key.InComponent p)) (within k (componentOf s) (λ c. componentPart c k w p))
@@ -285,7 +287,7 @@ module _ (k : ℕ) (w : List ℕ) where
       → Goes (TextStep s (plain k w)) (keyed t k w x)
   keyed-goes s t (fault n) b r q = tt
   keyed-goes s t (says x) b r q =
-      past-all (TextStep s (plain k w)) (KeyStep (openAt t .within) x) (onKeyword t k (argument w) x) (keyword-goes t k (argument w) x)
+      past-all (TextStep s (plain k w)) (KeyStep (openAt t .within) x) (onKeyword t k w x) (keyword-goes t k w x)
       (λ u e g. byKey b r (subst (λ (y : Option Section). KeyGives y x (openAt u) e) q g))
 
   plain-goes : (s : Stage) → Goes (TextStep s (plain k w)) (onPlain s k w)
@@ -302,4 +304,4 @@ module _ (k : ℕ) (w : List ℕ) where
 pub text-goes : (s : Stage) (t : Text) → Goes (TextStep s t) (onText s t)
 unfolding onChange
 text-goes s (plain k w) = plain-goes k w s
-text-goes s (change k n) = past-refuse _ _ 7 k _ (past-refuse _ _ 5 k _ (past-refuse _ _ 7 k _ (past-unless _ n k _ byChange)))
+text-goes s (change k f) = past-refuse _ _ 7 k _ (past-refuse _ _ 5 k _ (past-refuse _ _ 7 k _ (past-passes _ f k _ byChange)))

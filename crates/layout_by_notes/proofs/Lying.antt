@@ -6,7 +6,8 @@ use native.Mathlib.Omega.{arith}
 use lib.ListN.{length, length-append}
 use Rattle.laws.specs.Bytes.{isBlank}
 use Rattle.laws.specs.Lists.{eqs, oneOf}
-use Rattle.laws.specs.Said.{Said, says}
+use Rattle.laws.specs.Said.{says}
+use Rattle.records.specs.Flaws.{Reads}
 use Rattle.words.specs.Words.{words, grown, ontoWord}
 use Rattle.keywords.specs.declared.ModelPart.the-variants.{Current, Waveform}
 use Rattle.keywords.specs.declared.CurrentTable.{CurrentTable}
@@ -86,8 +87,8 @@ row-carried p c rs more tb h e =
       waved = λ v. ap (λ (k : ℕ). h .counts .waveforms + length (waveformsLaid tb k)) (sym n) ∙ v;
     }
 
-onto-one : (x : Said Row) (r : Row) (more : List Row) → x ≡ says r → length (ontoRows x more) ≡ suc (length more)
-onto-one x r more e = ap (λ (y : Said Row). length (ontoRows y more)) e
+onto-one : (x : Reads Row) (r : Row) (more : List Row) → x ≡ says r → length (ontoRows x more) ≡ suc (length more)
+onto-one x r more e = ap (λ (y : Reads Row). length (ontoRows y more)) e
 
 same-ahead : {x y z : Ahead} {h g : Log} → x ≡ y → Carried y h z g → Carried x h z g
 same-ahead {z = z} {h = h} {g = g} p c = subst (λ (a : Ahead). Carried a h z g) (sym p) c
@@ -111,9 +112,9 @@ line-carried choice k ls ps tb h ts =
       filled = λ f. f;
       waved = λ v. v;
     }
-line-carried {w} (row {r = r} e) k ls ps tb h ts = row-carried ps [] (ontoRows (rowOf (words w)) (rowsIn ls)) (rowsIn ls) tb h (onto-one _ r _ e)
+line-carried {w} (row {r = r} e) k ls ps tb h ts = row-carried ps [] (ontoRows (rowOf w) (rowsIn ls)) (rowsIn ls) tb h (onto-one _ r _ e)
 line-carried {w} (fixture e) k ls ps tb h ts =
-    same-ahead (ap (λ (x : Said Row). record { pinLines = ps; choiceLines = []; openRows = ontoRows x (rowsIn ls); tables = tb }) e) nothing-moves
+    same-ahead (ap (λ (x : Reads Row). record { pinLines = ps; choiceLines = []; openRows = ontoRows x (rowsIn ls); tables = tb }) e) nothing-moves
 
 -- ---- a text leads on: the tables of the whole file are seen from the next text as from this one
 

@@ -72,14 +72,14 @@ module _ (k : ℕ) (w : List ℕ) (ts : List Text) (h : Log) (c : Counted h) whe
   key-onward (ofModel (Waveform e)) g q v =
       inside k w ts q v (some Model) g (record { within = some Model; gives = rows }) WaveformOpened h refl
       (waveform-carried (plain k w) ts e (tablesAhead ts) h)
-  key-onward {x} (ofEnd {alone = alone}) g q v =
-      inside k w ts q v x g closed (Ended alone) h refl (subst (λ (y : Ahead). Carried y h noneAhead h) (sym (none-after x)) nothing-moves)
+  key-onward {x} (ofEnd {f = f}) g q v =
+      inside k w ts q v x g closed (Ended f) h refl (subst (λ (y : Ahead). Carried y h noneAhead h) (sym (none-after x)) nothing-moves)
 
 -- ---- any text
 
 pub text-onward : {o : Open} {t : Text} {u : Open} {e : Event} → Stepped o t u e → (ts : List Text) (h : Log) → Counted h → Onward o t ts h u e
-text-onward (byChange {o = o} {k = k} {n = n}) ts h c =
-    carried-on o (change k n) ts h o Quiet (ahead-at (change k n) ts refl o (under ts) (under-change k n ts)) (sections-at (change k n) ts refl) nothing-moves
+text-onward (byChange {o = o} {k = k} {f = f}) ts h c =
+    carried-on o (change k f) ts h o Quiet (ahead-at (change k f) ts refl o (under ts) (under-change k f ts)) (sections-at (change k f) ts refl) nothing-moves
 text-onward (byLine {o = o} {k = k} {w = w} {e = e} b y) ts h c =
     carried-on o (plain k w) ts h o e (ahead-at (plain k w) ts (no-key k w ts b) o (w ∷ under ts) (under-line k w ts b))
     (sections-at (plain k w) ts (no-key k w ts b))

@@ -15,6 +15,7 @@ use Rattle.rules.specs.declared.Stage.the-variants.{BeforeVersion, InHeader, In
 use Rattle.rules.specs.declared.Event.{Event}
 use Rattle.rules.specs.declared.Went.{Went}
 use Rattle.rules.specs.declared.Went.the-variants.{On, Stop}
+use Rattle.records.specs.declared.Fault.{Fault}
 use Rattle.notes.specs.Noted.{Log, emptyLog, sections, Logged, going, full, logged, Finish, whole, broken, outOfLines, afterLogged, afterWent, runLog}
 use Rattle.layout_by_notes.specs.Lies.{pick, isOf, noted, componentNoted, pinNoted, selectorNoted, choiceNoted, modelNoted, Lies, Bounded, Fits}
 use Rattle.layout_by_notes.proofs.Goes.{Goes}
@@ -27,34 +28,34 @@ use Rattle.layout_by_notes.proofs.Onward.{text-onward}
 
 -- ---- what every step keeps holds at the end
 
-never-whole : (n k : ℕ) (h g : Log) → broken n k h ≡ whole g → ⊥
-never-whole n k h g e =
-    let f = ap (λ (x : Finish). x .fault) e in
+never-whole : (f : Fault) (h g : Log) → broken f h ≡ whole g → ⊥
+never-whole f h g e =
+    let faults = ap (λ (x : Finish). x .fault) e in
     let z : _≡_ {A = ℕ} 0 1 = cc in
     omega arith
 
 module _ (l : Lengths) (past : ℕ) (P : Open → Log → List Text → Type 0) (g : Log) where
   -- the texts run out: only behind [End] is the file whole
   at-end : (s : Stage) (h : Log) → P (openAt s) h [] → outOfLines past h s ≡ whole g → P closed g []
-  at-end BeforeVersion h p e = absurd (never-whole 19 past h g e)
-  at-end (InHeader s) h p e = absurd (never-whole 19 past h g e)
-  at-end (InComponent s) h p e = absurd (never-whole 19 past h g e)
-  at-end (InSelector s) h p e = absurd (never-whole 19 past h g e)
-  at-end (InModel s) h p e = absurd (never-whole 19 past h g e)
+  at-end BeforeVersion h p e = absurd (never-whole _ h g e)
+  at-end (InHeader s) h p e = absurd (never-whole _ h g e)
+  at-end (InComponent s) h p e = absurd (never-whole _ h g e)
+  at-end (InSelector s) h p e = absurd (never-whole _ h g e)
+  at-end (InModel s) h p e = absurd (never-whole _ h g e)
   at-end AfterEnd h p e = subst (λ (y : Log). P closed y []) (ap (λ (x : Finish). x .log) e) p
 
   module _ (ts : List Text) (rest : (u : Stage) (h : Log) → P (openAt u) h ts → runLog l past u h ts ≡ whole g → P closed g []) where
     past-logged : (u : Stage) (x : Logged) → Kept (λ (y : Log). P (openAt u) y ts) x
         → afterLogged (λ (y : Log). runLog l past u y ts) x ≡ whole g → P closed g []
     past-logged u (going y) p e = rest u y p e
-    past-logged u (full n k y) p e = absurd (never-whole n k y g e)
+    past-logged u (full f k y) p e = absurd (never-whole _ y g e)
 
     past-went : (s : Stage) (t : Text) (h : Log) (x : Went) → Goes (λ (u : Stage) (e : Event). Stepped (openAt s) t (openAt u) e) x
         → ((u : Open) (e : Event) → Stepped (openAt s) t u e → Room l (h .counts) e → P u (logAfter h t ts e) ts)
         → afterWent l h t ts (λ (u : Stage) (y : Log). runLog l past u y ts) x ≡ whole g → P closed g []
     past-went s t h (On u e) y step r =
         past-logged u (logged l h t ts e) (kept-after (λ (z : Log). P (openAt u) z ts) l h t ts e (λ room. step (openAt u) e y room)) r
-    past-went s t h (Stop f) y step r = absurd (never-whole (f .number) (f .line) h g r)
+    past-went s t h (Stop f) y step r = absurd (never-whole f h g r)
 
   kept-to-end : ((o : Open) (t : Text) (u : Open) (e : Event) (h : Log) (ts : List Text)
       → Stepped o t u e → Room l (h .counts) e → P o h (t ∷ ts) → P u (logAfter h t ts e) ts)

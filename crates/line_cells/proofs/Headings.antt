@@ -1,119 +1,112 @@
--- Laws of the heading of the pins: the first two names, then what stands behind them.
+-- The heading word by word: each is the next one of both headings, or of the long one, or is told where it begins.
 use Prim.Native.Nat.{ℕ, _≤_, _<_}
 use mathlib.Core.Path.{_≡_, refl, sym, ap, _∙_}
 use mathlib.Core.List.{List, [], _∷_}
 use mathlib.Core.Bool.{Bool, true, false, cond, _&&_}
 use native.Mathlib.Omega.{arith}
-use lib.ListN.{length}
+use lib.ListN.{length, drop}
 use Rattle.laws.specs.Bytes.{bytes, isBlank}
-use Rattle.laws.specs.Lists.{eqs}
-use Rattle.laws.specs.Said.{Said, says, fault, faultIn, orElse}
-use Rattle.laws.proofs.Tests.{cond-yes, cond-no, and-both, and-left, and-right}
-use Rattle.words.specs.Words.{words, grown, ontoWord}
-use Rattle.line_rules.specs.Fields.{sameWords, heading}
-use Rattle.line_cells.specs.Headings.{headingRead, headingFault, isLong, restRead}
-use Rattle.line_cells.specs.declared.HeadingRead.{HeadingRead}
-use Rattle.line_cells.specs.declared.HeadingRead.the-variants.{Short, Long, NoHeading}
+use Rattle.laws.specs.Lists.{eqs, after}
+use Rattle.laws.specs.Said.{Result, says, fault, orElse}
+use Rattle.laws.proofs.Tests.{by-order, cond-yes, cond-no, and-left}
+use Rattle.records.specs.Flaws.{Reads, flaw, told, toldIn, atPlace, lineFaultIn}
+use Rattle.records.specs.declared.LineFault.{LineFault}
+use Rattle.words.specs.Words.{word, words, grown, ontoWord, restFrom}
+use Rattle.words.specs.Places.{WordAt}
+use Rattle.words.specs.declared.Word.{Word}
+use Rattle.words.proofs.Laws.{rest-blank, words-rest}
+use Rattle.line_rules.specs.Fields.{sameWords, differing, heading}
+use Rattle.line_rules.proofs.Told.{ten-at, word-text}
+use Rattle.line_cells.specs.Threes.{bytesOf}
+use Rattle.line_cells.specs.Headings.{headingRead, headingFault, isLong, longFrom, headingFrom, cellNames}
 
-abbrev areNamed : List ℕ → List ℕ → Bool
-areNamed a b = eqs a (bytes "signal_name") && eqs b (bytes "model_name")
+-- ---- blanks before a word mean nothing
 
--- by the tests of the two names, and of what stands behind them
-heading-by : (x y short long : Bool)
-    → headingRead (cond (x && (y && short)) (says false) (cond (x && (y && long)) (says true) (fault 10)))
-    ≡ cond (x && y) (cond short Short (cond long Long NoHeading)) NoHeading
-heading-by true true true long = refl
-heading-by true true false true = refl
-heading-by true true false false = refl
-heading-by true false short long = refl
-heading-by false y short long = refl
+differ-alike : (ns : List (List ℕ)) (v u : List ℕ) → words v ≡ words u → ((n : ℕ) → restFrom n v ≡ restFrom n u) → differing ns v ≡ differing ns u
+unfolding differing
+differ-alike [] v u e f = f 0
+differ-alike (n ∷ ns) v u e f = rw (e, f 0, f 1) refl
 
-and-true : (t : Bool) → (t && true) ≡ t
-and-true true = refl
-and-true false = refl
+differ-blank : (ns : List (List ℕ)) (v : List ℕ) → differing ns (restFrom 0 v) ≡ differing ns v
+unfolding restFrom
+differ-blank ns v = differ-alike ns (after isBlank v) v (words-rest 0 v) (λ n. rest-blank n v)
 
-abbrev cells : List (List ℕ)
-cells = bytes "R_pin" ∷ bytes "L_pin" ∷ bytes "C_pin" ∷ []
+-- ---- the word from a place on
 
-rest-by : (ws : List (List ℕ)) → cond (sameWords ws []) Short (cond (sameWords ws cells) Long NoHeading) ≡ restRead ws
-unfolding sameWords restRead
-rest-by [] = refl
-rest-by (a ∷ []) = cond-no _ _ (and-right (eqs a (bytes "R_pin")) _ refl)
-rest-by (a ∷ b ∷ []) = cond-no _ _ (and-right (eqs a (bytes "R_pin")) _ (and-right (eqs b (bytes "L_pin")) _ refl))
-rest-by (a ∷ b ∷ c ∷ []) =
-    ap (λ (t : Bool). cond (eqs a (bytes "R_pin") && (eqs b (bytes "L_pin") && t)) Long NoHeading) (and-true (eqs c (bytes "C_pin")))
-rest-by (a ∷ b ∷ c ∷ d ∷ ws) =
-    cond-no _ _ (and-right (eqs a (bytes "R_pin")) _ (and-right (eqs b (bytes "L_pin")) _ (and-right (eqs c (bytes "C_pin")) _ refl)))
+module _ (s : List ℕ) (at : ℕ) (r : Word) (h : WordAt s at r) where
+  start-within : r .start ≤ length s
+  start-within = omega (arith, h .starts, h .ends)
 
-heading-from : (a b : List ℕ) (ws : List (List ℕ)) → headingRead (heading (a ∷ b ∷ ws)) ≡ cond (areNamed a b) (restRead ws) NoHeading
-unfolding heading sameWords words grown ontoWord isBlank
-heading-from a b ws =
-    heading-by (eqs a (bytes "signal_name")) (eqs b (bytes "model_name")) (sameWords ws []) (sameWords ws cells)
-    ∙ ap (λ (r : HeadingRead). cond (areNamed a b) r NoHeading) (rest-by ws)
+  -- it is looked for
+  module _ (n : List ℕ) (k : eqs [] n ≡ false) where
+    same-word : (ns : List (List ℕ)) → sameWords (words (drop at s)) (n ∷ ns) ≡ (eqs (bytesOf s r) n && sameWords (words (drop (r .end) s)) ns)
+    unfolding sameWords word
+    same-word ns =
+        by-order (length s) (r .start)
+        (λ g.
+        let none : bytesOf s r ≡ [] = word-text s at r h ∙ ap (word 0) (h .none g) in
+        ap (λ (ws : List (List ℕ)). sameWords ws (n ∷ ns)) (h .none g)
+        ∙ sym (and-left (eqs (bytesOf s r) n) _ (ap (λ (x : List ℕ). eqs x n) none ∙ k)))
+        (λ g. ap (λ (ws : List (List ℕ)). sameWords ws (n ∷ ns)) (h .some g))
 
-pub heading-few : (ws : List (List ℕ)) → length ws ≤ 1 → NoHeading ≡ headingRead (heading ws)
-unfolding heading sameWords words grown ontoWord isBlank
-heading-few [] h = refl
-heading-few (a ∷ []) h = rw (and-right (eqs a (bytes "signal_name")) false refl)
-heading-few (a ∷ b ∷ ws) h = absurd (omega arith)
+    differ-word : (ns : List (List ℕ)) → differing (n ∷ ns) (drop at s) ≡ cond (eqs (bytesOf s r) n) (differing ns (drop (r .end) s)) (drop (r .start) s)
+    unfolding differing
+    differ-word ns =
+        rw (sym (word-text s at r h), h .here, h .next 0)
+        (ap (λ (x : List ℕ). cond (eqs (bytesOf s r) n) x (drop (r .start) s)) (differ-blank ns (drop (r .end) s)))
 
-module _ {all : List (List ℕ)} {a b : List ℕ} {ws : List (List ℕ)} (e : all ≡ a ∷ b ∷ ws) where
-  heading-opened : headingRead (heading all) ≡ cond (areNamed a b) (restRead ws) NoHeading
-  heading-opened = ap (λ (l : List (List ℕ)). headingRead (heading l)) e ∙ heading-from a b ws
+    module _ (e : eqs (bytesOf s r) n ≡ true) where
+      pub long-word : (ns : List (List ℕ)) → longFrom (n ∷ ns) (drop at s) ≡ longFrom ns (drop (r .end) s)
+      unfolding longFrom
+      long-word ns = rw (same-word ns, differ-word ns, e) refl
 
-  pub heading-first : eqs a (bytes "signal_name") ≡ false → NoHeading ≡ headingRead (heading all)
-  heading-first h = sym (heading-opened ∙ cond-no _ _ (and-left (eqs a (bytes "signal_name")) _ h))
+      pub heading-word : (ms ns : List (List ℕ)) → headingFrom (n ∷ ms) (n ∷ ns) (drop at s) ≡ headingFrom ms ns (drop (r .end) s)
+      unfolding headingFrom
+      heading-word ms ns = rw (same-word ms, long-word ns, e) refl
 
-  pub heading-second : eqs b (bytes "model_name") ≡ false → NoHeading ≡ headingRead (heading all)
-  heading-second h = sym (heading-opened ∙ cond-no _ _ (and-right (eqs a (bytes "signal_name")) _ h))
+    module _ (e : eqs (bytesOf s r) n ≡ false) where
+      pub long-other : (ns : List (List ℕ)) → toldIn s (longFrom (n ∷ ns) (drop at s)) ≡ fault (atPlace 10 (r .start))
+      unfolding longFrom
+      long-other ns = rw (same-word ns, differ-word ns, e) (ap fault (ten-at s (r .start) start-within))
 
-  pub heading-rest : eqs a (bytes "signal_name") ≡ true → eqs b (bytes "model_name") ≡ true → restRead ws ≡ headingRead (heading all)
-  heading-rest h k = sym (heading-opened ∙ cond-yes _ _ (and-both (eqs a (bytes "signal_name")) _ h k))
+      pub heading-other : (ms ns : List (List ℕ)) → toldIn s (headingFrom (n ∷ ms) (n ∷ ns) (drop at s)) ≡ fault (atPlace 10 (r .start))
+      unfolding headingFrom
+      heading-other ms ns = rw (same-word ms, e) (long-other ns)
 
--- behind the two names
-pub rest-none : (ws : List (List ℕ)) → ws ≡ [] → Short ≡ restRead ws
-unfolding restRead
-rest-none ws e = sym (ap restRead e)
+  -- there is none, or one more
+  pub heading-none : (ns : List (List ℕ)) → length s ≤ r .start → headingFrom [] ns (drop at s) ≡ says false
+  unfolding headingFrom sameWords
+  heading-none ns g = rw (h .none g) refl
 
-pub rest-other : (ws : List (List ℕ)) → 0 < length ws → (length ws ≡ 3 → ⊥) → NoHeading ≡ restRead ws
-unfolding restRead
-rest-other [] k h = absurd (omega arith)
-rest-other (a ∷ []) k h = refl
-rest-other (a ∷ b ∷ []) k h = refl
-rest-other (a ∷ b ∷ c ∷ []) k h = absurd (h refl)
-rest-other (a ∷ b ∷ c ∷ d ∷ ws) k h = refl
+  pub heading-some : (ns : List (List ℕ)) → r .start < length s → headingFrom [] ns (drop at s) ≡ longFrom ns (drop at s)
+  unfolding headingFrom sameWords
+  heading-some ns g = ap (λ (ws : List (List ℕ)). cond (sameWords ws []) (says false) (longFrom ns (drop at s))) (h .some g)
 
-module _ {ws : List (List ℕ)} {a b c : List ℕ} (e : ws ≡ a ∷ b ∷ c ∷ []) where
-  rest-opened : restRead ws ≡ cond (eqs a (bytes "R_pin") && (eqs b (bytes "L_pin") && eqs c (bytes "C_pin"))) Long NoHeading
-  unfolding restRead
-  rest-opened = ap restRead e
+  pub long-none : length s ≤ r .start → longFrom [] (drop at s) ≡ says true
+  unfolding longFrom sameWords
+  long-none g = rw (h .none g) refl
 
-  pub rest-first : eqs a (bytes "R_pin") ≡ false → NoHeading ≡ restRead ws
-  rest-first h = sym (rest-opened ∙ cond-no _ _ (and-left (eqs a (bytes "R_pin")) _ h))
+  pub long-more : r .start < length s → toldIn s (longFrom [] (drop at s)) ≡ fault (atPlace 10 (r .start))
+  unfolding longFrom sameWords differing
+  long-more g =
+      ap (λ (ws : List (List ℕ)). toldIn s (cond (sameWords ws []) (says true) (fault (flaw 10 (restFrom 0 (drop at s)))))) (h .some g)
+      ∙ ap (λ (v : List ℕ). fault (told s (flaw 10 v))) (h .here)
+      ∙ ap fault (ten-at s (r .start) start-within)
 
-  pub rest-second : eqs b (bytes "L_pin") ≡ false → NoHeading ≡ restRead ws
-  rest-second h = sym (rest-opened ∙ cond-no _ _ (and-right (eqs a (bytes "R_pin")) _ (and-left (eqs b (bytes "L_pin")) _ h)))
+-- ---- the heading, by its words
 
-  pub rest-third : eqs c (bytes "C_pin") ≡ false → NoHeading ≡ restRead ws
-  rest-third h = sym (rest-opened ∙ cond-no _ _ (and-right (eqs a (bytes "R_pin")) _ (and-right (eqs b (bytes "L_pin")) _ h)))
-
-  pub rest-all : eqs a (bytes "R_pin") ≡ true → eqs b (bytes "L_pin") ≡ true → eqs c (bytes "C_pin") ≡ true → Long ≡ restRead ws
-  rest-all h k l = sym (rest-opened ∙ cond-yes _ _ (and-both (eqs a (bytes "R_pin")) _ h (and-both (eqs b (bytes "L_pin")) _ k l)))
+pub heading-from : (v : List ℕ) → heading v ≡ headingFrom (bytes "signal_name" ∷ bytes "model_name" ∷ []) (bytes "signal_name" ∷ bytes "model_name" ∷ cellNames) v
+unfolding heading headingFrom longFrom words grown ontoWord isBlank
+heading-from v = refl
 
 -- ---- what the code's answer says of the heading
 
-fault-by : (short long : Bool)
-    → faultIn (cond short (says false) (cond long (says true) (fault 10))) ≡ headingFault (headingRead (cond short (says false) (cond long (says true) (fault 10))))
-fault-by true long = refl
-fault-by false true = refl
-fault-by false false = refl
+pub heading-fault : (h : Result LineFault Bool) → lineFaultIn h ≡ headingFault (headingRead h)
+heading-fault (says true) = refl
+heading-fault (says false) = refl
+heading-fault (fault f) = refl
 
-pub heading-fault : (ws : List (List ℕ)) → faultIn (heading ws) ≡ headingFault (headingRead (heading ws))
-unfolding heading
-heading-fault ws =
-    fault-by (sameWords ws (words (bytes "signal_name model_name"))) (sameWords ws (words (bytes "signal_name model_name R_pin L_pin C_pin")))
-
-pub heading-long : (h : Said Bool) → orElse false h ≡ isLong (headingRead h)
-heading-long (says true) = refl
-heading-long (says false) = refl
-heading-long (fault n) = refl
+pub heading-long : (w : List ℕ) (h : Reads Bool) → orElse false h ≡ isLong (headingRead (toldIn w h))
+heading-long w (says true) = refl
+heading-long w (says false) = refl
+heading-long w (fault f) = refl

@@ -1,33 +1,38 @@
 -- The heading of the pins, as the code has it, and the part of it behind the first two names.
-use Prim.Native.Nat.{ℕ}
 use mathlib.Core.List.{List, [], _∷_}
-use mathlib.Core.Bool.{Bool, true, false, cond, _&&_}
+use mathlib.Core.Bool.{Bool, true, false, cond}
+use Prim.Native.Nat.{ℕ}
 use Rattle.laws.specs.Bytes.{bytes}
-use Rattle.laws.specs.Lists.{eqs}
-use Rattle.laws.specs.Said.{Said, says, fault}
+use Rattle.laws.specs.Said.{Result, says, fault}
+use Rattle.words.specs.Words.{words}
+use Rattle.records.specs.Flaws.{Reads, flaw, bare}
+use Rattle.records.specs.declared.LineFault.{LineFault}
+use Rattle.line_rules.specs.Fields.{sameWords, differing}
 use Rattle.line_cells.specs.declared.HeadingRead.{HeadingRead}
 use Rattle.line_cells.specs.declared.HeadingRead.the-variants.{Short, Long, NoHeading}
 
-abbrev pub headingRead : Said Bool → HeadingRead
-headingRead (fault n) = NoHeading
+abbrev pub headingRead : Result LineFault Bool → HeadingRead
+headingRead (fault f) = NoHeading f
 headingRead (says false) = Short
 headingRead (says true) = Long
 
--- document 01's number for each case, and whether it is the long one
-abbrev pub headingFault : HeadingRead → ℕ
-headingFault Short = 0
-headingFault Long = 0
-headingFault NoHeading = 10
+-- what is told of it, and whether it is the long one
+abbrev pub headingFault : HeadingRead → LineFault
+headingFault Short = bare 0
+headingFault Long = bare 0
+headingFault (NoHeading f) = f
 
 abbrev pub isLong : HeadingRead → Bool
 isLong Short = false
 isLong Long = true
-isLong NoHeading = false
+isLong (NoHeading f) = false
 
--- behind `signal_name model_name`: nothing, or `R_pin L_pin C_pin`
-unfoldable pub restRead : List (List ℕ) → HeadingRead
-restRead [] = Short
-restRead (a ∷ []) = NoHeading
-restRead (a ∷ b ∷ []) = NoHeading
-restRead (a ∷ b ∷ c ∷ []) = cond (eqs a (bytes "R_pin") && (eqs b (bytes "L_pin") && eqs c (bytes "C_pin"))) Long NoHeading
-restRead (a ∷ b ∷ c ∷ d ∷ ws) = NoHeading
+-- the long one by its words that are still to come, and either by those of the short one too
+unfoldable pub longFrom : List (List ℕ) → List ℕ → Reads Bool
+longFrom long v = cond (sameWords (words v) long) (says true) (fault (flaw 10 (differing long v)))
+
+unfoldable pub headingFrom : List (List ℕ) → List (List ℕ) → List ℕ → Reads Bool
+headingFrom short long v = cond (sameWords (words v) short) (says false) (longFrom long v)
+
+abbrev pub cellNames : List (List ℕ)
+cellNames = bytes "R_pin" ∷ bytes "L_pin" ∷ bytes "C_pin" ∷ []

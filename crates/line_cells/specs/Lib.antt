@@ -2,3 +2,4 @@
 pub mod Threes
 pub mod Rows
 pub mod Headings
+pub mod Divisors

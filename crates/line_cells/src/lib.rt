@@ -1,6 +1,7 @@
 // Numbers and cells of a line: three cells, a table's row, a ramp's slopes, and the heading of the pins.
 ghost use mathlib.Core.Path.{_≡_};
-ghost use Prim.Native.Nat.{_≤_};
+ghost use Prim.Native.Nat.{_≤_, _<_, _+_, _^_};
+ghost use mathlib.Core.List.{[]};
 ghost use lib.ListN.{length, drop};
 ghost use Rattle.laws.specs.Lists.{eqs};
 ghost use mathlib.Core.Bool.{cond};
@@ -10,44 +11,48 @@ ghost use Rattle.decimal.specs.Decimal.{numberOf, givenCell, cellOf};
 ghost use Rattle.decimal.specs.Answers.{cellRead, numberSays, cellSays, numberWord, cellWord};
 ghost use Rattle.decimal.specs.declared.Cell.the-variants.{Missing};
 ghost use Rattle.records.specs.Stored.{noCells};
-ghost use Rattle.words.specs.Words.{words};
-ghost use Rattle.line_rules.specs.Fields.{typMinMax, threeCells, cellsBy, rowOf, slopeOf, slopeOrMissing, ratioOf, isUpward, upward, threeSlopes, heading};
-ghost use Rattle.line_rules.specs.Answers.{tripleRead, slopeRead, rampRead, tripleSays, slopeSays, rampSays};
+ghost use Rattle.records.specs.Flaws.{toldIn, saidThere, lineFaultIn};
+ghost use Rattle.line_rules.specs.Fields.{typMinMax, threeCells, cellsBy, rowOf, slopeOf, slopeOrMissing, ratioOf, isUpward, threeSlopes, heading};
+ghost use Rattle.line_rules.specs.Answers.{tripleRead, slopeRead, rampRead, tripleSays, lineCellSays, slopeSays, rampSays};
 ghost use Rattle.rules.specs.Component.{pinCells};
-ghost use Rattle.line_cells.specs.Headings.{headingRead, restRead};
+ghost use Rattle.line_cells.specs.Headings.{headingRead, longFrom, headingFrom, cellNames};
+ghost use Rattle.line_cells.specs.Divisors.{divided};
 ghost use Rattle.line_cells.specs.Threes.{bytesOf, Within, ThreeFrom};
 ghost use Rattle.line_cells.specs.Rows.{amissWords, wordsFrom, rowWorded};
 use decimal::Cell;
 use decimal::CellRead;
 use decimal::NumberRead;
+use line_rules::LineCell;
 use line_rules::RampCellRead;
 use line_rules::RampRead;
 use line_rules::TripleRead;
+use records::LineFault;
 use records::RampCell;
 use records::RampTriple;
 use records::Triple;
 use words::Word;
 
-// Three words that are all from a place on.
+// Three words that are all from a place on; or where the fourth begins, or the line ends that has fewer.
 pub enum ThreeWords {
     Three { a: Word, b: Word, c: Word },
-    Other,
+    Other(usize),
 }
 
-// A row as the words of its cells, with fault 0; or its fault.
+// A row as the words of its cells, with fault 0; or its fault and the column told.
 pub struct RowWords {
     pub number: u64,
     pub typ: u64,
     pub min: u64,
     pub max: u64,
     pub fault: u64,
+    pub column: u64,
 }
 
 // What stands behind [Pin]: the names of a short row, of a long one, or neither.
 pub enum HeadingRead {
     Short,
     Long,
-    NoHeading,
+    NoHeading(LineFault),
 }
 
 // ---- a word of a line
@@ -106,11 +111,11 @@ fn three_in(w: &[u8], at: usize) -> ThreeWords
     let b = words::word_at(w, a.end);
     let c = words::word_at(w, b.end);
     if w.len() <= c.start {
-        return ThreeWords::Other;
+        return ThreeWords::Other(c.start);
     }
     let fourth = words::word_at(w, c.end);
     if fourth.start < w.len() {
-        return ThreeWords::Other;
+        return ThreeWords::Other(fourth.start);
     }
     ThreeWords::Three { a: a, b: b, c: c }
 }
@@ -123,13 +128,14 @@ pub fn three_words(w: &[u8], at: usize) -> ThreeWords
     three_in(&w[0..], at)
 }
 
-// ---- three cells and a table's row: the leftmost fault counts
+// ---- three cells and a table's row: the leftmost fault counts. Each word comes with the place where it begins
 
-fn with_max(typ: Cell, min: Cell, c: CellRead) -> TripleRead
-    ensures { λ r. ⌜ r ≡ tripleRead (readOn (cellSays c) (λ max. says (record { typ = typ; min = min; max = max }))) ⌝ }
+fn with_max(typ: Cell, min: Cell, c: CellRead, third: usize) -> TripleRead
+    requires { ⌜ third < 2 ^ 63 ⌝ }
+    ensures { λ r. ⌜ r ≡ tripleRead (readOn (saidThere third (cellSays c)) (λ max. says (record { typ = typ; min = min; max = max }))) ⌝ }
 {
     match c {
-        CellRead::Bad(fault) => TripleRead::Flawed(fault),
+        CellRead::Bad(fault) => TripleRead::Flawed(records::at_fault(fault, third)),
         CellRead::Read(max) => TripleRead::Cells(Triple {
             typ: typ,
             min: min,
@@ -138,50 +144,73 @@ fn with_max(typ: Cell, min: Cell, c: CellRead) -> TripleRead
     }
 }
 
-fn with_min(typ: Cell, b: CellRead, c: CellRead) -> TripleRead
-    ensures { λ r. ⌜ r ≡ tripleRead (readOn (cellSays b) (λ min. readOn (cellSays c) (λ max. says (record { typ = typ; min = min; max = max })))) ⌝ }
+fn with_min(typ: Cell, b: CellRead, second: usize, c: CellRead, third: usize) -> TripleRead
+    requires { ⌜ (second < 2 ^ 63) × (third < 2 ^ 63) ⌝ }
+    ensures { λ r. ⌜ r ≡ tripleRead (readOn (saidThere second (cellSays b)) (λ min. readOn (saidThere third (cellSays c)) (λ max. says (record { typ = typ; min = min; max = max })))) ⌝ }
 {
     match b {
-        CellRead::Bad(fault) => TripleRead::Flawed(fault),
-        CellRead::Read(min) => with_max(typ, min, c),
+        CellRead::Bad(fault) => TripleRead::Flawed(records::at_fault(fault, second)),
+        CellRead::Read(min) => with_max(typ, min, c, third),
     }
 }
 
-fn cells_from(a: CellRead, b: CellRead, c: CellRead) -> TripleRead
-    ensures { λ r. ⌜ r ≡ tripleRead (typMinMax (λ typ min max. record { typ = typ; min = min; max = max }) (cellSays a) (cellSays b) (cellSays c)) ⌝ }
+fn cells_from(
+    a: CellRead,
+    first: usize,
+    b: CellRead,
+    second: usize,
+    c: CellRead,
+    third: usize,
+) -> TripleRead
+    requires { ⌜ (first < 2 ^ 63) × ((second < 2 ^ 63) × (third < 2 ^ 63)) ⌝ }
+    ensures { λ r. ⌜ r ≡ tripleRead (typMinMax (λ typ min max. record { typ = typ; min = min; max = max }) (saidThere first (cellSays a)) (saidThere second (cellSays b)) (saidThere third (cellSays c))) ⌝ }
 {
     match a {
-        CellRead::Bad(fault) => TripleRead::Flawed(fault),
-        CellRead::Read(typ) => with_min(typ, b, c),
+        CellRead::Bad(fault) => TripleRead::Flawed(records::at_fault(fault, first)),
+        CellRead::Read(typ) => with_min(typ, b, second, c, third),
     }
 }
 
 // Three words and no more, from a place on: a number and two cells.
 pub fn three_cells(w: &[u8], at: usize) -> TripleRead
     requires { ⌜ at ≤ length (now w) ⌝ }
-    ensures { λ r. ⌜ r ≡ tripleRead (threeCells (words (drop at (now (w .entry))))) ⌝ }
+    ensures { λ r. ⌜ r ≡ tripleRead (toldIn (now (w .entry)) (threeCells (drop at (now (w .entry))))) ⌝ }
 {
     match three_words(w, at) {
-        ThreeWords::Three { a, b, c } => cells_from(given_at(w, a), cell_at(w, b), cell_at(w, c)),
-        ThreeWords::Other => TripleRead::Flawed(10),
+        ThreeWords::Three { a, b, c } => cells_from(
+            given_at(w, a),
+            a.start,
+            cell_at(w, b),
+            b.start,
+            cell_at(w, c),
+            c.start,
+        ),
+        ThreeWords::Other(place) => TripleRead::Flawed(records::at_fault(10, place)),
     }
 }
 
 // Three words and no more, from a place on: three cells, of which typ may be missing too.
 pub fn any_cells(w: &[u8], at: usize) -> TripleRead
     requires { ⌜ at ≤ length (now w) ⌝ }
-    ensures { λ r. ⌜ r ≡ tripleRead (cellsBy cellOf (words (drop at (now (w .entry))))) ⌝ }
+    ensures { λ r. ⌜ r ≡ tripleRead (toldIn (now (w .entry)) (cellsBy cellOf (drop at (now (w .entry))))) ⌝ }
 {
     match three_words(w, at) {
-        ThreeWords::Three { a, b, c } => cells_from(cell_at(w, a), cell_at(w, b), cell_at(w, c)),
-        ThreeWords::Other => TripleRead::Flawed(10),
+        ThreeWords::Three { a, b, c } => cells_from(
+            cell_at(w, a),
+            a.start,
+            cell_at(w, b),
+            b.start,
+            cell_at(w, c),
+            c.start,
+        ),
+        ThreeWords::Other(place) => TripleRead::Flawed(records::at_fault(10, place)),
     }
 }
 
 // A pin row's cells, from a place on: three words and no more, or nothing, and then they are missing.
 pub fn pin_cells(w: &[u8], at: usize) -> TripleRead
     requires { ⌜ at ≤ length (now w) ⌝ }
-    ensures { λ r. ⌜ r ≡ tripleRead (pinCells (words (drop at (now (w .entry))))) ⌝ }
+    ensures { λ r. ⌜ r ≡ tripleRead (toldIn (now (w .entry)) (pinCells (drop at (now (w .entry))))) ⌝ }
 {
     if w.len() <= words::skip_blanks(w, at) {
         return TripleRead::Cells(records::no_cells());
@@ -189,9 +218,9 @@ pub fn pin_cells(w: &[u8], at: usize) -> TripleRead
     any_cells(w, at)
 }
 
-// No row, for a fault.
-pub fn amiss(fault: u64) -> RowWords
-    ensures { λ r. ⌜ r ≡ amissWords fault ⌝ }
+// No row, for a fault and its column.
+pub fn amiss(fault: u64, column: u64) -> RowWords
+    ensures { λ r. ⌜ r ≡ amissWords fault column ⌝ }
 {
     RowWords {
         number: 0,
@@ -199,28 +228,47 @@ pub fn amiss(fault: u64) -> RowWords
         min: 0,
         max: 0,
         fault: fault,
+        column: column,
     }
 }
 
-// A row of four answers: the leftmost fault counts.
-fn row_from(number: u64, typ: u64, min: u64, max: u64) -> RowWords
-    ensures { λ r. ⌜ r ≡ wordsFrom number typ min max ⌝ }
+// No row, for a fault of the word that begins at a place.
+fn amiss_at(fault: u64, place: usize) -> RowWords
+    requires { ⌜ place < 2 ^ 63 ⌝ }
+    ensures { λ r. ⌜ r ≡ amissWords fault (place + 1) ⌝ }
 {
-    let first = decimal::fault_at(number);
-    if first != 0 {
-        return amiss(first);
+    amiss(fault, place as u64 + 1)
+}
+
+// A row of four answers, each with the place of its word: the leftmost fault counts.
+fn row_from(
+    number: u64,
+    first: usize,
+    typ: u64,
+    second: usize,
+    min: u64,
+    third: usize,
+    max: u64,
+    fourth: usize,
+) -> RowWords
+    requires { ⌜ (first < 2 ^ 63) × ((second < 2 ^ 63) × ((third < 2 ^ 63) × (fourth < 2 ^ 63))) ⌝ }
+    ensures { λ r. ⌜ r ≡ wordsFrom number first typ second min third max fourth ⌝ }
+{
+    let of_number = decimal::fault_at(number);
+    if of_number != 0 {
+        return amiss_at(of_number, first);
     }
-    let second = decimal::fault_at(typ);
-    if second != 0 {
-        return amiss(second);
+    let of_typ = decimal::fault_at(typ);
+    if of_typ != 0 {
+        return amiss_at(of_typ, second);
     }
-    let third = decimal::fault_at(min);
-    if third != 0 {
-        return amiss(third);
+    let of_min = decimal::fault_at(min);
+    if of_min != 0 {
+        return amiss_at(of_min, third);
     }
-    let fourth = decimal::fault_at(max);
-    if fourth != 0 {
-        return amiss(fourth);
+    let of_max = decimal::fault_at(max);
+    if of_max != 0 {
+        return amiss_at(of_max, fourth);
     }
     RowWords {
         number: number,
@@ -228,29 +276,34 @@ fn row_from(number: u64, typ: u64, min: u64, max: u64) -> RowWords
         min: min,
         max: max,
         fault: 0,
+        column: 0,
     }
 }
 
 // Four words and no more: a number and three cells.
 pub fn row_words(w: &[u8]) -> RowWords
-    ensures { λ r. ⌜ r ≡ rowWorded (rowOf (words (now (w .entry)))) ⌝ }
+    ensures { λ r. ⌜ r ≡ rowWorded (toldIn (now (w .entry)) (rowOf (now (w .entry)))) ⌝ }
 {
     let a = words::word_at(w, 0);
     let b = words::word_at(w, a.end);
     let c = words::word_at(w, b.end);
     let d = words::word_at(w, c.end);
     if w.len() <= d.start {
-        return amiss(10);
+        return amiss_at(10, d.start);
     }
     let fifth = words::word_at(w, d.end);
     if fifth.start < w.len() {
-        return amiss(10);
+        return amiss_at(10, fifth.start);
     }
     row_from(
         number_word_at(w, a),
+        a.start,
         cell_word_at(w, b),
+        b.start,
         cell_word_at(w, c),
+        c.start,
         cell_word_at(w, d),
+        d.start,
     )
 }
 
@@ -343,16 +396,16 @@ fn is_upward(c: RampCell) -> bool
 
 // A divisor that is not above zero is told after what is wrong with the words.
 fn upward(typ: RampCell, min: RampCell, max: RampCell) -> RampRead
-    ensures { λ r. ⌜ r ≡ rampRead (upward (record { typ = typ; min = min; max = max })) ⌝ }
+    ensures { λ r. ⌜ r ≡ rampRead (divided (record { typ = typ; min = min; max = max })) ⌝ }
 {
     if !is_upward(typ) {
-        return RampRead::Refused(13);
+        return RampRead::Refused(records::bare_fault(13));
     }
     if !is_upward(min) {
-        return RampRead::Refused(13);
+        return RampRead::Refused(records::bare_fault(13));
     }
     if !is_upward(max) {
-        return RampRead::Refused(13);
+        return RampRead::Refused(records::bare_fault(13));
     }
     RampRead::Slopes(RampTriple {
         typ: typ,
@@ -361,131 +414,157 @@ fn upward(typ: RampCell, min: RampCell, max: RampCell) -> RampRead
     })
 }
 
-fn slopes_max(typ: RampCell, min: RampCell, c: RampCellRead) -> RampRead
-    ensures { λ r. ⌜ r ≡ rampRead (readOn (slopeSays c) (λ max. upward (record { typ = typ; min = min; max = max }))) ⌝ }
+fn slopes_max(typ: RampCell, min: RampCell, c: RampCellRead, third: usize) -> RampRead
+    requires { ⌜ third < 2 ^ 63 ⌝ }
+    ensures { λ r. ⌜ r ≡ rampRead (readOn (saidThere third (slopeSays c)) (λ max. divided (record { typ = typ; min = min; max = max }))) ⌝ }
 {
     match c {
-        RampCellRead::Faulted(fault) => RampRead::Refused(fault),
+        RampCellRead::Faulted(fault) => RampRead::Refused(records::at_fault(fault, third)),
         RampCellRead::Slope(max) => upward(typ, min, max),
     }
 }
 
-fn slopes_min(typ: RampCell, b: RampCellRead, c: RampCellRead) -> RampRead
-    ensures { λ r. ⌜ r ≡ rampRead (readOn (slopeSays b) (λ min. readOn (slopeSays c) (λ max. upward (record { typ = typ; min = min; max = max })))) ⌝ }
+fn slopes_min(
+    typ: RampCell,
+    b: RampCellRead,
+    second: usize,
+    c: RampCellRead,
+    third: usize,
+) -> RampRead
+    requires { ⌜ (second < 2 ^ 63) × (third < 2 ^ 63) ⌝ }
+    ensures { λ r. ⌜ r ≡ rampRead (readOn (saidThere second (slopeSays b)) (λ min. readOn (saidThere third (slopeSays c)) (λ max. divided (record { typ = typ; min = min; max = max })))) ⌝ }
 {
     match b {
-        RampCellRead::Faulted(fault) => RampRead::Refused(fault),
-        RampCellRead::Slope(min) => slopes_max(typ, min, c),
+        RampCellRead::Faulted(fault) => RampRead::Refused(records::at_fault(fault, second)),
+        RampCellRead::Slope(min) => slopes_max(typ, min, c, third),
     }
 }
 
-fn slopes_typ(a: RampCellRead, b: RampCellRead, c: RampCellRead) -> RampRead
-    ensures { λ r. ⌜ r ≡ rampRead (readOn (slopeSays a) (λ typ. readOn (slopeSays b) (λ min. readOn (slopeSays c) (λ max. upward (record { typ = typ; min = min; max = max }))))) ⌝ }
+fn slopes_typ(
+    a: RampCellRead,
+    first: usize,
+    b: RampCellRead,
+    second: usize,
+    c: RampCellRead,
+    third: usize,
+) -> RampRead
+    requires { ⌜ (first < 2 ^ 63) × ((second < 2 ^ 63) × (third < 2 ^ 63)) ⌝ }
+    ensures { λ r. ⌜ r ≡ rampRead (readOn (saidThere first (slopeSays a)) (λ typ. readOn (saidThere second (slopeSays b)) (λ min. readOn (saidThere third (slopeSays c)) (λ max. divided (record { typ = typ; min = min; max = max }))))) ⌝ }
 {
     match a {
-        RampCellRead::Faulted(fault) => RampRead::Refused(fault),
-        RampCellRead::Slope(typ) => slopes_min(typ, b, c),
+        RampCellRead::Faulted(fault) => RampRead::Refused(records::at_fault(fault, first)),
+        RampCellRead::Slope(typ) => slopes_min(typ, b, second, c, third),
     }
 }
 
 // Three words and no more, from a place on: a slope and two that may be missing.
 pub fn three_slopes(w: &[u8], at: usize) -> RampRead
     requires { ⌜ at ≤ length (now w) ⌝ }
-    ensures { λ r. ⌜ r ≡ rampRead (threeSlopes (words (drop at (now (w .entry))))) ⌝ }
+    ensures { λ r. ⌜ r ≡ rampRead (toldIn (now (w .entry)) (threeSlopes (drop at (now (w .entry))))) ⌝ }
 {
     match three_words(w, at) {
         ThreeWords::Three { a, b, c } => slopes_typ(
             slope_at(w, a),
+            a.start,
             slope_or_missing_at(w, b),
+            b.start,
             slope_or_missing_at(w, c),
+            c.start,
         ),
-        ThreeWords::Other => RampRead::Refused(10),
+        ThreeWords::Other(place) => RampRead::Refused(records::at_fault(10, place)),
     }
 }
 
-// ---- the fault of what is read, 0 for none
+// ---- the fault of what is read
 
-pub fn cell_fault(r: CellRead) -> u8
-    ensures { λ n. ⌜ n ≡ faultIn (cellSays r) ⌝ }
+pub fn cell_fault(r: LineCell) -> LineFault
+    ensures { λ f. ⌜ f ≡ lineFaultIn (lineCellSays r) ⌝ }
 {
     match r {
-        CellRead::Read(_) => 0,
-        CellRead::Bad(fault) => fault,
+        LineCell::Stated(_) => records::bare_fault(0),
+        LineCell::Misstated(fault) => fault,
     }
 }
 
-pub fn triple_fault(r: TripleRead) -> u8
-    ensures { λ n. ⌜ n ≡ faultIn (tripleSays r) ⌝ }
+pub fn triple_fault(r: TripleRead) -> LineFault
+    ensures { λ f. ⌜ f ≡ lineFaultIn (tripleSays r) ⌝ }
 {
     match r {
-        TripleRead::Cells(_) => 0,
+        TripleRead::Cells(_) => records::bare_fault(0),
         TripleRead::Flawed(fault) => fault,
     }
 }
 
-pub fn ramp_fault(r: RampRead) -> u8
-    ensures { λ n. ⌜ n ≡ faultIn (rampSays r) ⌝ }
+pub fn ramp_fault(r: RampRead) -> LineFault
+    ensures { λ f. ⌜ f ≡ lineFaultIn (rampSays r) ⌝ }
 {
     match r {
-        RampRead::Slopes(_) => 0,
+        RampRead::Slopes(_) => records::bare_fault(0),
         RampRead::Refused(fault) => fault,
     }
 }
 
 // ---- the heading of the pins
 
+// Behind the long heading's last name: nothing.
+fn end_of(w: &[u8], at: usize) -> HeadingRead
+    requires { ⌜ at ≤ length (now w) ⌝ }
+    ensures { λ r. ⌜ r ≡ headingRead (toldIn (now (w .entry)) (longFrom [] (drop at (now (w .entry))))) ⌝ }
+{
+    let more = words::word_at(w, at);
+    if more.start < w.len() {
+        return HeadingRead::NoHeading(records::at_fault(10, more.start));
+    }
+    HeadingRead::Long
+}
+
 // Behind the first two names: nothing, or the names of three cells.
 fn rest_of(w: &[u8], at: usize) -> HeadingRead
     requires { ⌜ at ≤ length (now w) ⌝ }
-    ensures { λ r. ⌜ r ≡ restRead (words (drop at (now (w .entry)))) ⌝ }
+    ensures { λ r. ⌜ r ≡ headingRead (toldIn (now (w .entry)) (headingFrom [] cellNames (drop at (now (w .entry))))) ⌝ }
 {
-    let first = words::word_at(w, at);
-    if w.len() <= first.start {
+    let a = words::word_at(w, at);
+    if w.len() <= a.start {
         return HeadingRead::Short;
     }
-    match three_words(w, at) {
-        ThreeWords::Three { a, b, c } => {
-            if !named(w, a, b"R_pin") {
-                return HeadingRead::NoHeading;
-            }
-            if !named(w, b, b"L_pin") {
-                return HeadingRead::NoHeading;
-            }
-            if !named(w, c, b"C_pin") {
-                return HeadingRead::NoHeading;
-            }
-            HeadingRead::Long
-        }
-        ThreeWords::Other => HeadingRead::NoHeading,
+    if !named(w, a, b"R_pin") {
+        return HeadingRead::NoHeading(records::at_fault(10, a.start));
     }
+    let b = words::word_at(w, a.end);
+    if !named(w, b, b"L_pin") {
+        return HeadingRead::NoHeading(records::at_fault(10, b.start));
+    }
+    let c = words::word_at(w, b.end);
+    if !named(w, c, b"C_pin") {
+        return HeadingRead::NoHeading(records::at_fault(10, c.start));
+    }
+    end_of(w, c.end)
 }
 
-// What the words behind [Pin] say.
-pub fn heading_of(w: &[u8]) -> HeadingRead
-    ensures { λ r. ⌜ r ≡ headingRead (heading (words (now (w .entry)))) ⌝ }
+// What the words from a place on say, behind [Pin].
+pub fn heading_of(w: &[u8], at: usize) -> HeadingRead
+    requires { ⌜ at ≤ length (now w) ⌝ }
+    ensures { λ r. ⌜ r ≡ headingRead (toldIn (now (w .entry)) (heading (drop at (now (w .entry))))) ⌝ }
 {
-    let a = words::word_at(w, 0);
-    let b = words::word_at(w, a.end);
-    if w.len() <= b.start {
-        return HeadingRead::NoHeading;
-    }
+    let a = words::word_at(w, at);
     if !named(w, a, b"signal_name") {
-        return HeadingRead::NoHeading;
+        return HeadingRead::NoHeading(records::at_fault(10, a.start));
     }
+    let b = words::word_at(w, a.end);
     if !named(w, b, b"model_name") {
-        return HeadingRead::NoHeading;
+        return HeadingRead::NoHeading(records::at_fault(10, b.start));
     }
     rest_of(w, b.end)
 }
 
 // ---- what a line that has passed its checks gives; missing stays missing
 
-pub fn cell_is(r: CellRead) -> Cell
-    ensures { λ c. ⌜ c ≡ orElse Missing (cellSays r) ⌝ }
+pub fn cell_is(r: LineCell) -> Cell
+    ensures { λ c. ⌜ c ≡ orElse Missing (lineCellSays r) ⌝ }
 {
     match r {
-        CellRead::Read(c) => c,
-        CellRead::Bad(_) => Cell::Missing,
+        LineCell::Stated(c) => c,
+        LineCell::Misstated(_) => Cell::Missing,
     }
 }
 

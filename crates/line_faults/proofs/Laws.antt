@@ -9,17 +9,17 @@ use native.Mathlib.Omega.{arith}
 use borrow.Author.Tests.{ne-eqb, le-ltb}
 use Rattle.laws.specs.Bytes.{bytes, isBlank}
 use Rattle.laws.specs.Lists.{eqs, oneOf}
+use Rattle.records.specs.Flaws.{Flaw}
 use Rattle.words.specs.Words.{words, grown, ontoWord}
 use Rattle.name_table.specs.Names.{placeFrom}
 use Rattle.name_table.specs.declared.Found.the-variants.{At}
 use Rattle.keywords.specs.declared.CurrentTable.{CurrentTable}
 use Rattle.keywords.specs.declared.CurrentTable.the-variants.{Pulldown, Pullup, GndClamp, PowerClamp}
 use Rattle.keywords.specs.declared.ModelPart.the-variants.{Current}
-use Rattle.line_rules.specs.Fields.{nameOf, isNamed, lineAt}
+use Rattle.line_rules.specs.Fields.{nameOf, isNamed, lineAt, noArgument}
 use Rattle.line_rules.specs.Tables.{modelLines, capacitances, rampLines}
 use Rattle.line_rules.proofs.Places.{named-at}
-use Rattle.rules.specs.Model.{firstFault, rampFault, modelFault}
-use Rattle.line_faults.specs.Arguments.{aloneFault}
+use Rattle.rules.specs.Model.{firstFlaw, rampFlaw, modelFlaw}
 use Rattle.line_faults.specs.Places.{firstAt, valueAt, rampAt}
 
 -- ---- the first lines: from the fourth place on, and by name
@@ -37,13 +37,13 @@ past-parts n h =
     rw (le-ltb n 8 h, ne-eqb n 3 (omega arith), ne-eqb n 4 (omega arith), ne-eqb n 5 (omega arith), ne-eqb n 6 (omega arith), ne-eqb n 7 (omega arith))
 
 -- the words' places before them, then these, then the others
-abbrev byPlace : Bool → ℕ → (a b c d e : ℕ) → ℕ
+abbrev byPlace : Bool → ℕ → (a b c d e : Flaw) → Flaw
 byPlace part n a b c d e = cond (eqb n 0) a (cond (eqb n 1) b (cond (eqb n 2) c (cond part d e)))
 
-past-place : (n : ℕ) → 8 ≤ n → (a b c d e : ℕ) → byPlace (ltb n 8) n a b c d e ≡ byPlace (isPart n) n a b c d e
+past-place : (n : ℕ) → 8 ≤ n → (a b c d e : Flaw) → byPlace (ltb n 8) n a b c d e ≡ byPlace (isPart n) n a b c d e
 past-place n h a b c d e = ap (λ (part : Bool). byPlace part n a b c d e) (past-parts n h)
 
-by-place : (n a b c d e : ℕ) → byPlace (ltb n 8) n a b c d e ≡ byPlace (isPart n) n a b c d e
+by-place : (n : ℕ) (a b c d e : Flaw) → byPlace (ltb n 8) n a b c d e ≡ byPlace (isPart n) n a b c d e
 by-place zero a b c d e = refl
 by-place (suc zero) a b c d e = refl
 by-place (suc (suc zero)) a b c d e = refl
@@ -72,8 +72,8 @@ module _ (n : ℕ) (w : List ℕ) (e : lineAt modelLines w ≡ At n) where
       (ap₂ _||_ (named-at modelLines "C_comp_power_clamp" w n 6 e (part-places .3))
       (ap₂ _||_ (named-at modelLines "C_comp_gnd_clamp" w n 7 e (part-places .4)) refl))))
 
-  pub first-named : firstAt n w ≡ firstFault w
-  unfolding firstAt valueAt firstFault placeFrom words grown ontoWord isBlank eqs
+  pub first-named : firstAt n w ≡ firstFlaw w
+  unfolding firstAt valueAt firstFlaw placeFrom words grown ontoWord isBlank eqs
   first-named =
       by-place n _ _ _ _ _
       ∙ rw (
@@ -85,13 +85,13 @@ module _ (n : ℕ) (w : List ℕ) (e : lineAt modelLines w ≡ At n) where
 
 -- ---- a ramp's lines
 
-pub ramp-named : (n : ℕ) (w : List ℕ) → lineAt rampLines w ≡ At n → rampAt n w ≡ rampFault w
-unfolding rampAt rampFault placeFrom words grown ontoWord isBlank eqs
+pub ramp-named : (n : ℕ) (w : List ℕ) → lineAt rampLines w ≡ At n → rampAt n w ≡ rampFlaw w
+unfolding rampAt rampFlaw placeFrom words grown ontoWord isBlank eqs
 ramp-named n w e = rw (named-at rampLines "R_load" w n 2 e refl)
 
 -- ---- the keywords of the current tables, which take no argument
 
-pub current-alone : (argument : List ℕ) (t : CurrentTable) → aloneFault argument ≡ modelFault argument (Current t)
+pub current-alone : (argument : List ℕ) (t : CurrentTable) → noArgument argument ≡ modelFlaw argument (Current t)
 current-alone argument Pulldown = refl
 current-alone argument Pullup = refl
 current-alone argument GndClamp = refl

@@ -1,3 +1,2 @@
 -- Small definitions for this crate's own functions.
-pub mod Arguments
 pub mod Places

@@ -1,100 +1,101 @@
 // What is wrong with what stands on a line: the faults of named lines and of keywords' arguments.
 ghost use mathlib.Core.Path.{_≡_};
-ghost use Rattle.laws.specs.Said.{faultIn};
-ghost use Rattle.line_rules.specs.Fields.{wordLine, cellsLine, slopesLine};
+ghost use Prim.Native.Nat.{_≤_};
+ghost use lib.ListN.{length, drop};
+ghost use Rattle.records.specs.Flaws.{flawIn, told, toldIn};
+ghost use Rattle.line_rules.specs.Fields.{wordLine, cellsLine, slopesLine, numberLine, threeCells, heading};
 ghost use Rattle.line_rules.specs.Answers.{tripleRead, rampRead};
 ghost use Rattle.line_rules.specs.Tables.{locations, modelTypes, polarities, enables};
-ghost use Rattle.rules.specs.Component.{componentFault};
-ghost use Rattle.line_faults.specs.Arguments.{aloneFault};
+ghost use Rattle.rules.specs.Component.{componentFlaw};
 ghost use Rattle.line_faults.specs.Places.{firstAt, valueAt, rampAt};
-ghost use Rattle.rules.specs.Model.{modelFault};
+ghost use Rattle.rules.specs.Model.{modelFlaw};
 use keywords::ComponentPart;
 use keywords::ModelPart;
 use line_cells::HeadingRead;
 use line_rules::RampRead;
 use line_rules::TripleRead;
-use named_lines::LocationRead;
-use named_lines::TypeRead;
-use records::Enable;
-use records::Polarity;
+use name_table::NameList;
+use records::LineFault;
 
 // ---- three cells or slopes behind a name
 
 pub fn cells_line(w: &[u8]) -> TripleRead
-    ensures { λ r. ⌜ r ≡ tripleRead (cellsLine (now (w .entry))) ⌝ }
+    ensures { λ r. ⌜ r ≡ tripleRead (toldIn (now (w .entry)) (cellsLine (now (w .entry)))) ⌝ }
 {
-    if !named_lines::name_alone(w) {
-        return TripleRead::Flawed(10);
+    let name = named_lines::name_of(w);
+    let end = name.end;
+    if named_lines::equals_at(w, end) {
+        return TripleRead::Flawed(records::at_fault(10, end));
     }
-    let name = named_lines::first_word(w);
-    line_cells::three_cells(w, name.end)
+    line_cells::three_cells(w, end)
 }
 
 pub fn slopes_line(w: &[u8]) -> RampRead
-    ensures { λ r. ⌜ r ≡ rampRead (slopesLine (now (w .entry))) ⌝ }
+    ensures { λ r. ⌜ r ≡ rampRead (toldIn (now (w .entry)) (slopesLine (now (w .entry)))) ⌝ }
 {
-    if !named_lines::name_alone(w) {
-        return RampRead::Refused(10);
+    let name = named_lines::name_of(w);
+    let end = name.end;
+    if named_lines::equals_at(w, end) {
+        return RampRead::Refused(records::at_fault(10, end));
     }
-    let name = named_lines::first_word(w);
-    line_cells::three_slopes(w, name.end)
+    line_cells::three_slopes(w, end)
 }
 
 // ---- a word behind a name
 
-pub fn location_fault(w: &[u8]) -> u8
-    ensures { λ r. ⌜ r ≡ faultIn (wordLine locations (now (w .entry))) ⌝ }
+pub fn location_fault(w: &[u8]) -> LineFault
+    ensures { λ r. ⌜ r ≡ told (now (w .entry)) (flawIn (wordLine locations (now (w .entry)))) ⌝ }
 {
-    match named_lines::location_of(w) {
-        LocationRead::Located(_) => 0,
-        LocationRead::NoLocation => 10,
-    }
+    named_lines::word_line_fault(w, NameList::Locations)
 }
 
-fn type_fault(w: &[u8]) -> u8
-    ensures { λ r. ⌜ r ≡ faultIn (wordLine modelTypes (now (w .entry))) ⌝ }
+fn type_fault(w: &[u8]) -> LineFault
+    ensures { λ r. ⌜ r ≡ told (now (w .entry)) (flawIn (wordLine modelTypes (now (w .entry)))) ⌝ }
 {
-    match named_lines::type_of(w) {
-        TypeRead::OfType(_) => 0,
-        TypeRead::NoType => 10,
-    }
+    named_lines::word_line_fault(w, NameList::ModelTypes)
 }
 
-fn polarity_fault(w: &[u8]) -> u8
-    ensures { λ r. ⌜ r ≡ faultIn (wordLine polarities (now (w .entry))) ⌝ }
+fn polarity_fault(w: &[u8]) -> LineFault
+    ensures { λ r. ⌜ r ≡ told (now (w .entry)) (flawIn (wordLine polarities (now (w .entry)))) ⌝ }
 {
-    match named_lines::polarity_of(w) {
-        Polarity::NoPolarity => 10,
-        Polarity::Inverting => 0,
-        Polarity::NonInverting => 0,
-    }
+    named_lines::word_line_fault(w, NameList::Polarities)
 }
 
-fn enable_fault(w: &[u8]) -> u8
-    ensures { λ r. ⌜ r ≡ faultIn (wordLine enables (now (w .entry))) ⌝ }
+fn enable_fault(w: &[u8]) -> LineFault
+    ensures { λ r. ⌜ r ≡ told (now (w .entry)) (flawIn (wordLine enables (now (w .entry)))) ⌝ }
 {
-    match named_lines::enable_of(w) {
-        Enable::NoEnable => 10,
-        Enable::ActiveHigh => 0,
-        Enable::ActiveLow => 0,
-    }
+    named_lines::word_line_fault(w, NameList::Enables)
 }
 
 // ---- a model's lines
 
-// C_comp and its four parts have three cells, the lines behind them `=` and a number.
-fn value_fault(n: usize, w: &[u8]) -> u8
-    ensures { λ r. ⌜ r ≡ valueAt n (now (w .entry)) ⌝ }
+// `=` and a number behind the name.
+pub fn number_fault(w: &[u8]) -> LineFault
+    ensures { λ r. ⌜ r ≡ told (now (w .entry)) (flawIn (numberLine (now (w .entry)))) ⌝ }
 {
-    if n < 8 {
-        return line_cells::triple_fault(cells_line(w));
-    }
     line_cells::cell_fault(named_lines::number_line(w))
 }
 
+// Three cells behind the name.
+pub fn cells_fault(w: &[u8]) -> LineFault
+    ensures { λ r. ⌜ r ≡ told (now (w .entry)) (flawIn (cellsLine (now (w .entry)))) ⌝ }
+{
+    line_cells::triple_fault(cells_line(w))
+}
+
+// C_comp and its four parts have three cells, the lines behind them `=` and a number.
+fn value_fault(n: usize, w: &[u8]) -> LineFault
+    ensures { λ r. ⌜ r ≡ told (now (w .entry)) (valueAt n (now (w .entry))) ⌝ }
+{
+    if n < 8 {
+        return cells_fault(w);
+    }
+    number_fault(w)
+}
+
 // The line at place n of a model's first lines.
-pub fn first_fault(n: usize, w: &[u8]) -> u8
-    ensures { λ r. ⌜ r ≡ firstAt n (now (w .entry)) ⌝ }
+pub fn first_fault(n: usize, w: &[u8]) -> LineFault
+    ensures { λ r. ⌜ r ≡ told (now (w .entry)) (firstAt n (now (w .entry))) ⌝ }
 {
     match n {
         0 => type_fault(w),
@@ -105,55 +106,56 @@ pub fn first_fault(n: usize, w: &[u8]) -> u8
 }
 
 // The line at place n of a ramp's.
-pub fn ramp_line_fault(n: usize, w: &[u8]) -> u8
-    ensures { λ r. ⌜ r ≡ rampAt n (now (w .entry)) ⌝ }
+pub fn ramp_line_fault(n: usize, w: &[u8]) -> LineFault
+    ensures { λ r. ⌜ r ≡ told (now (w .entry)) (rampAt n (now (w .entry))) ⌝ }
 {
     if n == 2 {
-        return line_cells::cell_fault(named_lines::number_line(w));
+        return number_fault(w);
     }
     line_cells::ramp_fault(slopes_line(w))
 }
 
-// ---- keywords' arguments
+// ---- keywords' arguments, which begin at a place
 
-// A keyword that takes no argument has none.
-fn alone_fault(argument: &[u8]) -> u8
-    ensures { λ r. ⌜ r ≡ aloneFault (now (argument .entry)) ⌝ }
+fn cells_argument(w: &[u8], at: usize) -> LineFault
+    requires { ⌜ at ≤ length (now w) ⌝ }
+    ensures { λ r. ⌜ r ≡ told (now (w .entry)) (flawIn (threeCells (drop at (now (w .entry))))) ⌝ }
 {
-    if argument.len() == 0 { 0 } else { 10 }
+    line_cells::triple_fault(line_cells::three_cells(w, at))
 }
 
-pub fn model_fault(argument: &[u8], p: ModelPart) -> u8
-    ensures { λ r. ⌜ r ≡ modelFault (now (argument .entry)) p ⌝ }
+pub fn model_fault(w: &[u8], at: usize, p: ModelPart) -> LineFault
+    requires { ⌜ at ≤ length (now w) ⌝ }
+    ensures { λ r. ⌜ r ≡ told (now (w .entry)) (modelFlaw (drop at (now (w .entry))) p) ⌝ }
 {
     match p {
-        ModelPart::VoltageRange => line_cells::triple_fault(line_cells::three_cells(argument, 0)),
-        ModelPart::TemperatureRange => line_cells::triple_fault(line_cells::three_cells(
-            argument,
-            0,
-        )),
-        ModelPart::Current(_) => alone_fault(argument),
-        ModelPart::Ramp => alone_fault(argument),
-        ModelPart::Waveform(_) => alone_fault(argument),
+        ModelPart::VoltageRange => cells_argument(w, at),
+        ModelPart::TemperatureRange => cells_argument(w, at),
+        ModelPart::Current(_) => named_lines::surplus_fault(w, at),
+        ModelPart::Ramp => named_lines::surplus_fault(w, at),
+        ModelPart::Waveform(_) => named_lines::surplus_fault(w, at),
     }
 }
 
-pub fn component_fault(argument: &[u8], p: ComponentPart) -> u8
-    ensures { λ r. ⌜ r ≡ componentFault (now (argument .entry)) p ⌝ }
+// The heading of the pins.
+fn heading_fault(w: &[u8], at: usize) -> LineFault
+    requires { ⌜ at ≤ length (now w) ⌝ }
+    ensures { λ r. ⌜ r ≡ told (now (w .entry)) (flawIn (heading (drop at (now (w .entry))))) ⌝ }
+{
+    match line_cells::heading_of(w, at) {
+        HeadingRead::Short => records::bare_fault(0),
+        HeadingRead::Long => records::bare_fault(0),
+        HeadingRead::NoHeading(fault) => fault,
+    }
+}
+
+pub fn component_fault(w: &[u8], at: usize, p: ComponentPart) -> LineFault
+    requires { ⌜ at ≤ length (now w) ⌝ }
+    ensures { λ r. ⌜ r ≡ told (now (w .entry)) (componentFlaw (drop at (now (w .entry))) p) ⌝ }
 {
     match p {
-        ComponentPart::Manufacturer => {
-            if named_lines::sized(argument, 40) {
-                0
-            } else {
-                10
-            }
-        }
-        ComponentPart::Package => alone_fault(argument),
-        ComponentPart::Pin => match line_cells::heading_of(argument) {
-            HeadingRead::Short => 0,
-            HeadingRead::Long => 0,
-            HeadingRead::NoHeading => 10,
-        },
+        ComponentPart::Manufacturer => named_lines::sized_fault(w, at, 40),
+        ComponentPart::Package => named_lines::surplus_fault(w, at),
+        ComponentPart::Pin => heading_fault(w, at),
     }
 }

@@ -3,3 +3,6 @@ pub mod Sanity
 pub mod Answers
 pub mod Places
 pub mod Says
+pub mod Columns
+pub mod Told
+pub mod Alike

@@ -8,10 +8,11 @@ use lib.Dec.{eqb}
 use borrow.Author.Tests.{eq-eqb, ne-eqb}
 use Rattle.laws.specs.Bytes.{bytes}
 use Rattle.laws.specs.Lists.{eqs}
-use Rattle.laws.specs.Said.{Said, says, fault, orElse}
-use Rattle.laws.proofs.Tests.{by-test, cond-same, never, impossible}
+use Rattle.laws.specs.Said.{says, orElse}
+use Rattle.laws.proofs.Tests.{by-test, never, impossible}
 use Rattle.laws.proofs.Same.{eqs-refl, eqs-eq}
 use Rattle.words.specs.Words.{words}
+use Rattle.records.specs.Flaws.{Reads}
 use Rattle.name_table.specs.Names.{placeFrom}
 use Rattle.name_table.specs.declared.Found.the-variants.{At, Nothing}
 use Rattle.name_table.proofs.Laws.{stands-at}
@@ -53,7 +54,7 @@ named-nothing table name w j e f =
 
 -- ---- what a line says at its place
 
-module _ {A : Type 0} (name : String) (read : List ℕ → Said A) (x : A) (w : List ℕ) where
+module _ {A : Type 0} (name : String) (read : List ℕ → Reads A) (x : A) (w : List ℕ) where
   pub takes-at : {v : A} (table : String) (k j : ℕ) → lineAt table w ≡ At k → placeFrom 0 (bytes name) (words (bytes table)) ≡ At j → read w ≡ says v
       → takes name read x w ≡ cond (eqb k j) v x
   unfolding takes
@@ -65,16 +66,12 @@ module _ {A : Type 0} (name : String) (read : List ℕ → Said A) (x : A) (w : 
   unfolding takes
   takes-place table k j e f = rw (named-at table name w k j e f)
 
-  -- a line without a place, or with a fault, changes nothing
+  -- a line without a place changes nothing
   pub takes-nothing : (table : String) (j : ℕ) → lineAt table w ≡ Nothing → placeFrom 0 (bytes name) (words (bytes table)) ≡ At j → takes name read x w ≡ x
   unfolding takes
   takes-nothing table j e f = rw (named-nothing table name w j e f)
 
-  pub takes-fault : (n : ℕ) → read w ≡ fault n → takes name read x w ≡ x
-  unfolding takes
-  takes-fault n q = rw q (sym (cond-same (isNamed name w) x))
-
-pub says-append : {A : Type 0} (name : String) (read : List ℕ → Said A) (x : A) (ls ks : List (List ℕ))
+pub says-append : {A : Type 0} (name : String) (read : List ℕ → Reads A) (x : A) (ls ks : List (List ℕ))
     → lineSays name read x (ls ++ ks) ≡ lineSays name read (lineSays name read x ls) ks
 unfolding lineSays
 says-append name read x [] ks = refl

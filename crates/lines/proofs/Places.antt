@@ -51,11 +51,11 @@ unfolding faultFrom
 fault-good k l ls h = cond-yes _ _ (eq-eqb (lineFault l) 0 h)
 
 fault-bad : (k n : ℕ) (l : Physical) (ls : List Physical) → lineFault l ≡ n → (n ≡ 0 → ⊥)
-    → faultFrom k (l ∷ ls) ≡ Faulty (record { number = n; line = k })
+    → faultFrom k (l ∷ ls) ≡ Faulty (record { number = n; line = k; column = 0 })
 unfolding faultFrom
 fault-bad k n l ls h j =
     cond-no _ _ (ne-eqb (lineFault l) 0 (λ e. j (sym h ∙ e)))
-    ∙ ap (λ (m : ℕ). Faulty (record { number = m; line = k })) h
+    ∙ ap (λ (m : ℕ). Faulty (record { number = m; line = k; column = 0 })) h
 
 fault-2 : (f : List ℕ) (b : ℕ) (l : List ℕ) (e : Bool) → isAllowed b ≡ false → lineFault (record { bytes = f ++ b ∷ l; ended = e }) ≡ 2
 unfolding lineFault
@@ -75,7 +75,7 @@ fault-0 f h k = rw (h, le-leb (length f) 120 k)
 
 -- some line begins with the byte
 onto-cons : (k n b : ℕ) (f : List ℕ) (ls : List Physical) → isAllowed b ≡ false
-    → faultFrom k (ontoAll f (ontoLine b ls)) ≡ Faulty (record { number = 2; line = k })
+    → faultFrom k (ontoAll f (ontoLine b ls)) ≡ Faulty (record { number = 2; line = k; column = 0 })
 unfolding ontoLine
 onto-cons k n b f [] h =
     ap (faultFrom k) (onto-line f _ []) ∙ fault-bad k 2 _ _ (fault-2 f b [] false h) (omega arith)
@@ -100,7 +100,7 @@ module _ (s : List ℕ) (at end : ℕ) (stop : end ≡ at + length (front isAllo
 
   -- a byte that is neither allowed nor part of a line's end
   pub forbidden : (k : ℕ) → end < length s → breakOf (drop end s) ≡ 0
-      → faultFrom k (linesOf (drop at s)) ≡ Faulty (record { number = 2; line = k })
+      → faultFrom k (linesOf (drop at s)) ≡ Faulty (record { number = 2; line = k; column = 0 })
   forbidden k h e =
       let here = from-cons s end 0 h in
       let none = break-none (getD s end 0) (drop (end + 1) s) (ap breakOf (sym here) ∙ e) in
@@ -119,11 +119,11 @@ module _ (s : List ℕ) (at end : ℕ) (stop : end ≡ at + length (front isAllo
     unfolding linesOf
     unended = lines-passed ∙ ap (λ (l : List ℕ). ontoAll passed (linesOf l)) (drop-of-length-le s all-read) ∙ onto-last passed (omega (arith, passed-length))
 
-    pub long-unended : (k : ℕ) → 120 < end - at → faultFrom k (linesOf (drop at s)) ≡ Faulty (record { number = 3; line = k })
+    pub long-unended : (k : ℕ) → 120 < end - at → faultFrom k (linesOf (drop at s)) ≡ Faulty (record { number = 3; line = k; column = 0 })
     long-unended k h =
         ap (faultFrom k) unended ∙ fault-bad k 3 _ _ (fault-3 passed false all-passed (omega (arith, passed-length))) (omega arith)
 
-    pub short-unended : (k : ℕ) → end - at ≤ 120 → faultFrom k (linesOf (drop at s)) ≡ Faulty (record { number = 4; line = k })
+    pub short-unended : (k : ℕ) → end - at ≤ 120 → faultFrom k (linesOf (drop at s)) ≡ Faulty (record { number = 4; line = k; column = 0 })
     short-unended k h =
         ap (faultFrom k) unended ∙ fault-bad k 4 _ _ (fault-4 passed all-passed (omega (arith, passed-length))) (omega arith)
 
@@ -137,7 +137,7 @@ module _ (s : List ℕ) (at end : ℕ) (stop : end ≡ at + length (front isAllo
         ∙ ap (λ (l : List ℕ). record { bytes = passed; ended = true } ∷ linesOf l) (drop-drop (breakOf (drop end s)) end s)
         ∙ ap (λ (m : ℕ). record { bytes = passed; ended = true } ∷ linesOf (drop (end + m) s)) (sym breaks)
 
-    pub long-ended : (k : ℕ) → 120 < end - at → faultFrom k (linesOf (drop at s)) ≡ Faulty (record { number = 3; line = k })
+    pub long-ended : (k : ℕ) → 120 < end - at → faultFrom k (linesOf (drop at s)) ≡ Faulty (record { number = 3; line = k; column = 0 })
     long-ended k h =
         ap (faultFrom k) ended ∙ fault-bad k 3 _ _ (fault-3 passed true all-passed (omega (arith, passed-length))) (omega arith)
 

@@ -49,11 +49,11 @@ lineFault l =
 unfoldable pub faultFrom : ℕ → List Physical → Bytes
 faultFrom k [] = Clean
 faultFrom k (l ∷ ls) =
-    cond (eqb (lineFault l) 0) (faultFrom (k + 1) ls) (Faulty (record { number = lineFault l; line = k }))
+    cond (eqb (lineFault l) 0) (faultFrom (k + 1) ls) (Faulty (record { number = lineFault l; line = k; column = 0 }))
 
 -- 1 over 65,536 bytes, told at line 0; then 2, 3, 4 over all lines
 unfoldable pub bytesFault : List ℕ → Bytes
-bytesFault s = cond (leb (length s) 65536) (faultFrom 1 (linesOf s)) (Faulty (record { number = 1; line = 0 }))
+bytesFault s = cond (leb (length s) 65536) (faultFrom 1 (linesOf s)) (Faulty (record { number = 1; line = 0; column = 0 }))
 
 -- ---- cutting
 

@@ -22,7 +22,7 @@ GoesOn p s at i = i + length (front p (drop i s)) ≡ at + length (front p (drop
 -- what the faults from here on are, once the line here is looked at
 abbrev pub checked : List ℕ → ℕ → LineCheck → Bytes
 checked s k (Next n) = faultFrom (k + 1) (linesOf (drop n s))
-checked s k (Wrong f) = Faulty (record { number = f; line = k })
+checked s k (Wrong f) = Faulty (record { number = f; line = k; column = 0 })
 
 abbrev pub Goes : List ℕ → ℕ → LineCheck → Type 0
 Goes s at (Next n) = (at < n) × (n ≤ length s)

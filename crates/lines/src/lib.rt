@@ -175,7 +175,11 @@ pub fn check_bytes(s: &[u8]) -> Bytes
     ensures { λ r. ⌜ r ≡ bytesFault (now (s .entry)) ⌝ }
 {
     if FILE < s.len() {
-        return Bytes::Faulty(Fault { number: 1, line: 0 });
+        return Bytes::Faulty(Fault {
+            number: 1,
+            line: 0,
+            column: 0,
+        });
     }
     let mut at = 0;
     let mut line: u64 = 1;
@@ -189,6 +193,7 @@ pub fn check_bytes(s: &[u8]) -> Bytes
                 return Bytes::Faulty(Fault {
                     number: number,
                     line: line,
+                    column: 0,
                 });
             }
         }

@@ -8,8 +8,9 @@ use native.Mathlib.Omega.{arith}
 use borrow.Author.Tests.{not-true}
 use Rattle.laws.specs.Lists.{front, after, part}
 use Rattle.laws.proofs.Tests.{by-test, cond-yes, cond-no, cond-map}
-use Rattle.laws.proofs.Lists.{part-length, part-rest, part-from}
+use Rattle.laws.proofs.Lists.{part-length, part-from}
 use Rattle.laws.specs.Said.{Said}
+use Rattle.records.specs.declared.LineFault.{LineFault}
 use Rattle.keywords.specs.Carried.{keyOf}
 use Rattle.keywords.specs.Answers.{keywordSays, keyRead}
 use Rattle.keywords.specs.declared.Keyword.{Keyword}
@@ -22,14 +23,14 @@ use Rattle.line_rules.specs.Fields.{isBracketed}
 use Rattle.rules.specs.Reading.{under, isWithin}
 use Rattle.rules.specs.Keys.{keyIn, keyAt, isEnd}
 use Rattle.rules.proofs.Keys.{within-key}
-use Rattle.keywords.proofs.Arguments.{key-within, key-argument}
+use Rattle.keywords.proofs.Arguments.{key-argument}
 use Rattle.keywords.proofs.Spelling.{key-said}
 use Rattle.lines_under.specs.Under.{isLine, textRead, isSome, isKeyless, LineIs, StopsAt, NoLineIs, KeyIs}
 
 -- ---- the lines under a keyword, by the first text
 
 module _ {ts us : List Text} (k : ℕ) where
-  pub under-change : (f : ℕ) → ts ≡ change k f ∷ us → (under ts ≡ under us) × (after isLine ts ≡ after isLine us)
+  pub under-change : (f : LineFault) → ts ≡ change k f ∷ us → (under ts ≡ under us) × (after isLine ts ≡ after isLine us)
   unfolding under after
   under-change f e = (rw e, rw e)
 
@@ -103,7 +104,7 @@ pub record Passed (s : List ℕ) (c d : Cursor) : Type 0 where
   pub lines : under (rest s c) ≡ under (rest s d)
 
 module _ {s : List ℕ} {c d : Cursor} (p : Passed s c d) where
-  pub passed-change : {k f : ℕ} {n : Cursor} → ChangeIs s d k f n → Passed s c n
+  pub passed-change : {k : ℕ} {f : LineFault} {n : Cursor} → ChangeIs s d k f n → Passed s c n
   passed-change {k} {f} t =
       let u = under-change k f (t .more) in
       record {
@@ -141,7 +142,7 @@ pub record Sought (s : List ℕ) (c d : Cursor) : Type 0 where
   pub rises : c .at ≤ d .at
 
 module _ {s : List ℕ} {c d : Cursor} (p : Sought s c d) where
-  pub sought-change : {k f : ℕ} {n : Cursor} → ChangeIs s d k f n → Sought s c n
+  pub sought-change : {k : ℕ} {f : LineFault} {n : Cursor} → ChangeIs s d k f n → Sought s c n
   sought-change {k} {f} t =
       record { keys = p .keys ∙ key-skip (change k f) (t .more) refl; placed = t .goes .placed; rises = omega (arith, p .rises, t .goes .rises) }
 
@@ -153,7 +154,7 @@ module _ {s : List ℕ} {c d : Cursor} (p : Sought s c d) where
   module _ {k a e : ℕ} {n : Cursor} (t : TextIs s d k a e n) {key : Keyword} {at : ℕ} (h : textRead (part a e s) ≡ Known key at) where
     pub sought-within : a + at ≤ e
     sought-within =
-        omega (arith, key-within (part a e s) (key-known (part a e s) key at h), part-length s a e (t .fits), t .starts)
+        omega (arith, key-argument (part a e s) (key-known (part a e s) key at h) .within, part-length s a e (t .fits), t .starts)
 
     pub sought-found : KeyIs s c key (a + at) e n
     sought-found =
@@ -161,7 +162,7 @@ module _ {s : List ℕ} {c d : Cursor} (p : Sought s c d) where
           text = plain k (part a e s);
           more = p .keys ∙ key-stop (plain k (part a e s)) (t .more) key (key-at k (part a e s) (Known key at) h);
           key = key-at k (part a e s) (Known key at) h;
-          said = sym (key-argument (part a e s) (key-known (part a e s) key at h)) ∙ part-rest (part a e s) at ∙ part-from s a e at;
+          said = sym (key-argument (part a e s) (key-known (part a e s) key at h) .text) ∙ part-from s a e at;
           placed = t .goes .placed;
           rises = omega (arith, p .rises, t .goes .rises);
           starts = sought-within;
@@ -179,7 +180,7 @@ none-is (some k) h = let z : _≡_ {A = ℕ} 0 1 = cc in absurd (omega arith)
 
 line-keyless : (t : Text) → isLine t ≡ true → isKeyless t ≡ true
 line-keyless (plain k w) h = ap (λ (b : Bool). not (isSome (cond b (keyIn (keyOf w)) none))) (not-true (isBracketed w) h)
-line-keyless (change k n) h = refl
+line-keyless (change k f) h = refl
 
 keyless-none : (t : Text) → isKeyless t ≡ true → keyAt t ≡ none
 keyless-none t h = none-is (keyAt t) h
@@ -204,7 +205,7 @@ under-within (plain k w ∷ ts) =
     by-test (isBracketed w)
     (λ h. by-test (isWithin (plain k w)) (λ i. rw (i, h)) (λ i. rw (i, h)))
     (λ h. rw (keyless-within (plain k w) (line-keyless (plain k w) (ap not h)), h) (ap (λ (ls : List (List ℕ)). w ∷ ls) (under-within ts)))
-under-within (change k n ∷ ts) = rw (keyless-within (change k n) refl) (under-within ts)
+under-within (change k f ∷ ts) = rw (keyless-within (change k f) refl) (under-within ts)
 
 -- ---- what looks at keywords alone
 

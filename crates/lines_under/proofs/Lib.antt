@@ -2,3 +2,4 @@
 pub mod Laws
 pub mod Folds
 pub mod Keyed
+pub mod Told

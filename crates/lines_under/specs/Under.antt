@@ -27,7 +27,7 @@ use Rattle.lines_under.specs.declared.Lines.{Lines}
 -- a text that is no keyword line
 abbrev pub isLine : Text → Bool
 isLine (plain k w) = not (isBracketed w)
-isLine (change k n) = true
+isLine (change k f) = true
 
 pub record LineIs (s : List ℕ) (c : Cursor) (a e : ℕ) (n : Cursor) : Type 0 where
   pub more : under (rest s c) ≡ part a e s ∷ under (rest s n)

@@ -9,14 +9,21 @@ use borrow.Author.Tests.{eq-eqb, ne-eqb}
 use Rattle.laws.specs.Bytes.{isBlank}
 use Rattle.laws.specs.Lists.{eqs}
 use Rattle.laws.proofs.Tests.{cond-yes}
-use Rattle.laws.specs.Said.{Said, says, fault, faultIn, orElse}
+use Rattle.laws.specs.Said.{Result, says, fault, orElse, readOn}
 use Rattle.words.specs.Words.{words, grown, ontoWord}
 use Rattle.name_table.specs.Names.{placeFrom}
 use Rattle.name_table.specs.declared.Found.the-variants.{At, Nothing}
 use Rattle.line_rules.specs.Fields.{lineAt, wordLine, cellsLine, groupLine, numberLine, lineSays}
+use Rattle.line_rules.specs.Answers.{tripleRead, tripleSays}
+use Rattle.line_rules.specs.declared.TripleRead.{TripleRead}
 use Rattle.line_rules.specs.Tables.{modelLines, modelTypes, polarities, enables}
 use Rattle.rules.specs.Reading.{splitSays}
 use Rattle.line_rules.proofs.Places.{takes-place, takes-nothing}
+use Rattle.line_rules.proofs.Answers.{triple-said}
+use Rattle.line_rules.proofs.Says.{Says}
+use Rattle.records.specs.Flaws.{Reads, toldIn}
+use Rattle.records.proofs.Columns.{told-else, told-on}
+use Rattle.records.specs.declared.LineFault.{LineFault}
 use Rattle.records.specs.declared.Triple.{Triple}
 use Rattle.records.specs.declared.Range.{Range}
 use Rattle.records.specs.declared.Split.{Split}
@@ -32,8 +39,19 @@ first-fold = record { none = λ f. refl; more = λ f w ws. refl }
 
 -- ---- the capacitance by structure
 
-abbrev pub present : Triple → Said Range
+abbrev pub present : {F : Type 0} → Triple → Result F Range
 present c = says (record { given = true; cells = c })
+
+-- what the code answers of a line's cells says them
+pub cells-said : (w : List ℕ) (before : Triple) (r : TripleRead) → r ≡ tripleRead (toldIn w (cellsLine w)) → orElse before (tripleSays r) ≡ orElse before (cellsLine w)
+cells-said w before r e = ap (orElse before) (triple-said r (toldIn w (cellsLine w)) e) ∙ told-else w before (cellsLine w)
+
+pub group-said : (w : List ℕ) (before : Range) (r : TripleRead) → r ≡ tripleRead (toldIn w (cellsLine w)) → orElse before (readOn (tripleSays r) present) ≡ orElse before (groupLine w)
+unfolding groupLine
+group-said w before r e =
+    ap (λ (x : Result LineFault Triple). orElse before (readOn x present)) (triple-said r (toldIn w (cellsLine w)) e)
+    ∙ ap (orElse before) (sym (told-on w (cellsLine w) present))
+    ∙ told-else w before (groupLine w)
 
 split-place : (s : Split) (w : List ℕ) (n : ℕ) → lineAt modelLines w ≡ At n → splitLine s w ≡ splitAt n s w
 unfolding placeFrom words grown ontoWord isBlank eqs
@@ -150,19 +168,19 @@ module _ (m : Marks) (t : Triple) (s : Split) (l : Levels) (w : List ℕ) where
     line-levels h i =
         sym (by-place ∙ (λ j. linesOver (marks-off (above 0 3 (omega (arith, h))) j) (comp-off (above 3 4 (omega (arith, h))) j) (split-off (above 4 8 h) j) (sym i j)))
 
--- ---- of a word whose absence is a value of its own: told is its fault
+-- ---- of a word whose absence is a value of its own, which no word says
 
-module _ {A : Type 0} (told : A → ℕ) (absent before : A) (miss : told absent ≡ 10) (x : Said A) {read : A} (e : read ≡ orElse absent x) where
-  word-given : (v : A) (y : Said A) → v ≡ orElse absent y → told v ≡ 0 → v ≡ orElse before y
-  word-given v (says a) q hit = q
-  word-given v (fault n) q hit = absurd (omega (arith, miss, hit, ap told q))
+module _ {A : Type 0} (absent before : A) (x : Reads A) (given : Says (λ (a : A). a ≡ absent → ⊥) x) {read : A} (e : read ≡ orElse absent x) where
+  word-given : (v : A) (y : Reads A) → v ≡ orElse absent y → (v ≡ absent → ⊥) → v ≡ orElse before y
+  word-given v (says a) q there = q
+  word-given v (fault f) q there = absurd (there q)
 
-  word-missed : (y : Said A) → faultIn y ≡ 10 → before ≡ orElse before y
-  word-missed (says a) q = absurd (omega (arith, q))
-  word-missed (fault n) q = refl
+  word-missed : (y : Reads A) → Says (λ (a : A). a ≡ absent → ⊥) y → absent ≡ orElse absent y → before ≡ orElse before y
+  word-missed (says a) there q = absurd (there (sym q))
+  word-missed (fault f) there q = refl
 
-  pub word-some : {v : A} → read ≡ v → told v ≡ 0 → v ≡ orElse before x
-  word-some {v} q hit = word-given v x (sym q ∙ e) hit
+  pub word-some : {v : A} → read ≡ v → (v ≡ absent → ⊥) → v ≡ orElse before x
+  word-some {v} q there = word-given v x (sym q ∙ e) there
 
-  pub word-none : read ≡ absent → faultIn x ≡ told (orElse absent x) → before ≡ orElse before x
-  word-none q f = word-missed x (f ∙ ap told (sym e ∙ q) ∙ miss)
+  pub word-none : read ≡ absent → before ≡ orElse before x
+  word-none q = word-missed x given (sym q ∙ e)

@@ -1,6 +1,6 @@
 -- A ramp's lines as a fold over the lines; a line without a place; and a line at a place, which changes its own part.
 use Prim.Native.Nat.{ℕ, _≤_, _<_}
-use mathlib.Core.Path.{_≡_, refl, sym, _∙_}
+use mathlib.Core.Path.{_≡_, refl, sym, ap, _∙_}
 use mathlib.Core.List.{List, []}
 use mathlib.Core.Bool.{false, cond}
 use lib.Dec.{eqb}
@@ -16,8 +16,13 @@ use Rattle.name_table.specs.Names.{placeFrom}
 use Rattle.name_table.specs.declared.Found.the-variants.{At, Nothing}
 use Rattle.line_rules.specs.Fields.{lineAt, slopesLine, numberLine, lineSays}
 use Rattle.line_rules.specs.Tables.{rampLines}
+use Rattle.line_rules.specs.Answers.{rampRead, rampSays}
+use Rattle.line_rules.specs.declared.RampRead.{RampRead}
 use Rattle.line_rules.proofs.Places.{takes-place, takes-nothing}
+use Rattle.line_rules.proofs.Answers.{ramp-said}
 use Rattle.rules.specs.Reading.{numberSaid, rampIn}
+use Rattle.records.specs.Flaws.{toldIn}
+use Rattle.records.proofs.Columns.{told-else}
 use Rattle.records.specs.declared.RampTable.{RampTable}
 use Rattle.records.specs.declared.RampTriple.{RampTriple}
 use Rattle.lines_under.proofs.Folds.{Folds}
@@ -30,6 +35,10 @@ ramp-fold = record { none = λ r. refl; more = λ r w ws. refl }
 pub ramp-is : (ls : List (List ℕ)) → rampOn bareRamp ls ≡ rampIn [] ls
 unfolding rampOn numberSaid
 ramp-is ls = refl
+
+-- what the code answers of a line's slopes says them
+pub slopes-said : (w : List ℕ) (before : RampTriple) (r : RampRead) → r ≡ rampRead (toldIn w (slopesLine w)) → orElse before (rampSays r) ≡ orElse before (slopesLine w)
+slopes-said w before r e = ap (orElse before) (ramp-said r (toldIn w (slopesLine w)) e) ∙ told-else w before (slopesLine w)
 
 ramp-nothing : (r : RampTable) (w : List ℕ) → lineAt rampLines w ≡ Nothing → r ≡ rampLine r w
 unfolding placeFrom words grown ontoWord isBlank eqs

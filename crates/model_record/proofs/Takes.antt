@@ -7,7 +7,6 @@ use native.Mathlib.Omega.{arith}
 use lib.ListN.{length}
 use Rattle.laws.specs.Lists.{after}
 use Rattle.laws.specs.Said.{orElse}
-use Rattle.words.specs.Words.{words}
 use Rattle.keywords.specs.declared.CurrentTable.{CurrentTable}
 use Rattle.keywords.specs.declared.CurrentTable.the-variants.{Pulldown, Pullup, GndClamp, PowerClamp}
 use Rattle.keywords.specs.declared.Keyword.{Keyword}
@@ -90,7 +89,7 @@ module _ {s : List ℕ} {c : Cursor} {before behind : List ℕ} {r : Filled} (f 
     behind-row = omega (arith, h, f .bounded)
 
     abbrev cells : Triple
-    cells = orElse noCells (threeCells (words w))
+    cells = orElse noCells (threeCells w)
 
     abbrev ramp : RampTable
     ramp = rampIn w (under (rest s c))

@@ -10,7 +10,6 @@ use lib.Dec.{eqb}
 use Rattle.laws.specs.Bytes.{bytes}
 use Rattle.laws.specs.Lists.{after, eqs}
 use Rattle.laws.specs.Said.{orElse}
-use Rattle.words.specs.Words.{words}
 use Rattle.keywords.specs.declared.CurrentTable.the-variants.{Pulldown, Pullup, GndClamp, PowerClamp}
 use Rattle.keywords.specs.declared.Keyword.{Keyword}
 use Rattle.keywords.specs.declared.ModelPart.{ModelPart}
@@ -75,7 +74,7 @@ partOn b p cells ramp n =
 -- a keyword of another section changes nothing; w is its argument and ls are the lines under it
 abbrev pub bodyStep : Body → Keyword → List ℕ → List (List ℕ) → Body
 bodyStep b k w ls =
-    byKeyword b (λ p. b) (λ o. b) (λ p. b) (λ p. partOn b p (orElse noCells (threeCells (words w))) (rampIn w ls) (length (rowsIn ls))) b (some k)
+    byKeyword b (λ p. b) (λ o. b) (λ p. b) (λ p. partOn b p (orElse noCells (threeCells w)) (rampIn w ls) (length (rowsIn ls))) b (some k)
 
 -- what tables make of the one of a kind; n is the next row's place
 unfoldable pub tableOn : Table → List TableIs → ℕ → String → Table

@@ -5,7 +5,6 @@ ghost use mathlib.Core.List.{List};
 ghost use lib.ListN.{length};
 ghost use Rattle.laws.specs.Lists.{front};
 ghost use Rattle.laws.specs.Said.{orElse};
-ghost use Rattle.words.specs.Words.{words};
 ghost use Rattle.keywords.specs.declared.Keyword.the-variants.{InModel};
 ghost use Rattle.keywords.specs.declared.ModelPart.the-variants.{VoltageRange, TemperatureRange, Current, Ramp, Waveform};
 ghost use Rattle.cut_lines.specs.Cursors.{rest, Placed};
@@ -160,7 +159,7 @@ fn with_waveform(b: Body, count: usize) -> Body
 }
 
 pub fn cells_of(argument: &[u8]) -> Triple
-    ensures { λ t. ⌜ t ≡ orElse noCells (threeCells (words (now (argument .entry)))) ⌝ }
+    ensures { λ t. ⌜ t ≡ orElse noCells (threeCells (now (argument .entry))) ⌝ }
 {
     line_cells::triple_is(line_cells::three_cells(argument, 0))
 }

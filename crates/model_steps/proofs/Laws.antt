@@ -8,7 +8,7 @@ use lib.Dec.{eqb, leb, ltb}
 use borrow.Author.Tests.{lt-ltb, le-leb, lt-leb}
 use Rattle.laws.specs.Bytes.{isBlank}
 use Rattle.laws.specs.Lists.{eqs}
-use Rattle.laws.specs.Said.{Said, says, fault, orElse}
+use Rattle.laws.specs.Said.{Result, says, fault, orElse}
 use Rattle.laws.proofs.Tests.{by-test, cond-yes, cond-no, and-both, and-left, and-right}
 use Rattle.decimal.specs.Decimal.{wordOf}
 use Rattle.decimal.specs.Answers.{pastNumbers, decimalIn}
@@ -20,6 +20,8 @@ use Rattle.decimal.proofs.Cells.{number-small, kept-decimal}
 use Rattle.words.specs.Words.{words, grown, ontoWord}
 use Rattle.name_table.specs.Names.{placeFrom}
 use Rattle.name_table.specs.declared.Found.the-variants.{At}
+use Rattle.records.specs.Flaws.{Reads, toldIn, bare}
+use Rattle.records.specs.declared.LineFault.{LineFault}
 use Rattle.records.specs.declared.Row.{Row}
 use Rattle.line_rules.specs.Fields.{lineAt, takes, rowOf}
 use Rattle.line_rules.specs.Tables.{modelLines, rampLines, fixtures}
@@ -39,7 +41,7 @@ use Rattle.model_steps.specs.declared.RowStep.the-variants.{Next, NoRow}
 
 -- ---- the first lines: a line's place says whether it has a name
 
-module _ {A : Type 0} (read : List ℕ → Said A) (before : A) (w : List ℕ) (n : ℕ) (e : lineAt modelLines w ≡ At n) where
+module _ {A : Type 0} (read : List ℕ → Reads A) (before : A) (w : List ℕ) (n : ℕ) (e : lineAt modelLines w ≡ At n) where
   pub takes-type : cond (eqb n 0) (orElse before (read w)) before ≡ takes "Model_type" read before w
   unfolding takes placeFrom words grown ontoWord isBlank eqs
   takes-type = rw (named-at modelLines "Model_type" w n 0 e refl)
@@ -68,9 +70,9 @@ done-whole m = refl
 
 -- ---- rows
 
-pub row-line : (on : RowsSeen → ModelList) (m : ModelState) (r : RowsSeen) (k : ℕ) (x : Said Row) → rowLine on m r k x ≡ rowWent on m k (rowStep r x)
+pub row-line : (on : RowsSeen → ModelList) (m : ModelState) (r : RowsSeen) (k : ℕ) (x : Result LineFault Row) → rowLine on m r k x ≡ rowWent on m k (rowStep r x)
 unfolding refuse onRow
-row-line on m r k (fault n) = refl
+row-line on m r k (fault f) = refl
 row-line on m r k (says l) = by-test (rises r (l .number)) (λ e. rw e) (λ e. rw e)
 
 pub row-seen : (r : RowsSeen) (d : Decimal) (typ h : Bool) → h ≡ cond (eqb (r .count) 0) typ (r .head) → (n : ℕ) → n ≡ min (r .count + 1) 1001
@@ -78,7 +80,7 @@ pub row-seen : (r : RowsSeen) (d : Decimal) (typ h : Bool) → h ≡ cond (eqb (
 row-seen r d typ h e n q = rw (e, q)
 
 -- a row by its words
-module _ {ws : List (List ℕ)} {x : RowWords} (t : RowThere ws x) where
+module _ {w : List ℕ} {x : RowWords} (t : RowThere w x) where
   number-back : decimalIn (x .number) ≡ t .row .number
   number-back =
       ap (λ (y : RowWords). decimalIn (y .number)) (t .words)
@@ -96,14 +98,14 @@ module _ {ws : List (List ℕ)} {x : RowWords} (t : RowThere ws x) where
     unfolding rises
     rises-back = ap (risesOver (r .count) (r .last)) (sym number-back)
 
-    pub row-refused : risesOver (r .count) (r .last) (decimalIn (x .number)) ≡ false → NoRow 13 ≡ rowStep r (rowOf ws)
+    pub row-refused : risesOver (r .count) (r .last) (decimalIn (x .number)) ≡ false → NoRow (bare 13) ≡ rowStep r (toldIn w (rowOf w))
     unfolding onRow
-    row-refused h = sym (cond-no _ _ (rises-back ∙ h)) ∙ ap (rowStep r) (t .said)
+    row-refused h = sym (cond-no _ _ (rises-back ∙ h)) ∙ ap (λ (y : Reads Row). rowStep r (toldIn w y)) (t .said)
 
     pub row-taken : risesOver (r .count) (r .last) (decimalIn (x .number)) ≡ true
-        → Next (withRow r (decimalIn (x .number)) (ltb (x .typ) pastNumbers)) ≡ rowStep r (rowOf ws)
+        → Next (withRow r (decimalIn (x .number)) (ltb (x .typ) pastNumbers)) ≡ rowStep r (toldIn w (rowOf w))
     unfolding onRow
-    row-taken h = rw (number-back, typ-back) (sym (cond-yes _ _ (rises-back ∙ h)) ∙ ap (rowStep r) (t .said))
+    row-taken h = rw (number-back, typ-back) (sym (cond-yes _ _ (rises-back ∙ h)) ∙ ap (λ (y : Reads Row). rowStep r (toldIn w y)) (t .said))
 
 -- ---- a whole table
 

@@ -2,11 +2,13 @@
 use Prim.Native.Nat.{ℕ}
 use mathlib.Core.Bool.{Bool, true, cond}
 use lib.Dec.{eqb}
-use Rattle.laws.specs.Said.{Said, says, fault}
+use Rattle.laws.specs.Said.{Result, says, fault}
 use Rattle.decimal.specs.Decimal.{lessThan}
 use Rattle.decimal.specs.declared.Decimal.{Decimal}
-use Rattle.rules.specs.Going.{stop}
+use Rattle.rules.specs.Going.{stopAt}
 use Rattle.rules.specs.Model.{isNumber, rises, withRow, withModelList}
+use Rattle.records.specs.Flaws.{bare}
+use Rattle.records.specs.declared.LineFault.{LineFault}
 use Rattle.records.specs.declared.Row.{Row}
 use Rattle.rules.specs.declared.RowsSeen.{RowsSeen}
 use Rattle.rules.specs.declared.ModelList.{ModelList}
@@ -23,12 +25,12 @@ abbrev pub risesOver : ℕ → Decimal → Decimal → Bool
 risesOver count last d = cond (eqb count 0) true (lessThan last d)
 
 unfoldable pub onRow : RowsSeen → Row → RowStep
-onRow r l = cond (rises r (l .number)) (Next (withRow r (l .number) (isNumber (l .cells .typ)))) (NoRow 13)
+onRow r l = cond (rises r (l .number)) (Next (withRow r (l .number) (isNumber (l .cells .typ)))) (NoRow (bare 13))
 
-abbrev pub rowStep : RowsSeen → Said Row → RowStep
+abbrev pub rowStep : RowsSeen → Result LineFault Row → RowStep
 rowStep r (says l) = onRow r l
-rowStep r (fault n) = NoRow n
+rowStep r (fault f) = NoRow f
 
 abbrev pub rowWent : (RowsSeen → ModelList) → ModelState → ℕ → RowStep → Went
 rowWent on m k (Next s) = On (InModel (withModelList m (on s))) TableRow
-rowWent on m k (NoRow n) = stop n k
+rowWent on m k (NoRow f) = stopAt f k

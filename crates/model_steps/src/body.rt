@@ -1,6 +1,6 @@
 // A line of a model that is no keyword line, by the list or table that is open.
 ghost use mathlib.Core.Path.{_≡_};
-ghost use Rattle.laws.specs.Said.{faultIn};
+ghost use Rattle.records.specs.Flaws.{flawIn, toldIn};
 ghost use Rattle.words.specs.Words.{word, words};
 ghost use Rattle.name_table.specs.declared.Found.the-variants.{At};
 ghost use Rattle.line_rules.specs.Fields.{lineAt, numberLine, rowOf};
@@ -54,15 +54,15 @@ fn first_line(m: ModelState, k: u64, w: &[u8]) -> Went
     ensures { λ r. ⌜ r ≡ modelLine m k (now (w .entry)) ModelFirst ⌝ }
 {
     let Found::At(n) = named_lines::model_line(w) else {
-        return rules::stopped(10, k);
+        return rules::stopped_at(named_lines::name_fault(w), k);
     };
     let first = m.first;
     if given::is_given(first, n) {
         return rules::stopped(8, k);
     }
     let fault = line_faults::first_fault(n, w);
-    if fault != 0 {
-        return rules::stopped(fault, k);
+    if fault.number != 0 {
+        return rules::stopped_at(fault, k);
     }
     quiet(with_first(m, n, w))
 }
@@ -70,7 +70,7 @@ fn first_line(m: ModelState, k: u64, w: &[u8]) -> Went
 // ---- a table's rows
 
 fn current_line(m: ModelState, line: u64, r: RowsSeen, k: u64, w: &[u8]) -> Went
-    ensures { λ s. ⌜ s ≡ rowLine (CurrentRows line) m r k (rowOf (words (now (w .entry)))) ⌝ }
+    ensures { λ s. ⌜ s ≡ rowLine (CurrentRows line) m r k (toldIn (now (w .entry)) (rowOf (now (w .entry)))) ⌝ }
 {
     match row_step(r, w) {
         RowStep::Next(rows) => {
@@ -80,12 +80,12 @@ fn current_line(m: ModelState, line: u64, r: RowsSeen, k: u64, w: &[u8]) -> Went
             };
             Went::On(Stage::InModel(with_list(m, list)), Event::TableRow)
         }
-        RowStep::NoRow(fault) => rules::stopped(fault, k),
+        RowStep::NoRow(fault) => rules::stopped_at(fault, k),
     }
 }
 
 fn point_line(m: ModelState, line: u64, given: Given, r: RowsSeen, k: u64, w: &[u8]) -> Went
-    ensures { λ s. ⌜ s ≡ rowLine (WaveformRows line given) m r k (rowOf (words (now (w .entry)))) ⌝ }
+    ensures { λ s. ⌜ s ≡ rowLine (WaveformRows line given) m r k (toldIn (now (w .entry)) (rowOf (now (w .entry)))) ⌝ }
 {
     match row_step(r, w) {
         RowStep::Next(rows) => {
@@ -96,7 +96,7 @@ fn point_line(m: ModelState, line: u64, given: Given, r: RowsSeen, k: u64, w: &[
             };
             Went::On(Stage::InModel(with_list(m, list)), Event::TableRow)
         }
-        RowStep::NoRow(fault) => rules::stopped(fault, k),
+        RowStep::NoRow(fault) => rules::stopped_at(fault, k),
     }
 }
 
@@ -106,14 +106,14 @@ fn ramp_line(m: ModelState, line: u64, given: Given, k: u64, w: &[u8]) -> Went
     ensures { λ r. ⌜ r ≡ modelLine m k (now (w .entry)) (RampLines line given) ⌝ }
 {
     let Found::At(n) = named_lines::ramp_line(w) else {
-        return rules::stopped(10, k);
+        return rules::stopped_at(named_lines::name_fault(w), k);
     };
     if given::is_given(given, n) {
         return rules::stopped(8, k);
     }
     let fault = line_faults::ramp_line_fault(n, w);
-    if fault != 0 {
-        return rules::stopped(fault, k);
+    if fault.number != 0 {
+        return rules::stopped_at(fault, k);
     }
     let list = ModelList::RampLines {
         line: line,
@@ -123,17 +123,17 @@ fn ramp_line(m: ModelState, line: u64, given: Given, k: u64, w: &[u8]) -> Went
 }
 
 fn fixture_line(m: ModelState, line: u64, given: Given, r: RowsSeen, k: u64, w: &[u8]) -> Went
-    ensures { λ s. ⌜ s ≡ namedLine given (lineAt fixtures (now (w .entry))) (faultIn (numberLine (now (w .entry)))) k (λ h. InModel (withModelList m (WaveformRows line h r))) ⌝ }
+    ensures { λ s. ⌜ s ≡ namedLine given (lineAt fixtures (now (w .entry))) (flawIn (numberLine (now (w .entry)))) k (now (w .entry)) (λ h. InModel (withModelList m (WaveformRows line h r))) ⌝ }
 {
     let Found::At(n) = named_lines::fixture_line(w) else {
-        return rules::stopped(10, k);
+        return rules::stopped_at(named_lines::name_fault(w), k);
     };
     if given::is_given(given, n) {
         return rules::stopped(8, k);
     }
-    let fault = line_cells::cell_fault(named_lines::number_line(w));
-    if fault != 0 {
-        return rules::stopped(fault, k);
+    let fault = line_faults::number_fault(w);
+    if fault.number != 0 {
+        return rules::stopped_at(fault, k);
     }
     let list = ModelList::WaveformRows {
         line: line,

@@ -1,4 +1,5 @@
 // The steps of [Model]: its first lines, its keywords, the rows and lines of its lists, and what is checked where they close.
+use records::LineFault;
 use rules::RowsSeen;
 
 pub mod state; // state.rt: a model's state, new and with one thing changed
@@ -21,5 +22,5 @@ pub use state::with_list;
 // The rows with one more, or the line's fault.
 pub enum RowStep {
     Next(RowsSeen),
-    NoRow(u8),
+    NoRow(LineFault),
 }

@@ -1,5 +1,6 @@
 // The keywords of a model, and what is checked where a list, a table or the model closes.
 ghost use mathlib.Core.Path.{_≡_};
+ghost use Rattle.keywords.specs.Answers.{ArgumentFrom};
 ghost use Rattle.rules.specs.Going.{unless};
 ghost use Rattle.rules.specs.Model.{modelPlace, modelOpens, singlePart, waveformPart, modelPart, tableFault, closed, modelShut, modelDone};
 ghost use Rattle.model_steps.specs.Closes.{bothGiven, isWhole, isCrossed};
@@ -66,17 +67,18 @@ fn model_opens(k: u64, p: ModelPart) -> ModelList
 }
 
 // The parts that may stand once.
-fn single_part(m: ModelState, k: u64, argument: &[u8], p: ModelPart) -> Went
-    ensures { λ r. ⌜ r ≡ singlePart m k (now (argument .entry)) p ⌝ }
+fn single_part(m: ModelState, k: u64, w: &[u8], at: usize, p: ModelPart) -> Went
+    requires { ⌜ ArgumentFrom (now w) at ⌝ }
+    ensures { λ r. ⌜ r ≡ singlePart m k (now (w .entry)) p ⌝ }
 {
     let place = model_place(p);
     let parts = m.parts;
     if given::is_given(parts, place) {
         return rules::stopped(8, k);
     }
-    let fault = line_faults::model_fault(argument, p);
-    if fault != 0 {
-        return rules::stopped(fault, k);
+    let fault = line_faults::model_fault(w, at, p);
+    if fault.number != 0 {
+        return rules::stopped_at(fault, k);
     }
     let mut next = with_list(m, model_opens(k, p));
     next.parts = given::also(parts, place);
@@ -86,12 +88,13 @@ fn single_part(m: ModelState, k: u64, argument: &[u8], p: ModelPart) -> Went
 // The most waveforms of a model.
 const MOST_WAVEFORMS: u8 = 16;
 
-fn waveform_part(m: ModelState, k: u64, argument: &[u8], p: ModelPart) -> Went
-    ensures { λ r. ⌜ r ≡ waveformPart m k (now (argument .entry)) p ⌝ }
+fn waveform_part(m: ModelState, k: u64, w: &[u8], at: usize, p: ModelPart) -> Went
+    requires { ⌜ ArgumentFrom (now w) at ⌝ }
+    ensures { λ r. ⌜ r ≡ waveformPart m k (now (w .entry)) p ⌝ }
 {
-    let fault = line_faults::model_fault(argument, p);
-    if fault != 0 {
-        return rules::stopped(fault, k);
+    let fault = line_faults::model_fault(w, at, p);
+    if fault.number != 0 {
+        return rules::stopped_at(fault, k);
     }
     if MOST_WAVEFORMS <= m.waveforms {
         return rules::stopped(17, k);
@@ -101,14 +104,15 @@ fn waveform_part(m: ModelState, k: u64, argument: &[u8], p: ModelPart) -> Went
     Went::On(Stage::InModel(next), Event::WaveformOpened)
 }
 
-// A keyword of the model at line k.
-pub fn model_part(m: ModelState, k: u64, argument: &[u8], p: ModelPart) -> Went
-    ensures { λ r. ⌜ r ≡ modelPart m k (now (argument .entry)) p ⌝ }
+// A keyword of the model at line k, whose argument begins at a place.
+pub fn model_part(m: ModelState, k: u64, w: &[u8], at: usize, p: ModelPart) -> Went
+    requires { ⌜ ArgumentFrom (now w) at ⌝ }
+    ensures { λ r. ⌜ r ≡ modelPart m k (now (w .entry)) p ⌝ }
 {
     if model_place(p) == WAVEFORMS {
-        return waveform_part(m, k, argument, p);
+        return waveform_part(m, k, w, at, p);
     }
-    single_part(m, k, argument, p)
+    single_part(m, k, w, at, p)
 }
 
 // ---- the close of a list or a table

@@ -3,12 +3,13 @@ ghost use mathlib.Core.Path.{_≡_};
 ghost use mathlib.Core.Bool.{cond};
 ghost use Prim.Native.Nat.{_+_, min};
 ghost use lib.Dec.{eqb};
-ghost use Rattle.words.specs.Words.{words};
+ghost use Rattle.records.specs.Flaws.{toldIn};
 ghost use Rattle.line_rules.specs.Fields.{rowOf};
 ghost use Rattle.rules.specs.Model.{noRows, withRow, tableFault};
 ghost use Rattle.model_steps.specs.Rows.{risesOver, rowStep};
 use crate::RowStep;
 use decimal::Decimal;
+use records::LineFault;
 use rules::RowsSeen;
 
 pub(crate) fn no_rows() -> RowsSeen
@@ -71,16 +72,19 @@ fn with_row(r: RowsSeen, d: Decimal, typ: bool) -> RowsSeen
 
 // A line of the table that is open.
 pub fn row_step(r: RowsSeen, w: &[u8]) -> RowStep
-    ensures { λ s. ⌜ s ≡ rowStep r (rowOf (words (now (w .entry)))) ⌝ }
+    ensures { λ s. ⌜ s ≡ rowStep r (toldIn (now (w .entry)) (rowOf (now (w .entry)))) ⌝ }
 {
     let row = line_cells::row_words(w);
     if row.fault != 0 {
-        return RowStep::NoRow(row.fault as u8);
+        return RowStep::NoRow(LineFault {
+            number: row.fault as u8,
+            column: row.column,
+        });
     }
     let number = decimal::decimal_in(row.number);
     let last = r.last;
     if !rising(r.count, last, number) {
-        return RowStep::NoRow(13);
+        return RowStep::NoRow(records::bare_fault(13));
     }
     RowStep::Next(with_row(r, number, decimal::holds_number(row.typ)))
 }

@@ -191,7 +191,7 @@ module _ (s xs : List ℕ) (number n i : ℕ) where
   told-here : i < n → toldAt s xs number n i ≡ toldOf number (noteAt s xs i .line)
   told-here h = cond-yes _ _ (lt-ltb i n h) ∙ ap (toldOf number) (sym (note-line s xs i))
 
-  told-faulty : i < n → toldAt s xs number n i ≡ Faulty (record { number = number; line = notedLine s xs i })
+  told-faulty : i < n → toldAt s xs number n i ≡ Faulty (record { number = number; line = notedLine s xs i; column = 0 })
   unfolding toldOf
   told-faulty h = cond-yes _ _ (lt-ltb i n h) ∙ cond-no _ _ (ne-eqb (notedLine s xs i) 0 (line-some s _))
 
@@ -272,24 +272,24 @@ module _ (s xs ys : List ℕ) (n : ℕ) (es : List Entry) (marks : Marks s xs es
 -- the fault of the first that fails one test, else of the first that fails the other
 module _ (a b : ℕ) (d : Outcome) where
   abbrev concluding : Outcome
-  concluding = cond (eqb a 0) (cond (eqb b 0) d (refused 16 b)) (refused 15 a)
+  concluding = cond (eqb a 0) (cond (eqb b 0) d (refused 16 b 0)) (refused 15 a 0)
 
   first-told : (f : Fault) → toldOf 15 a ≡ Faulty f → concluding ≡ lastIs d (Faulty f)
   unfolding toldOf
   first-told f h =
       by-test (eqb a 0)
       (λ t. let z : Fine ≡ Faulty f = sym (cond-yes _ _ t) ∙ h in impossible (cc))
-      (λ t. let z : Faulty (record { number = 15; line = a }) ≡ Faulty f = sym (cond-no _ _ t) ∙ h in rw t (ap (lastIs d) z))
+      (λ t. let z : Faulty (record { number = 15; line = a; column = 0 }) ≡ Faulty f = sym (cond-no _ _ t) ∙ h in rw t (ap (lastIs d) z))
 
   second-told : toldOf 15 a ≡ Fine → concluding ≡ lastIs d (toldOf 16 b)
   unfolding toldOf
   second-told h =
       by-test (eqb a 0)
       (λ t. rw t (by-test (eqb b 0) (λ u. rw u refl) (λ u. rw u refl)))
-      (λ t. let z : Faulty (record { number = 15; line = a }) ≡ Fine = sym (cond-no _ _ t) ∙ h in impossible (cc))
+      (λ t. let z : Faulty (record { number = 15; line = a; column = 0 }) ≡ Fine = sym (cond-no _ _ t) ∙ h in impossible (cc))
 
 module _ (s xs ys : List ℕ) (n r : ℕ) (m : Marked s xs ys n r) where
-  pub concludes-missing : r < n → (v : Last) → v ≡ Faulty (record { number = 15; line = notedLine s xs r }) → Concludes (entriesTo s xs n) v
+  pub concludes-missing : r < n → (v : Last) → v ≡ Faulty (record { number = 15; line = notedLine s xs r; column = 0 }) → Concludes (entriesTo s xs n) v
   unfolding lastChecks
   concludes-missing h v q d =
       rw (file-order s xs n)
@@ -304,7 +304,7 @@ module _ (s xs ys : List ℕ) (n r : ℕ) (m : Marked s xs ys n r) where
         (second-told _ _ d (sym (m .first) ∙ told-none s xs 15 n r h)
         ∙ ap (lastIs d) (sym (ap (λ (w : ℕ). toldAt s xs 16 n w) e ∙ unlisted-from s xs ys n (entriesFrom s xs 0 n) (m .says) 0 n (omega arith)) ∙ q))
 
-    pub concludes-unlisted : u < n → (v : Last) → v ≡ Faulty (record { number = 16; line = notedLine s xs u }) → Concludes (entriesTo s xs n) v
+    pub concludes-unlisted : u < n → (v : Last) → v ≡ Faulty (record { number = 16; line = notedLine s xs u; column = 0 }) → Concludes (entriesTo s xs n) v
     concludes-unlisted g v q = listed-told v (told-faulty s xs 16 n u g ∙ sym q)
 
     pub concludes-fine : n ≤ u → Concludes (entriesTo s xs n) Fine

@@ -182,7 +182,7 @@ excused k w = cond (eqb k (place OfPin)) (needsNoModel w) (not (eqb k (place OfC
 
 -- a fault and the line it is told at, or 0 where there is none
 unfoldable pub toldOf : ℕ → ℕ → Last
-toldOf number line = cond (eqb line 0) Fine (Faulty (record { number = number; line = line }))
+toldOf number line = cond (eqb line 0) Fine (Faulty (record { number = number; line = line; column = 0 }))
 
 -- the fault of the name at place i, of n names; there is none where it is not one of them
 abbrev pub toldAt : List ℕ → List ℕ → ℕ → ℕ → ℕ → Last
@@ -234,7 +234,7 @@ unmarkedFrom xs marks j (suc n) = unmarked xs marks j (unmarkedFrom xs marks (j 
 
 abbrev pub lastIs : Outcome → Last → Outcome
 lastIs done Fine = done
-lastIs done (Faulty f) = refused (f .number) (f .line)
+lastIs done (Faulty f) = refused (f .number) (f .line) (f .column)
 
 -- the last checks of entries that are given the latest first
 abbrev pub Concludes : List Entry → Last → Type 0

@@ -118,11 +118,12 @@ fn find_target(
 // The name at place i is at fault.
 fn faulty(src: &[u8], notes: &[u16], number: u8, i: usize) -> Last
     requires { ⌜ i ≤ namesHeld ⌝ }
-    ensures { λ r. ⌜ r ≡ Faulty (record { number = number; line = notedLine (now (src .entry)) (now (notes .entry)) i }) ⌝ }
+    ensures { λ r. ⌜ r ≡ Faulty (record { number = number; line = notedLine (now (src .entry)) (now (notes .entry)) i; column = 0 }) ⌝ }
 {
     Last::Faulty(Fault {
         number: number,
         line: line_at(src, notes, i),
+        column: 0,
     })
 }
 

@@ -1,20 +1,28 @@
--- Laws on the forms of names, one for each branch of the code.
+-- Laws on the forms of names, and on what a line tells of a word's form, one for each branch of the code.
 use Prim.Native.Nat.{ℕ, _+_, _≤_, _<_}
 use Prim.Native.Char.{code}
 use mathlib.Core.Path.{_≡_, sym, ap, _∙_}
 use mathlib.Core.List.{List}
-use mathlib.Core.Bool.{true, false}
+use mathlib.Core.Bool.{Bool, true, false, cond}
 use native.Mathlib.Omega.{arith}
 use lib.ListN.{length, drop, getD}
 use lib.Dec.{eqb, leb}
 use borrow.Author.Tests.{le-leb, lt-leb}
-use Rattle.laws.specs.Bytes.{bytes, isSmall}
+use Rattle.laws.specs.Bytes.{bytes, isBlank, isSmall}
 use Rattle.laws.specs.Lists.{front, among, part, eqs}
-use Rattle.laws.proofs.Tests.{and-left}
+use Rattle.laws.specs.Said.{Result, Said, says, fault}
+use Rattle.laws.proofs.Tests.{and-left, cond-yes, cond-no}
 use Rattle.laws.proofs.Lists.{from-cons, none-of}
 use Rattle.laws.proofs.Bytes.{digit-yes, digit-below, digit-above}
 use Rattle.laws.proofs.Fronts.{after-at, front-at}
-use Rattle.line_rules.specs.Fields.{isSized, isBracketed, isFileByte, isFileName}
+use Rattle.words.specs.Places.{WordAt}
+use Rattle.words.specs.declared.Word.{Word}
+use Rattle.records.specs.Flaws.{Reads, flaw, sound, flawIn, told, toldIn, bare, atPlace, saidThere, lineFaultIn}
+use Rattle.records.specs.declared.LineFault.{LineFault}
+use Rattle.records.proofs.Columns.{told-sound, told-fault}
+use Rattle.line_rules.specs.Fields.{isSized, isBracketed, isFileByte, isFileName, wordBy, ended, alone, passing, noArgument}
+use Rattle.line_rules.proofs.Columns.{passing-columns}
+use Rattle.line_rules.proofs.Told.{ten-at, word-told, ended-flaw, alone-wrong, alone-right}
 
 -- ---- length and first byte
 
@@ -71,3 +79,50 @@ module _ (w : List ℕ) (end : ℕ) (h : end ≡ 0 + length (front isFileByte w)
   file-ended k =
       let s : isSized 40 (front isFileByte w) ≡ true = ap (isSized 40) (sym (front-at isFileByte w 0 end h)) ∙ k in
       rw s (ap (λ (x : List ℕ). eqs x (bytes ".ibs")) (after-at isFileByte w 0 end h))
+
+-- ---- what is told of a text from a place on
+
+module _ (n : ℕ) (s : List ℕ) (at : ℕ) where
+  pub sized-right : isSized n (drop at s) ≡ true → told s (cond (isSized n (drop at s)) sound (flaw 10 (drop at s))) ≡ bare 0
+  sized-right q = ap (told s) (cond-yes sound (flaw 10 (drop at s)) q) ∙ told-sound s
+
+  pub sized-wrong : at ≤ length s → isSized n (drop at s) ≡ false → told s (cond (isSized n (drop at s)) sound (flaw 10 (drop at s))) ≡ atPlace 10 at
+  sized-wrong h q = ap (told s) (cond-no sound (flaw 10 (drop at s)) q) ∙ ten-at s at h
+
+module _ (p : List ℕ → Bool) (s : List ℕ) (at : ℕ) (r : Word) (h : WordAt s at r) where
+  abbrev text : List ℕ
+  text = part (r .start) (r .end) s
+
+  passes : p text ≡ true → passing p text ≡ says text
+  unfolding passing
+  passes q = cond-yes _ _ q
+
+  fails : p text ≡ false → passing p text ≡ fault 10
+  unfolding passing
+  fails q = cond-no _ _ q
+
+  word-form : {x : Said (List ℕ)} → passing p text ≡ x → told s (flawIn (wordBy (passing p) 0 (drop at s))) ≡ lineFaultIn (saidThere (r .start) x)
+  word-form q =
+      sym (told-fault s (wordBy (passing p) 0 (drop at s)))
+      ∙ ap lineFaultIn (word-told s at r h (passing p) (passing-columns p text))
+      ∙ ap (λ (x : Said (List ℕ)). lineFaultIn (saidThere (r .start) x)) q
+
+  pub word-right : p text ≡ true → told s (flawIn (wordBy (passing p) 0 (drop at s))) ≡ bare 0
+  word-right q = word-form (passes q)
+
+  pub word-wrong : p text ≡ false → told s (flawIn (wordBy (passing p) 0 (drop at s))) ≡ atPlace 10 (r .start)
+  word-wrong q = word-form (fails q)
+
+  -- and nothing behind it
+  told-alone : {x : Result LineFault (List ℕ)} → toldIn s (alone (passing p) (drop at s)) ≡ x → told s (flawIn (alone (passing p) (drop at s))) ≡ lineFaultIn x
+  told-alone q = sym (told-fault s (alone (passing p) (drop at s))) ∙ ap lineFaultIn q
+
+  pub argument-wrong : p text ≡ false → told s (flawIn (alone (passing p) (drop at s))) ≡ atPlace 10 (r .start)
+  argument-wrong q = told-alone (alone-wrong (passing p) s at r h (passing-columns p text) (fails q))
+
+  pub argument-right : (n : ℕ) → p text ≡ true → n ≡ r .end + length (front isBlank (drop (r .end) s))
+      → told s (flawIn (alone (passing p) (drop at s))) ≡ told s (noArgument (drop n s))
+  argument-right n q e =
+      told-alone (alone-right (passing p) s at r h (passing-columns p text) n (passes q) e)
+      ∙ told-fault s (ended text (drop n s))
+      ∙ ap (told s) (ended-flaw text (drop n s))

@@ -1,51 +1,57 @@
--- What a table says of the word behind a name, as the code answers it.
+-- The forms of names by number, the word behind a name by its place in a list, and the code's answers to it.
 use Prim.Native.Nat.{ℕ}
 use mathlib.Core.List.{List}
-use mathlib.Core.Option.{Option, none, some}
-use Rattle.laws.specs.Said.{Said, says, fault}
+use mathlib.Core.Bool.{Bool}
+use Rattle.laws.specs.Said.{Result, Said, says, fault}
 use Rattle.name_table.specs.Names.{placeFrom}
+use Rattle.name_table.specs.Listed.{namesIn}
 use Rattle.name_table.specs.declared.Found.{Found}
-use Rattle.name_table.specs.declared.Found.the-variants.{Nothing}
+use Rattle.name_table.specs.declared.Found.the-variants.{At, Nothing}
+use Rattle.name_table.specs.declared.NameList.{NameList}
+use Rattle.records.specs.Flaws.{Reads}
+use Rattle.records.specs.declared.LineFault.{LineFault}
 use Rattle.records.specs.declared.Location.{Location}
 use Rattle.records.specs.declared.ModelType.{ModelType}
-use Rattle.records.specs.declared.Polarity.{Polarity}
-use Rattle.records.specs.declared.Polarity.the-variants.{NoPolarity, Inverting, NonInverting}
-use Rattle.records.specs.declared.Enable.{Enable}
-use Rattle.records.specs.declared.Enable.the-variants.{NoEnable, ActiveHigh, ActiveLow}
+use Rattle.line_rules.specs.Fields.{isVersion, isFileName, isModelName, alone, behindName}
+use Rattle.named_lines.specs.declared.Form.{Form}
+use Rattle.named_lines.specs.declared.Form.the-variants.{Version, FileName, ModelName}
+use Rattle.named_lines.specs.declared.ListedRead.{ListedRead}
+use Rattle.named_lines.specs.declared.ListedRead.the-variants.{Listed, Unlisted}
 use Rattle.named_lines.specs.declared.LocationRead.{LocationRead}
 use Rattle.named_lines.specs.declared.LocationRead.the-variants.{Located, NoLocation}
 use Rattle.named_lines.specs.declared.TypeRead.{TypeRead}
 use Rattle.named_lines.specs.declared.TypeRead.the-variants.{OfType, NoType}
 
--- the place of a word that may be there, among words
-abbrev pub placeIn : Option (List ℕ) → List (List ℕ) → Found
-placeIn none ns = Nothing
-placeIn (some w) ns = placeFrom 0 w ns
+abbrev pub hasForm : Form → List ℕ → Bool
+hasForm Version w = isVersion w
+hasForm FileName w = isFileName w
+hasForm ModelName w = isModelName w
 
--- the answer that says this: a word that is none of its table's is 10
+-- ---- the word behind a name
 
-abbrev pub locationRead : Said Location → LocationRead
+-- a place that was found; nothing is 10
+abbrev pub placeSaid : Found → Said ℕ
+placeSaid Nothing = fault 10
+placeSaid (At k) = says k
+
+-- a word's place in a list
+unfoldable pub placeIn : NameList → List ℕ → Said ℕ
+placeIn list v = placeSaid (placeFrom 0 v (namesIn list))
+
+-- a line of a name and a word of a list
+unfoldable pub placeLine : NameList → List ℕ → Reads ℕ
+placeLine list w = behindName (alone (placeIn list)) w
+
+-- ---- the answer that says this
+
+abbrev pub listedRead : Result LineFault ℕ → ListedRead
+listedRead (says k) = Listed k
+listedRead (fault f) = Unlisted f
+
+abbrev pub locationRead : Result LineFault Location → LocationRead
 locationRead (says l) = Located l
-locationRead (fault n) = NoLocation
+locationRead (fault f) = NoLocation f
 
-abbrev pub typeRead : Said ModelType → TypeRead
+abbrev pub typeRead : Result LineFault ModelType → TypeRead
 typeRead (says t) = OfType t
-typeRead (fault n) = NoType
-
-abbrev pub locationFault : LocationRead → ℕ
-locationFault (Located l) = 0
-locationFault NoLocation = 10
-
-abbrev pub typeFault : TypeRead → ℕ
-typeFault (OfType t) = 0
-typeFault NoType = 10
-
-abbrev pub polarityFault : Polarity → ℕ
-polarityFault NoPolarity = 10
-polarityFault Inverting = 0
-polarityFault NonInverting = 0
-
-abbrev pub enableFault : Enable → ℕ
-enableFault NoEnable = 10
-enableFault ActiveHigh = 0
-enableFault ActiveLow = 0
+typeRead (fault f) = NoType f

@@ -7,7 +7,7 @@ ghost use Rattle.line_rules.specs.Fields.{wordLine, numberLine};
 ghost use Rattle.line_rules.specs.Tables.{modelTypes};
 use crate::TypeRead;
 use decimal::Cell;
-use decimal::CellRead;
+use line_rules::LineCell;
 use records::ModelType;
 
 // The type, whose line stands first.
@@ -19,7 +19,7 @@ pub fn type_after(n: usize, w: &[u8], before: ModelType) -> ModelType
     }
     match crate::lookups::type_of(w) {
         TypeRead::OfType(kind) => kind,
-        TypeRead::NoType => before,
+        TypeRead::NoType(_) => before,
     }
 }
 
@@ -31,7 +31,7 @@ pub fn number_after(place: usize, n: usize, w: &[u8], before: Cell) -> Cell
         return before;
     }
     match crate::lines::number_line(w) {
-        CellRead::Read(number) => number,
-        CellRead::Bad(_) => before,
+        LineCell::Stated(number) => number,
+        LineCell::Misstated(_) => before,
     }
 }

@@ -1,12 +1,15 @@
-// The forms of names: how long they are, how they begin, and the words that no model bears.
+// The forms of names: how long they are, how they begin, and the words that no model bears; and what a line tells of a word that has not the form asked for.
 ghost use mathlib.Core.Path.{_≡_};
 ghost use Prim.Native.Nat.{_+_, _≤_};
 ghost use lib.ListN.{length, drop};
 ghost use Rattle.laws.specs.Lists.{front};
-ghost use Rattle.words.specs.Words.{words};
-ghost use Rattle.line_rules.specs.Fields.{isSized, isBracketed, needsNoModel, isNoModel, isModelName, isPinModel, isPinName, isFileByte, isFileName, oneWord};
-use crate::WordRead;
-use crate::lines::only_word;
+ghost use mathlib.Core.Bool.{cond};
+ghost use Rattle.words.specs.Words.{restFrom};
+ghost use Rattle.records.specs.Flaws.{flaw, sound, flawIn, told};
+ghost use Rattle.line_rules.specs.Fields.{isSized, isBracketed, needsNoModel, isNoModel, isModelName, isPinModel, isPinName, isFileByte, isFileName, wordBy, alone, passing, noArgument};
+ghost use Rattle.named_lines.specs.Views.{hasForm};
+use crate::Form;
+use records::LineFault;
 
 // One character to `most`.
 pub fn sized(w: &[u8], most: usize) -> bool
@@ -127,22 +130,72 @@ pub fn file_name(w: &[u8]) -> bool
     words::same(&w[end..], b".ibs")
 }
 
-// One word, which is a model's name.
-pub fn one_model_name(w: &[u8]) -> bool
-    ensures { λ r. ⌜ r ≡ oneWord isModelName (words (now (w .entry))) ⌝ }
+// A word of this form.
+fn has_form(w: &[u8], form: Form) -> bool
+    ensures { λ r. ⌜ r ≡ hasForm form (now (w .entry)) ⌝ }
 {
-    match only_word(w, 0) {
-        WordRead::One { start, end } => model_name(&w[start..end]),
-        WordRead::NoWord => false,
+    match form {
+        Form::Version => words::same(w, b"5.0"),
+        Form::FileName => file_name(w),
+        Form::ModelName => model_name(w),
     }
 }
 
-// One word, which is a file's name.
-pub fn one_file_name(w: &[u8]) -> bool
-    ensures { λ r. ⌜ r ≡ oneWord isFileName (words (now (w .entry))) ⌝ }
+// ---- what a line tells of what stands from a place of it on
+
+// Nothing may stand there.
+pub fn surplus_fault(w: &[u8], at: usize) -> LineFault
+    requires { ⌜ at ≤ length (now w) ⌝ }
+    ensures { λ r. ⌜ r ≡ told (now (w .entry)) (noArgument (drop at (now (w .entry)))) ⌝ }
 {
-    match only_word(w, 0) {
-        WordRead::One { start, end } => file_name(&w[start..end]),
-        WordRead::NoWord => false,
+    if w.len() <= at {
+        return records::bare_fault(0);
     }
+    records::at_fault(10, at)
+}
+
+// A line whose name is none of its list's is told at its first word.
+pub fn name_fault(w: &[u8]) -> LineFault
+    ensures { λ r. ⌜ r ≡ told (now (w .entry)) (flaw 10 (restFrom 0 (now (w .entry)))) ⌝ }
+{
+    records::at_fault(10, words::skip_blanks(w, 0))
+}
+
+// A text of 1 to `most` characters, blanks and all.
+pub fn sized_fault(w: &[u8], at: usize, most: usize) -> LineFault
+    requires { ⌜ at ≤ length (now w) ⌝ }
+    ensures { λ r. ⌜ r ≡ told (now (w .entry)) (cond (isSized most (drop at (now (w .entry)))) sound (flaw 10 (drop at (now (w .entry))))) ⌝ }
+{
+    if sized(&w[at..], most) {
+        return records::bare_fault(0);
+    }
+    records::at_fault(10, at)
+}
+
+// A word of this form, and then anything.
+pub fn word_fault(w: &[u8], at: usize, form: Form) -> LineFault
+    requires { ⌜ at ≤ length (now w) ⌝ }
+    ensures { λ r. ⌜ r ≡ told (now (w .entry)) (flawIn (wordBy (passing (hasForm form)) 0 (drop at (now (w .entry))))) ⌝ }
+{
+    let word = words::word_at(w, at);
+    let start = word.start;
+    let end = word.end;
+    if has_form(&w[start..end], form) {
+        return records::bare_fault(0);
+    }
+    records::at_fault(10, start)
+}
+
+// A word of this form, and nothing behind it.
+pub fn argument_fault(w: &[u8], at: usize, form: Form) -> LineFault
+    requires { ⌜ at ≤ length (now w) ⌝ }
+    ensures { λ r. ⌜ r ≡ told (now (w .entry)) (flawIn (alone (passing (hasForm form)) (drop at (now (w .entry))))) ⌝ }
+{
+    let word = words::word_at(w, at);
+    let start = word.start;
+    let end = word.end;
+    if !has_form(&w[start..end], form) {
+        return records::at_fault(10, start);
+    }
+    surplus_fault(w, words::skip_blanks(w, end))
 }

@@ -1,4 +1,5 @@
 // What stands on a line: names and their forms, the word or number behind a name, and names and words looked up in lists.
+use records::LineFault;
 use records::Location;
 use records::ModelType;
 
@@ -7,21 +8,23 @@ pub mod forms; // forms.rt: the forms of names
 pub mod lookups; // lookups.rt: a name or a word looked up in document 01's lists
 pub mod fields; // fields.rt: a field of a list after a line of it
 
+pub use forms::argument_fault;
 pub use forms::bracketed;
 pub use forms::file_name;
 pub use forms::is_no_model;
 pub use forms::model_name;
+pub use forms::name_fault;
 pub use forms::needs_no_model;
-pub use forms::one_file_name;
-pub use forms::one_model_name;
 pub use forms::pin_model;
 pub use forms::pin_name;
 pub use forms::sized;
+pub use forms::sized_fault;
+pub use forms::surplus_fault;
+pub use forms::word_fault;
+pub use lines::equals_at;
 pub use lines::first_word;
-pub use lines::name_alone;
 pub use lines::name_of;
 pub use lines::named_in;
-pub use lines::named_word;
 pub use lines::number_line;
 pub use lookups::component_line;
 pub use lookups::enable_of;
@@ -32,21 +35,29 @@ pub use lookups::package_line;
 pub use lookups::polarity_of;
 pub use lookups::ramp_line;
 pub use lookups::type_of;
+pub use lookups::word_line_fault;
 
-// A word from start up to end, or none.
-pub enum WordRead {
-    One { start: usize, end: usize },
-    NoWord,
+// The form of a keyword's argument of one word.
+pub enum Form {
+    Version,
+    FileName,
+    ModelName,
 }
 
-// What the word of a location line says, or nothing.
+// The place of a line's word in a list, or the line's fault.
+pub enum ListedRead {
+    Listed(usize),
+    Unlisted(LineFault),
+}
+
+// What a location line says, or its fault.
 pub enum LocationRead {
     Located(Location),
-    NoLocation,
+    NoLocation(LineFault),
 }
 
-// What the word of Model_type says, or nothing.
+// What the line Model_type says, or its fault.
 pub enum TypeRead {
     OfType(ModelType),
-    NoType,
+    NoType(LineFault),
 }

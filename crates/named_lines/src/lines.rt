@@ -1,16 +1,18 @@
-// A line's words and its name, and the one word or the number behind the name.
+// A line's words and its name, and the number behind the name.
 ghost use mathlib.Core.Path.{_≡_};
-ghost use Prim.Native.Nat.{_+_, _≤_};
+ghost use Prim.Native.Nat.{_+_, _^_, _≤_, _<_};
 ghost use lib.ListN.{length, drop};
 ghost use Rattle.laws.specs.Lists.{front};
-ghost use Rattle.decimal.specs.Answers.{cellRead};
-ghost use Rattle.words.specs.Words.{words};
+ghost use Rattle.decimal.specs.Decimal.{givenCell};
+ghost use Rattle.decimal.specs.Answers.{cellSays};
+ghost use Rattle.records.specs.Flaws.{toldIn, saidThere};
 ghost use Rattle.name_table.specs.Names.{placeFrom};
 ghost use Rattle.name_table.specs.Listed.{namesIn};
-ghost use Rattle.line_rules.specs.Fields.{nameOf, numberLine};
-ghost use Rattle.named_lines.specs.Places.{isNameByte, isNameAlone, onlyWord, namedWord, soleNumber, FirstWordIs, NameIs, WordIs};
-use crate::WordRead;
+ghost use Rattle.line_rules.specs.Fields.{nameOf, wordBy, exactly, numberLine};
+ghost use Rattle.line_rules.specs.Answers.{lineCell};
+ghost use Rattle.named_lines.specs.Places.{isNameByte, hasEquals, FirstWordIs, NameIs};
 use decimal::CellRead;
+use line_rules::LineCell;
 use name_table::Found;
 use name_table::NameList;
 use words::Word;
@@ -20,27 +22,6 @@ pub fn first_word(w: &[u8]) -> Word
     ensures { λ r. ⌜ FirstWordIs (now (w .entry)) r ⌝ }
 {
     words::word_at(w, 0)
-}
-
-// The one word from a place on.
-pub(crate) fn only_word(w: &[u8], at: usize) -> WordRead
-    requires { ⌜ at ≤ length (now w) ⌝ }
-    ensures { λ r. ⌜ WordIs (onlyWord (words (drop at (now (w .entry))))) (now (w .entry)) r ⌝ }
-{
-    let word = words::word_at(w, at);
-    let start = word.start;
-    let end = word.end;
-    if w.len() <= start {
-        return WordRead::NoWord;
-    }
-    let second = words::word_at(w, end);
-    if second.start < w.len() {
-        return WordRead::NoWord;
-    }
-    WordRead::One {
-        start: start,
-        end: end,
-    }
 }
 
 // A blank or `=` ends a name.
@@ -81,23 +62,6 @@ pub fn name_of(w: &[u8]) -> Word
     }
 }
 
-// Is the first word the name alone, with no `=` in it?
-fn is_alone(w: &[u8]) -> bool
-    ensures { λ r. ⌜ r ≡ isNameAlone (now (w .entry)) ⌝ }
-{
-    let first = first_word(w);
-    let start = first.start;
-    let end = first.end;
-    words::find(&w[start..end], 0, b'=') == end - start
-}
-
-// The same, of a part that is the whole line: who asks keeps the line itself in registers.
-pub fn name_alone(w: &[u8]) -> bool
-    ensures { λ r. ⌜ r ≡ isNameAlone (now (w .entry)) ⌝ }
-{
-    is_alone(&w[0..])
-}
-
 // The place of a line's name in a list.
 pub fn named_in(w: &[u8], list: NameList) -> Found
     ensures { λ r. ⌜ r ≡ placeFrom 0 (nameOf (now (w .entry))) (namesIn list) ⌝ }
@@ -108,41 +72,54 @@ pub fn named_in(w: &[u8], list: NameList) -> Found
     name_table::place(&w[start..end], list)
 }
 
-// The word of a line of two words, the first of them the name alone.
-pub fn named_word(w: &[u8]) -> WordRead
-    ensures { λ r. ⌜ WordIs (namedWord (now (w .entry))) (now (w .entry)) r ⌝ }
+// Does `=` stand at a place?
+pub fn equals_at(w: &[u8], at: usize) -> bool
+    ensures { λ r. ⌜ r ≡ hasEquals (drop at (now (w .entry))) ⌝ }
 {
-    if !name_alone(w) {
-        return WordRead::NoWord;
+    if w.len() <= at {
+        return false;
     }
-    let first = first_word(w);
-    let end = first.end;
-    only_word(w, end)
+    w[at] == b'='
+}
+
+// What the word that begins at a place says as a cell, or its fault there.
+fn cell_there(place: usize, read: CellRead) -> LineCell
+    requires { ⌜ place < 2 ^ 63 ⌝ }
+    ensures { λ r. ⌜ r ≡ lineCell (saidThere place (cellSays read)) ⌝ }
+{
+    match read {
+        CellRead::Read(cell) => LineCell::Stated(cell),
+        CellRead::Bad(fault) => LineCell::Misstated(records::at_fault(fault, place)),
+    }
 }
 
 // The number that stands from a place on, one word with nothing behind it.
-fn sole_number(w: &[u8], at: usize) -> CellRead
+fn sole_number(w: &[u8], at: usize) -> LineCell
     requires { ⌜ at ≤ length (now w) ⌝ }
-    ensures { λ r. ⌜ r ≡ cellRead (soleNumber (words (drop at (now (w .entry))))) ⌝ }
+    ensures { λ r. ⌜ r ≡ lineCell (toldIn (now (w .entry)) (exactly 1 (wordBy givenCell 0 (drop at (now (w .entry)))) (drop at (now (w .entry))))) ⌝ }
 {
-    match only_word(w, at) {
-        WordRead::One { start, end } => decimal::given_cell(&w[start..end]),
-        WordRead::NoWord => CellRead::Bad(10),
+    let word = words::word_at(w, at);
+    let start = word.start;
+    let end = word.end;
+    let next = words::skip_blanks(w, end);
+    if w.len() <= start {
+        return LineCell::Misstated(records::at_fault(10, next));
     }
+    if next < w.len() {
+        return LineCell::Misstated(records::at_fault(10, next));
+    }
+    cell_there(start, decimal::given_cell(&w[start..end]))
 }
 
 // The number of a line of name, `=` and number.
-pub fn number_line(w: &[u8]) -> CellRead
-    ensures { λ r. ⌜ r ≡ cellRead (numberLine (now (w .entry))) ⌝ }
+pub fn number_line(w: &[u8]) -> LineCell
+    ensures { λ r. ⌜ r ≡ lineCell (toldIn (now (w .entry)) (numberLine (now (w .entry)))) ⌝ }
 {
     let name = name_of(w);
     let end = name.end;
     let at = words::skip_blanks(w, end);
-    if w.len() <= at {
-        return CellRead::Bad(10);
-    }
-    if w[at] != b'=' {
-        return CellRead::Bad(10);
+    if !equals_at(w, at) {
+        return LineCell::Misstated(records::at_fault(10, at));
     }
     sole_number(w, at + 1)
 }

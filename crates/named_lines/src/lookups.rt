@@ -1,22 +1,26 @@
 // A line's name, and the word behind a name, looked up in document 01's lists.
 ghost use mathlib.Core.Path.{_≡_};
-ghost use Rattle.name_table.specs.Listed.{namesIn};
-ghost use Rattle.name_table.specs.Places.{meaningOf};
-ghost use Rattle.line_rules.specs.Fields.{lineAt, wordLine};
+ghost use mathlib.Core.Option.{some};
+ghost use Prim.Native.Nat.{_≤_, _<_};
+ghost use lib.ListN.{length, drop};
+ghost use Rattle.name_table.specs.Places.{meaningAt};
+ghost use Rattle.line_rules.specs.Fields.{lineAt, alone, wordLine};
+ghost use Rattle.records.specs.Flaws.{flawIn, told, toldIn};
 ghost use Rattle.line_rules.specs.Tables.{componentLines, packageLines, modelLines, rampLines, fixtures, locations, modelTypes, polarities, enables};
 ghost use Rattle.records.specs.declared.Polarity.the-variants.{NoPolarity};
 ghost use Rattle.records.specs.declared.Enable.the-variants.{NoEnable};
-ghost use Rattle.named_lines.specs.Views.{placeIn, locationRead, typeRead};
-ghost use Rattle.named_lines.specs.Places.{namedWord};
-ghost use Rattle.laws.specs.Said.{orElse, orFault};
+ghost use Rattle.named_lines.specs.Views.{placeIn, placeLine, listedRead, locationRead, typeRead};
+ghost use Rattle.laws.specs.Said.{orElse};
+use crate::ListedRead;
 use crate::LocationRead;
 use crate::TypeRead;
-use crate::WordRead;
+use crate::lines::equals_at;
+use crate::lines::name_of;
 use crate::lines::named_in;
-use crate::lines::named_word;
 use name_table::Found;
 use name_table::NameList;
 use records::Enable;
+use records::LineFault;
 use records::Location;
 use records::ModelType;
 use records::Polarity;
@@ -56,79 +60,108 @@ pub fn fixture_line(w: &[u8]) -> Found
     named_in(w, NameList::Fixtures)
 }
 
-// The place of the word behind a line's name in a list.
-fn word_in(w: &[u8], list: NameList) -> Found
-    ensures { λ r. ⌜ r ≡ placeIn (namedWord (now (w .entry))) (namesIn list) ⌝ }
+// ---- the word behind a line's name
+
+// One word from a place on, by its place in a list.
+fn sole_listed(w: &[u8], at: usize, list: NameList) -> ListedRead
+    requires { ⌜ at ≤ length (now w) ⌝ }
+    ensures { λ r. ⌜ r ≡ listedRead (toldIn (now (w .entry)) (alone (placeIn list) (drop at (now (w .entry))))) ⌝ }
 {
-    match named_word(w) {
-        WordRead::One { start, end } => name_table::place(&w[start..end], list),
-        WordRead::NoWord => Found::Nothing,
+    let word = words::word_at(w, at);
+    let start = word.start;
+    let end = word.end;
+    let Found::At(k) = name_table::place(&w[start..end], list) else {
+        return ListedRead::Unlisted(records::at_fault(10, start));
+    };
+    let next = words::skip_blanks(w, end);
+    if next < w.len() {
+        return ListedRead::Unlisted(records::at_fault(10, next));
+    }
+    ListedRead::Listed(k)
+}
+
+// The one word of a line by its place in a list.
+fn listed_word(w: &[u8], list: NameList) -> ListedRead
+    ensures { λ r. ⌜ r ≡ listedRead (toldIn (now (w .entry)) (placeLine list (now (w .entry)))) ⌝ }
+{
+    let name = name_of(w);
+    let end = name.end;
+    if equals_at(w, end) {
+        return ListedRead::Unlisted(records::at_fault(10, end));
+    }
+    sole_listed(w, end, list)
+}
+
+// What a line of a name and a word of a list tells.
+pub fn word_line_fault(w: &[u8], list: NameList) -> LineFault
+    ensures { λ r. ⌜ r ≡ told (now (w .entry)) (flawIn (placeLine list (now (w .entry)))) ⌝ }
+{
+    match listed_word(w, list) {
+        ListedRead::Listed(_) => records::bare_fault(0),
+        ListedRead::Unlisted(fault) => fault,
     }
 }
 
-fn location_at(found: Found) -> LocationRead
-    ensures { λ r. ⌜ r ≡ locationRead (orFault 10 (meaningOf locations found)) ⌝ }
+fn location_at(k: usize) -> Location
+    requires { ⌜ k < 2 ⌝ }
+    ensures { λ r. ⌜ some r ≡ meaningAt locations k ⌝ }
 {
-    let Found::At(k) = found else {
-        return LocationRead::NoLocation;
-    };
     match k {
-        0 => LocationRead::Located(Location::AtPin),
-        1 => LocationRead::Located(Location::AtDie),
-        _ => LocationRead::NoLocation,
+        0 => Location::AtPin,
+        _ => Location::AtDie,
     }
 }
 
 // The word of Si_location and Timing_location.
 pub fn location_of(w: &[u8]) -> LocationRead
-    ensures { λ r. ⌜ r ≡ locationRead (wordLine locations (now (w .entry))) ⌝ }
+    ensures { λ r. ⌜ r ≡ locationRead (toldIn (now (w .entry)) (wordLine locations (now (w .entry)))) ⌝ }
 {
-    location_at(word_in(w, NameList::Locations))
+    match listed_word(w, NameList::Locations) {
+        ListedRead::Listed(k) => LocationRead::Located(location_at(k)),
+        ListedRead::Unlisted(fault) => LocationRead::NoLocation(fault),
+    }
 }
 
-fn type_at(found: Found) -> TypeRead
-    ensures { λ r. ⌜ r ≡ typeRead (orFault 10 (meaningOf modelTypes found)) ⌝ }
+fn type_at(k: usize) -> ModelType
+    requires { ⌜ k < 15 ⌝ }
+    ensures { λ r. ⌜ some r ≡ meaningAt modelTypes k ⌝ }
 {
-    let Found::At(k) = found else {
-        return TypeRead::NoType;
-    };
     match k {
-        0 => TypeRead::OfType(ModelType::Input),
-        1 => TypeRead::OfType(ModelType::Output),
-        2 => TypeRead::OfType(ModelType::InputOutput),
-        3 => TypeRead::OfType(ModelType::ThreeState),
-        4 => TypeRead::OfType(ModelType::OpenDrain),
-        5 => TypeRead::OfType(ModelType::InputOutputOpenDrain),
-        6 => TypeRead::OfType(ModelType::OpenSink),
-        7 => TypeRead::OfType(ModelType::InputOutputOpenSink),
-        8 => TypeRead::OfType(ModelType::OpenSource),
-        9 => TypeRead::OfType(ModelType::InputOutputOpenSource),
-        10 => TypeRead::OfType(ModelType::InputEcl),
-        11 => TypeRead::OfType(ModelType::OutputEcl),
-        12 => TypeRead::OfType(ModelType::InputOutputEcl),
-        13 => TypeRead::OfType(ModelType::ThreeStateEcl),
-        14 => TypeRead::OfType(ModelType::Terminator),
-        _ => TypeRead::NoType,
+        0 => ModelType::Input,
+        1 => ModelType::Output,
+        2 => ModelType::InputOutput,
+        3 => ModelType::ThreeState,
+        4 => ModelType::OpenDrain,
+        5 => ModelType::InputOutputOpenDrain,
+        6 => ModelType::OpenSink,
+        7 => ModelType::InputOutputOpenSink,
+        8 => ModelType::OpenSource,
+        9 => ModelType::InputOutputOpenSource,
+        10 => ModelType::InputEcl,
+        11 => ModelType::OutputEcl,
+        12 => ModelType::InputOutputEcl,
+        13 => ModelType::ThreeStateEcl,
+        _ => ModelType::Terminator,
     }
 }
 
 // The word of Model_type.
 pub fn type_of(w: &[u8]) -> TypeRead
-    ensures { λ r. ⌜ r ≡ typeRead (wordLine modelTypes (now (w .entry))) ⌝ }
+    ensures { λ r. ⌜ r ≡ typeRead (toldIn (now (w .entry)) (wordLine modelTypes (now (w .entry)))) ⌝ }
 {
-    type_at(word_in(w, NameList::ModelTypes))
+    match listed_word(w, NameList::ModelTypes) {
+        ListedRead::Listed(k) => TypeRead::OfType(type_at(k)),
+        ListedRead::Unlisted(fault) => TypeRead::NoType(fault),
+    }
 }
 
-fn polarity_at(found: Found) -> Polarity
-    ensures { λ r. ⌜ r ≡ orElse NoPolarity (orFault 10 (meaningOf polarities found)) ⌝ }
+fn polarity_at(k: usize) -> Polarity
+    requires { ⌜ k < 2 ⌝ }
+    ensures { λ r. ⌜ some r ≡ meaningAt polarities k ⌝ }
 {
-    let Found::At(k) = found else {
-        return Polarity::NoPolarity;
-    };
     match k {
         0 => Polarity::Inverting,
-        1 => Polarity::NonInverting,
-        _ => Polarity::NoPolarity,
+        _ => Polarity::NonInverting,
     }
 }
 
@@ -136,19 +169,19 @@ fn polarity_at(found: Found) -> Polarity
 pub fn polarity_of(w: &[u8]) -> Polarity
     ensures { λ r. ⌜ r ≡ orElse NoPolarity (wordLine polarities (now (w .entry))) ⌝ }
 {
-    polarity_at(word_in(w, NameList::Polarities))
+    match listed_word(w, NameList::Polarities) {
+        ListedRead::Listed(k) => polarity_at(k),
+        ListedRead::Unlisted(_) => Polarity::NoPolarity,
+    }
 }
 
-fn enable_at(found: Found) -> Enable
-    ensures { λ r. ⌜ r ≡ orElse NoEnable (orFault 10 (meaningOf enables found)) ⌝ }
+fn enable_at(k: usize) -> Enable
+    requires { ⌜ k < 2 ⌝ }
+    ensures { λ r. ⌜ some r ≡ meaningAt enables k ⌝ }
 {
-    let Found::At(k) = found else {
-        return Enable::NoEnable;
-    };
     match k {
         0 => Enable::ActiveHigh,
-        1 => Enable::ActiveLow,
-        _ => Enable::NoEnable,
+        _ => Enable::ActiveLow,
     }
 }
 
@@ -156,5 +189,8 @@ fn enable_at(found: Found) -> Enable
 pub fn enable_of(w: &[u8]) -> Enable
     ensures { λ r. ⌜ r ≡ orElse NoEnable (wordLine enables (now (w .entry))) ⌝ }
 {
-    enable_at(word_in(w, NameList::Enables))
+    match listed_word(w, NameList::Enables) {
+        ListedRead::Listed(k) => enable_at(k),
+        ListedRead::Unlisted(_) => Enable::NoEnable,
+    }
 }

@@ -2,11 +2,11 @@
 use Prim.Native.Nat.{ℕ, _+_, _≤_, _<_, min}
 use mathlib.Core.Path.{_≡_, refl, sym, ap, _∙_, subst}
 use mathlib.Core.List.{List, [], _∷_}
-use mathlib.Core.Bool.{Bool, true, false, cond}
+use mathlib.Core.Bool.{true, false, cond}
 use native.Mathlib.Omega.{arith}
 use lib.ListN.{length, drop}
 use lib.Seq.{getD-drop}
-use lib.Dec.{leb}
+use lib.Dec.{eqb, leb}
 use borrow.Author.Tests.{le-leb, lt-leb, leb-false, eq-eqb, ne-eqb}
 use Rattle.laws.specs.Lists.{part}
 use Rattle.laws.proofs.Tests.{by-test, cond-yes, cond-no}
@@ -22,6 +22,8 @@ use Rattle.records.specs.declared.Kind.{Kind}
 use Rattle.records.specs.declared.Kind.the-variants.{OfComponent, OfPin, OfSelector, OfChoice, OfModel}
 use Rattle.rules.specs.declared.Event.the-variants.{WaveformOpened, TableRow, Ended}
 use Rattle.records.specs.declared.Lengths.{Lengths}
+use Rattle.records.specs.Flaws.{bare}
+use Rattle.records.specs.declared.LineFault.{LineFault}
 use Rattle.notes.specs.Noted.{Note, used, oneMore, moreWaveforms, moreRows, sections, rowNote, going, full, withNote}
 use Rattle.notes.proofs.Settles.{more-rows}
 use Rattle.note_words.specs.Store.{namesHeld, wordsPerSection, wordsPerRow, isSection, wordsPer, liesAt, wordsOfSection, SectionFits, cursorAt, sectionFrom, wordsOfRow, RowFits, rowFrom, noteAt, withName, logIn}
@@ -55,7 +57,7 @@ most-small OfChoice = omega arith
 most-small OfModel = omega arith
 
 module _ (l : Lengths) (t : Tally) (k : Kind) where
-  pub counted-full : bound l k ≤ used (t .counts) k → Full 17 (record { names = t .names + 1; counts = t .counts }) ≡ counted l t k
+  pub counted-full : bound l k ≤ used (t .counts) k → Full (bare 17) (record { names = t .names + 1; counts = t .counts }) ≡ counted l t k
   unfolding counted
   counted-full h = sym (cond-yes _ _ (le-leb (bound l k) (used (t .counts) k) h))
 
@@ -181,7 +183,7 @@ third-in s a e x y z f g h =
 -- ---- waveforms
 
 module _ (s xs : List ℕ) (l : Lengths) (t : Tally) (p : Spot) (ready : Ready s xs t p) where
-  pub waveform-full : min mostWaveforms (l .waveforms) ≤ t .counts .waveforms → loggedAt l s xs t p WaveformOpened ≡ full 17 (p .line) (logOf s xs t)
+  pub waveform-full : min mostWaveforms (l .waveforms) ≤ t .counts .waveforms → loggedAt l s xs t p WaveformOpened ≡ full (bare 17) (p .line) (logOf s xs t)
   unfolding logIn
   waveform-full h = rw (le-leb (min mostWaveforms (l .waveforms)) (t .counts .waveforms) h) refl
 
@@ -201,7 +203,7 @@ module _ (s xs : List ℕ) (l : Lengths) (t : Tally) (p : Spot) (ready : Ready s
 
   -- ---- table rows and the end
 
-  pub rows-full : l .rows ≤ t .counts .rows → loggedAt l s xs t p TableRow ≡ full 18 (p .line) (logOf s xs t)
+  pub rows-full : l .rows ≤ t .counts .rows → loggedAt l s xs t p TableRow ≡ full (bare 18) (p .line) (logOf s xs t)
   unfolding logIn
   rows-full h = rw (le-leb (l .rows) (t .counts .rows) h) refl
 
@@ -221,10 +223,11 @@ module _ (s xs : List ℕ) (l : Lengths) (t : Tally) (p : Spot) (ready : Ready s
   pub kept-same : KeptCounts xs t t
   kept-same = record { within = ready .within; filed = ready .filed; rows = omega arith }
 
-  pub end-none : (alone : Bool) → t .counts .components ≡ 0 → loggedAt l s xs t p (Ended alone) ≡ full 9 (p .line) (logOf s xs t)
+  pub end-none : (f : LineFault) → t .counts .components ≡ 0 → loggedAt l s xs t p (Ended f) ≡ full (bare 9) (p .line) (logOf s xs t)
   unfolding logIn
-  end-none alone h = rw (eq-eqb (t .counts .components) 0 h) refl
+  end-none f h = rw (eq-eqb (t .counts .components) 0 h) refl
 
-  pub end-some : (alone : Bool) → (t .counts .components ≡ 0 → ⊥) → loggedAt l s xs t p (Ended alone) ≡ cond alone (going (logOf s xs t)) (full 10 (p .line) (logOf s xs t))
+  pub end-some : (f : LineFault) → (t .counts .components ≡ 0 → ⊥)
+      → loggedAt l s xs t p (Ended f) ≡ cond (eqb (f .number) 0) (going (logOf s xs t)) (full f (p .line) (logOf s xs t))
   unfolding logIn
-  end-some alone h = rw (ne-eqb (t .counts .components) 0 h) refl
+  end-some f h = rw (ne-eqb (t .counts .components) 0 h) refl

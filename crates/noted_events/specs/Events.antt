@@ -12,6 +12,7 @@ use Rattle.cut_lines.specs.Cursors.{firstCursor, rest, past, CleanFrom, TextIs}
 use Rattle.cut_lines.specs.declared.Cursor.{Cursor}
 use Rattle.rules.specs.declared.Event.{Event}
 use Rattle.rules.specs.Whole.{bound}
+use Rattle.records.specs.Flaws.{bare}
 use Rattle.records.specs.Bounds.{most, mostWaveforms}
 use Rattle.records.specs.declared.Kind.{Kind}
 use Rattle.records.specs.declared.Kind.the-variants.{OfComponent, OfPin, OfSelector, OfChoice, OfModel}
@@ -32,7 +33,7 @@ logOf s xs t = logIn s xs (t .names) (t .counts)
 -- k is the line
 abbrev pub toldIs : List ℕ → List ℕ → ℕ → Told → Logged
 toldIs s xs k (Going t) = going (logOf s xs t)
-toldIs s xs k (Full n t) = full n k (logOf s xs t)
+toldIs s xs k (Full f t) = full f k (logOf s xs t)
 
 abbrev pub loggedAt : Lengths → List ℕ → List ℕ → Tally → Spot → Event → Logged
 loggedAt l s xs t p e = logged l (logOf s xs t) (plain (p .line) (part (p .start) (p .end) s)) (rest s (p .next)) e
@@ -49,7 +50,7 @@ rowIn p name model =
 -- a name that is noted is counted, or its table is full
 unfoldable pub counted : Lengths → Tally → Kind → Told
 counted l t k =
-    cond (leb (bound l k) (used (t .counts) k)) (Full 17 (record { names = t .names + 1; counts = t .counts }))
+    cond (leb (bound l k) (used (t .counts) k)) (Full (bare 17) (record { names = t .names + 1; counts = t .counts }))
     (Going (record { names = t .names + 1; counts = oneMore (t .counts) k }))
 
 -- a tally that stays within document 01's bounds
@@ -74,7 +75,7 @@ pub record KeptCounts (xs : List ℕ) (t u : Tally) : Type 0 where
 
 abbrev pub KeptBy : List ℕ → Tally → Told → Type 0
 KeptBy xs t (Going u) = KeptCounts xs t u
-KeptBy xs t (Full n u) = u .names ≤ mostNames
+KeptBy xs t (Full f u) = u .names ≤ mostNames
 
 -- a text of a file without faulty bytes, its lines counted from the first, with room in the store for what it adds
 pub record Ready (s xs : List ℕ) (t : Tally) (p : Spot) : Type 0 where

@@ -2,8 +2,10 @@
 ghost use mathlib.Core.Path.{_≡_};
 ghost use Prim.Native.Nat.{_+_, _<_, _^_};
 ghost use Rattle.rules.specs.declared.Event.the-variants.{Opened, PinRow, ChoiceRow, WaveformOpened, TableRow, Ended};
+ghost use Rattle.records.specs.Flaws.{bare};
 ghost use Rattle.note_words.specs.Store.{SectionFits, RowFits};
 ghost use Rattle.noted_events.specs.Events.{toldIs, loggedAt, counted, sectionIn, rowIn, Within, KeptBy, Ready};
+ghost use Rattle.noted_events.specs.declared.Told.the-variants.{Full};
 use crate::Spot;
 use crate::Tally;
 use crate::Told;
@@ -28,8 +30,22 @@ use note_words::put_section;
 use records::Counts;
 use records::Kind;
 use records::Lengths;
+use records::LineFault;
 use rules::Event;
 use words::Word;
+
+// There is no room, which tells no column.
+fn no_room(number: u8, t: Tally) -> Told
+    ensures { λ r. ⌜ r ≡ Full (bare number) t ⌝ }
+{
+    Told::Full(
+        LineFault {
+            number: number,
+            column: 0,
+        },
+        t,
+    )
+}
 
 // Counts a name that is noted, if its table has room.
 fn count_name(l: Lengths, t: Tally, k: Kind) -> Told
@@ -39,7 +55,7 @@ fn count_name(l: Lengths, t: Tally, k: Kind) -> Told
     let counts = t.counts;
     let names = t.names;
     if bound_of(l, k) <= used_of(counts, k) {
-        return Told::Full(
+        return no_room(
             17,
             Tally {
                 names: names + 1,
@@ -154,7 +170,7 @@ fn count_waveform(src: &[u8], notes: &[u16], l: Lengths, t: Tally, p: Spot) -> T
     let c = t.counts;
     let j = c.waveforms;
     if waveform_bound(l) <= j {
-        return Told::Full(17, t);
+        return no_room(17, t);
     }
     let mut d = c;
     d.waveforms = j + 1;
@@ -171,7 +187,7 @@ fn count_row(src: &[u8], notes: &[u16], l: Lengths, t: Tally, p: Spot) -> Told
 {
     let c = t.counts;
     if l.rows <= c.rows {
-        return Told::Full(18, t);
+        return no_room(18, t);
     }
     let mut d = c;
     d.rows = c.rows + 1;
@@ -181,20 +197,20 @@ fn count_row(src: &[u8], notes: &[u16], l: Lengths, t: Tally, p: Spot) -> Told
     })
 }
 
-// [End], standing alone or not: a file has a component.
-fn end_file(src: &[u8], notes: &[u16], l: Lengths, t: Tally, p: Spot, alone: bool) -> Told
+// [End], with the fault of its own line: a file has a component.
+fn end_file(src: &[u8], notes: &[u16], l: Lengths, t: Tally, p: Spot, f: LineFault) -> Told
     requires { ⌜ Ready (now src) (now notes) t p ⌝ }
-    ensures { λ r. ⌜ loggedAt l (now (src .entry)) (now (notes .entry)) t p (Ended alone) ≡ toldIs (now (src .entry)) (now (notes .entry)) (p .line) r ⌝ }
+    ensures { λ r. ⌜ loggedAt l (now (src .entry)) (now (notes .entry)) t p (Ended f) ≡ toldIs (now (src .entry)) (now (notes .entry)) (p .line) r ⌝ }
     ensures { λ r. ⌜ KeptBy (now (notes .entry)) t r ⌝ }
 {
     let c = t.counts;
     if c.components == 0 {
-        return Told::Full(9, t);
+        return no_room(9, t);
     }
-    if alone {
+    if f.number == 0 {
         return Told::Going(t);
     }
-    Told::Full(10, t)
+    Told::Full(f, t)
 }
 
 // Notes what a line's event adds.
@@ -210,6 +226,6 @@ pub fn note_event(notes: &mut [u16], src: &[u8], l: Lengths, t: Tally, p: Spot, 
         Event::ChoiceRow => note_choice(notes, src, l, t, p),
         Event::WaveformOpened => count_waveform(src, notes, l, t, p),
         Event::TableRow => count_row(src, notes, l, t, p),
-        Event::Ended(alone) => end_file(src, notes, l, t, p, alone),
+        Event::Ended(f) => end_file(src, notes, l, t, p, f),
     }
 }

@@ -1,6 +1,7 @@
 // What a line adds to a file, noted in the store and counted, as long as there is room.
 use cut_lines::Cursor;
 use records::Counts;
+use records::LineFault;
 
 pub mod places; // places.rt: where a line's words and its argument lie in the file
 pub mod room; // room.rt: how much of each table is used, and how much may be
@@ -20,8 +21,8 @@ pub struct Tally {
     pub counts: Counts,
 }
 
-// What a line adds is noted, or there is no room for it: the fault's number.
+// What a line adds is noted, or there is no room for it: the line's fault.
 pub enum Told {
     Going(Tally),
-    Full(u8, Tally),
+    Full(LineFault, Tally),
 }

@@ -122,8 +122,8 @@ module _ (l : Lengths) (past : ℕ) where
   keeps-event g t ts go ih WaveformOpened = λ k h.
       by-test (leb (min mostWaveforms (l .waveforms)) (g .counts .waveforms)) (λ u. rw u h) (λ u. rw u (ih _ k h))
   keeps-event g t ts go ih TableRow = λ k h. by-test (leb (l .rows) (g .counts .rows)) (λ u. rw u h) (λ u. rw u (ih _ k h))
-  keeps-event g t ts go ih (Ended true) = λ k h. by-test (eqb (g .counts .components) 0) (λ u. rw u h) (λ u. rw u (ih g k h))
-  keeps-event g t ts go ih (Ended false) = λ k h. by-test (eqb (g .counts .components) 0) (λ u. rw u h) (λ u. rw u h)
+  keeps-event g t ts go ih (Ended f) = λ k h.
+      by-test (eqb (g .counts .components) 0) (λ u. rw u h) (λ u. by-test (eqb (f .number) 0) (λ v. rw (u, v) (ih g k h)) (λ v. rw (u, v) h))
 
   keeps-out : (s : Stage) (g : Log) → Keeps g (outOfLines past g s)
   keeps-out s g k h = by-test (isEnded s) (λ u. rw u h) (λ u. rw u h)
@@ -184,13 +184,12 @@ module _ (l : Lengths) (past : ℕ) where
   settles-event g t ts go og kept ih c n TableRow =
       by-test (leb (l .rows) (g .counts .rows)) (λ u. rw u rw n refl)
       (λ u. rw u (ih (record { notes = g .notes; counts = moreRows (g .counts) }) (λ k. row-used (g .counts) k ∙ c k) n))
-  settles-event g t ts go og kept ih c n (Ended true) =
-      by-test (eqb (g .counts .components) 0) (λ u. rw (sym (c OfComponent)) rw u rw n refl) (λ u. rw (sym (c OfComponent)) rw u (ih g c n))
-  settles-event g t ts go og kept ih c n (Ended false) =
-      by-test (eqb (g .counts .components) 0) (λ u. rw (sym (c OfComponent)) rw u rw n refl) (λ u. rw (sym (c OfComponent)) rw u rw n refl)
+  settles-event g t ts go og kept ih c n (Ended f) =
+      by-test (eqb (g .counts .components) 0) (λ u. rw (sym (c OfComponent)) rw u rw n refl)
+      (λ u. by-test (eqb (f .number) 0) (λ v. rw (sym (c OfComponent)) rw (u, v) (ih g c n)) (λ v. rw (sym (c OfComponent)) rw (u, v) rw n refl))
 
   settles-out : (s : Stage) (g : Log) → clash (entries g) ≡ none
-      → Settles g (cond (isEnded s) (passed (heldOf g)) (refused 19 past)) (outOfLines past g s)
+      → Settles g (cond (isEnded s) (passed (heldOf g)) (refused 19 past 0)) (outOfLines past g s)
   settles-out s g n = by-test (isEnded s) (λ u. rw (u, n)) (λ u. rw (u, n))
 
   settles-went : (g : Log) (t : Text) (ts : List Text) → SettlesFrom ts → Counted g → clash (entries g) ≡ none → (w : Went)

@@ -5,7 +5,9 @@ use mathlib.Core.Bool.{Bool, true, false, cond}
 use mathlib.Core.Option.{Option, none, some}
 use lib.Dec.{eqb, leb}
 use Rattle.words.specs.Words.{word, words}
+use Rattle.records.specs.Flaws.{bare, atLine}
 use Rattle.records.specs.declared.Fault.{Fault}
+use Rattle.records.specs.declared.LineFault.{LineFault}
 use Rattle.keywords.specs.Form.{argument}
 use Rattle.keywords.specs.declared.Section.{Section}
 use Rattle.keywords.specs.declared.Section.the-variants.{Component, Selector, Model}
@@ -101,12 +103,13 @@ rowNote x k n w = record { kind = x; line = k; name = word 0 (words w); names = 
 
 pub data Logged : Type 0 where
   going : Log → Logged
-  full : ℕ → ℕ → Log → Logged
+  -- the line's fault, and its number
+  full : LineFault → ℕ → Log → Logged
 
 unfoldable pub withNote : Lengths → Log → Note → Logged
 withNote l g n =
     cond (leb (bound l (n .kind)) (used (g .counts) (n .kind)))
-    (full 17 (n .line) (record { notes = n ∷ g .notes; counts = g .counts }))
+    (full (bare 17) (n .line) (record { notes = n ∷ g .notes; counts = g .counts }))
     (going (record { notes = n ∷ g .notes; counts = oneMore (g .counts) (n .kind) }))
 
 abbrev pub logged : Lengths → Log → Text → List Text → Event → Logged
@@ -115,14 +118,14 @@ logged l g t ts (Opened o) = withNote l g (sectionNote (g .counts) (lineOf t) (a
 logged l g t ts PinRow = withNote l g (rowNote OfPin (lineOf t) 2 (textOf t))
 logged l g t ts ChoiceRow = withNote l g (rowNote OfChoice (lineOf t) 0 (textOf t))
 logged l g t ts WaveformOpened =
-    cond (leb (min mostWaveforms (l .waveforms)) (g .counts .waveforms)) (full 17 (lineOf t) g)
+    cond (leb (min mostWaveforms (l .waveforms)) (g .counts .waveforms)) (full (bare 17) (lineOf t) g)
     (going (record { notes = g .notes; counts = moreWaveforms (g .counts) }))
 logged l g t ts TableRow =
-    cond (leb (l .rows) (g .counts .rows)) (full 18 (lineOf t) g)
+    cond (leb (l .rows) (g .counts .rows)) (full (bare 18) (lineOf t) g)
     (going (record { notes = g .notes; counts = moreRows (g .counts) }))
-logged l g t ts (Ended alone) =
-    cond (eqb (g .counts .components) 0) (full 9 (lineOf t) g)
-    (cond alone (going g) (full 10 (lineOf t) g))
+logged l g t ts (Ended f) =
+    cond (eqb (g .counts .components) 0) (full (bare 9) (lineOf t) g)
+    (cond (eqb (f .number) 0) (going g) (full f (lineOf t) g))
 
 -- ---- lines from the top, names not compared yet: the first fault, and what is noted up to it
 
@@ -133,20 +136,20 @@ pub record Finish : Type 0 where
 abbrev pub whole : Log → Finish
 whole g = record { fault = none; log = g }
 
-abbrev pub broken : ℕ → ℕ → Log → Finish
-broken n k g = record { fault = some (record { number = n; line = k }); log = g }
+abbrev pub broken : Fault → Log → Finish
+broken f g = record { fault = some f; log = g }
 
 -- "A file that runs out gives 19"
 abbrev pub outOfLines : ℕ → Log → Stage → Finish
-outOfLines past g s = cond (isEnded s) (whole g) (broken 19 past g)
+outOfLines past g s = cond (isEnded s) (whole g) (broken (atLine past (bare 19)) g)
 
 abbrev pub afterLogged : (Log → Finish) → Logged → Finish
 afterLogged go (going g) = go g
-afterLogged go (full n k g) = broken n k g
+afterLogged go (full f k g) = broken (atLine k f) g
 
 abbrev pub afterWent : Lengths → Log → Text → List Text → (Stage → Log → Finish) → Went → Finish
 afterWent l g t ts go (On s e) = afterLogged (go s) (logged l g t ts e)
-afterWent l g t ts go (Stop f) = broken (f .number) (f .line) g
+afterWent l g t ts go (Stop f) = broken f g
 
 unfoldable pub runLog : Lengths → ℕ → Stage → Log → List Text → Finish
 runLog l past s g [] = outOfLines past g s
@@ -166,8 +169,8 @@ clash (e ∷ es) = orUsed e (isUsed (e .kind) (e .name) es) (clash es)
 -- a name used twice wins over the fault found, which stands at a later line, or at the same line and comes later
 abbrev pub outcomeIs : Log → Option Fault → Outcome
 outcomeIs g none = passed (heldOf g)
-outcomeIs g (some f) = refused (f .number) (f .line)
+outcomeIs g (some f) = refused (f .number) (f .line) (f .column)
 
 abbrev pub settled : Finish → Option ℕ → Outcome
-settled f (some k) = refused 14 k
+settled f (some k) = refused 14 k 0
 settled f none = outcomeIs (f .log) (f .fault)

@@ -17,9 +17,9 @@ use Rattle.table_records.specs.declared.StoredRow.{StoredRow}
 use Rattle.table_records.specs.declared.StoredRow.the-variants.{Kept, NoRow}
 use Rattle.questions.specs.declared.PinValues.{PinValues}
 
--- the version of the records, as the header tells it: the first had models without their capacitance by structure
+-- the version of the records, as the header tells it: the first had models without their capacitance by structure, the second answers without column
 abbrev pub version : ℕ
-version = 2
+version = 3
 
 abbrev pub lengthsAre : ℕ → ℕ → ℕ → ℕ → ℕ → ℕ → ℕ → Lengths
 lengthsAre c p s h m w r = record { components = c; pins = p; selectors = s; choices = h; models = m; waveforms = w; rows = r }

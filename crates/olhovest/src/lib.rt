@@ -2,7 +2,7 @@
 ghost use mathlib.Core.Path.{_≡_};
 ghost use Rattle.rules.specs.Whole.{outcome};
 ghost use Rattle.file_answer.specs.Answered.{verdictOf};
-ghost use Rattle.table_words.specs.Packed.{faultNumber, faultLine, wordTables};
+ghost use Rattle.table_words.specs.Packed.{faultNumber, faultLine, faultColumn, wordTables};
 ghost use Rattle.olhovest.specs.Exported.{version, lengthsAre, Exports};
 use record_words::ANSWER_WORDS;
 use records::Lengths;
@@ -31,18 +31,18 @@ fn lengths_are(
     }
 }
 
-// The version of the records. A function over records that moved has the version that moved them in its name, so that a program compiled
-// for others does not link.
+// The version of the records. A function over records that moved, or that takes something more, has the version that moved it in its name, so that
+// a program compiled for another does not link.
 #[no_mangle]
 pub extern "C" fn olhovest_version() -> u64
     ensures { λ r. ⌜ r ≡ version ⌝ }
 {
-    2
+    3
 }
 
 // Whether a file would be accepted, if tables of these many records were lent.
 #[no_mangle]
-pub extern "C" fn olhovest_check(
+pub extern "C" fn olhovest_check_3(
     src: &[u8],
     components: usize,
     pins: usize,
@@ -52,9 +52,11 @@ pub extern "C" fn olhovest_check(
     waveforms: usize,
     rows: usize,
     line: &mut u64,
+    column: &mut u64,
 ) -> u8
     ensures { λ r. ⌜ r ≡ faultNumber (verdictOf (outcome (lengthsAre components pins selectors choices models waveforms rows) (now (src .entry)))) ⌝ }
     ensures { λ _. ⌜ now (line .exit) ≡ faultLine (verdictOf (outcome (lengthsAre components pins selectors choices models waveforms rows) (now (src .entry)))) ⌝ }
+    ensures { λ _. ⌜ now (column .exit) ≡ faultColumn (verdictOf (outcome (lengthsAre components pins selectors choices models waveforms rows) (now (src .entry)))) ⌝ }
 {
     let l = lengths_are(
         components,
@@ -67,12 +69,13 @@ pub extern "C" fn olhovest_check(
     );
     let v = file_answer::check(src, l);
     *line = table_words::fault_line(v);
+    *column = table_words::fault_column(v);
     table_words::fault_number(v)
 }
 
 // Reads a file into the lent tables.
 #[no_mangle]
-pub extern "C" fn olhovest_read_2(
+pub extern "C" fn olhovest_read_3(
     src: &[u8],
     components: &mut [u64],
     pins: &mut [u64],

@@ -60,7 +60,7 @@ module _ (s : List ℕ) (cs : List Component) (ps : List Pin) (ss : List Selecto
 
   fits-for : (ns : List ℕ) (o : Outcome) → SortedFor l s ns o → FitsBy s ns (answerFor (fileIn (textsOf s)) o .counts) cs ps ss hs ms ws rs
   fits-for ns (passed h) sorted = fits-whole ns sorted
-  fits-for ns (refused n k) u = (zero-le, (zero-le, (zero-le, (zero-le, none-fit s ns ms ws rs))))
+  fits-for ns (refused n k c) u = (zero-le, (zero-le, (zero-le, (zero-le, none-fit s ns ms ws rs))))
 
   abbrev LeftBy : List ℕ → Answer → Type 0
   LeftBy n a =
@@ -85,14 +85,14 @@ module _ (s : List ℕ) (cs : List Component) (ps : List Pin) (ss : List Selecto
             rw (rows-made l s ns sorted) refl;
       }
 
-  left-none : (ns : List ℕ) (n k : ℕ) → outcome l s ≡ refused n k → LeftBy ns (answerOf l s)
+  left-none : (ns : List ℕ) (n k c : ℕ) → outcome l s ≡ refused n k c → LeftBy ns (answerOf l s)
   unfolding answerOf
-  left-none ns n k is =
+  left-none ns n k c is =
       rw is record { answer = sym (ap (answerFor (fileIn (textsOf s))) is); tables = rw is rw (none-waveforms s ns ws) rw (none-rows s ns rs) refl }
 
   left-for : (ns : List ℕ) (o : Outcome) → outcome l s ≡ o → SortedFor l s ns o → LeftBy ns (answerOf l s)
   left-for ns (passed h) is sorted = left-whole ns h is sorted
-  left-for ns (refused n k) is u = left-none ns n k is
+  left-for ns (refused n k c) is u = left-none ns n k c is
 
   module _ (r : Answer) (ns : List ℕ) (said : Outlines l s r ns) where
     pub fits : FitsBy s ns (r .counts) cs ps ss hs ms ws rs

@@ -24,8 +24,8 @@ module _ (s : List ℕ) (t : Lent) (r : Answer) (u : Lent) (reads : Reads s t r 
   file = laid (fileIn (textsOf s))
 
   -- a file with a fault is refused, with that fault, and nothing is written
-  module _ (n k : ℕ) (is : outcome (lengthsIn t) s ≡ refused n k) where
-    pub refuses-it : r .verdict ≡ Refused (record { number = n; line = k })
+  module _ (n k c : ℕ) (is : outcome (lengthsIn t) s ≡ refused n k c) where
+    pub refuses-it : r .verdict ≡ Refused (record { number = n; line = k; column = c })
     unfolding answerOf
     refuses-it = ap (λ (a : Answer). a .verdict) (reads .answer ∙ ap (answerFor (fileIn (textsOf s))) is)
 

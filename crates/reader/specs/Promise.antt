@@ -34,7 +34,7 @@ abbrev pub left : Outcome → Laid → Lent → Lent
 left (passed h) a t =
     tables (over (t .components) (a .components)) (over (t .pins) (a .pins)) (over (t .selectors) (a .selectors)) (over (t .choices) (a .choices))
     (over (t .models) (a .models)) (over (t .waveforms) (a .waveforms)) (over (t .rows) (stored (a .rows)))
-left (refused n k) a t = t
+left (refused n k c) a t = t
 
 -- file s is read into tables t: r is answered, and the tables then are u
 pub record Reads (s : List ℕ) (t : Lent) (r : Answer) (u : Lent) : Type 0 where

@@ -46,6 +46,6 @@ pub const WAVEFORM_WORDS: usize = 10 + SPAN_WORDS;
 
 pub const ROW_WORDS: usize = 4;
 
-pub const COUNT_WORDS: usize = 8;
+pub const COUNT_WORDS: usize = 9;
 
 pub const ANSWER_WORDS: usize = COUNT_WORDS + 2 * TEXT_WORDS;

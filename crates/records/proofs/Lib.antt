@@ -1,3 +1,4 @@
 -- Laws of the code, and what the definitions must keep.
+pub mod Columns
 pub mod Copies
 pub mod Sanity

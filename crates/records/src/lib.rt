@@ -1,6 +1,8 @@
-// The types that everybody needs: the records of the tables, the counts, what is named in a file, and a fault with its line; document 01's
+// The types that everybody needs: the records of the tables, the counts, what is named in a file, and a fault with its line and column; document 01's
 // bounds; texts as they lie in a record; and model types by number.
 ghost use mathlib.Core.Path.{_≡_};
+ghost use Prim.Native.Nat.{_^_, _<_};
+ghost use Rattle.records.specs.Flaws.{atPlace, bare};
 ghost use Rattle.records.specs.Types.{typeNumber};
 use decimal::Cell;
 use decimal::Decimal;
@@ -29,10 +31,38 @@ pub const MOST_WAVEFORMS: usize = 1024;
 
 // ---- faults and answers
 
-// A fault of document 01: its number and the line told.
+// A fault of document 01: its number, and the line and the column told.
 pub struct Fault {
     pub number: u8,
     pub line: u64,
+    pub column: u64,
+}
+
+// What a line by itself tells of its fault: number and column; 0 and 0 where it has none.
+pub struct LineFault {
+    pub number: u8,
+    pub column: u64,
+}
+
+// Fault 10, 11 or 12 of a line, told at the character at a place.
+pub fn at_fault(number: u8, place: usize) -> LineFault
+    requires { ⌜ place < 2 ^ 63 ⌝ }
+    ensures { λ r. ⌜ r ≡ atPlace number place ⌝ }
+{
+    LineFault {
+        number: number,
+        column: place as u64 + 1,
+    }
+}
+
+// A fault that tells no column; with number 0, none.
+pub fn bare_fault(number: u8) -> LineFault
+    ensures { λ r. ⌜ r ≡ bare number ⌝ }
+{
+    LineFault {
+        number: number,
+        column: 0,
+    }
 }
 
 pub enum Verdict {

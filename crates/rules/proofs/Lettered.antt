@@ -14,8 +14,9 @@ use Rattle.laws.specs.Said.{fault}
 use Rattle.laws.proofs.Tests.{by-test, by-order, never}
 use Rattle.laws.proofs.Bytes.{letter-below, digit-above}
 use Rattle.decimal.specs.Decimal.{numberOf, afterSign, unsigned, figures, pointPlaces}
-use Rattle.words.specs.Words.{word}
-use Rattle.line_rules.specs.Fields.{exactly, rowOf}
+use Rattle.words.specs.Words.{word, words, restFrom}
+use Rattle.records.specs.Flaws.{flaw}
+use Rattle.line_rules.specs.Fields.{wordBy, exactly, rowOf}
 use Rattle.rules.specs.Model.{beginsLetter}
 
 letter-from : (b : ℕ) → isLetter b ≡ true → code "A" ≤ b
@@ -31,6 +32,7 @@ letter-no-number (b ∷ bs) h =
     let point : eqb b (code ".") ≡ false = ne-eqb b 46 (λ e. omega arith) in
     simp (plus, minus, point, digit-above b (omega arith))
 
-pub letter-no-row : (ws : List (List ℕ)) → beginsLetter (word 0 ws) ≡ true → rowOf ws ≡ fault (cond (eqb (length ws) 4) 11 10)
-unfolding rowOf exactly
-letter-no-row ws h = by-test (eqb (length ws) 4) (λ e. rw (e, letter-no-number (word 0 ws) h)) (λ e. rw e)
+pub letter-no-row : (w : List ℕ) → beginsLetter (word 0 (words w)) ≡ true
+    → rowOf w ≡ fault (cond (eqb (length (words w)) 4) (flaw 11 (restFrom 0 w)) (flaw 10 (restFrom 4 w)))
+unfolding rowOf exactly wordBy
+letter-no-row w h = by-test (eqb (length (words w)) 4) (λ e. rw (e, letter-no-number (word 0 (words w)) h)) (λ e. rw e)

@@ -6,6 +6,6 @@ use Rattle.cut_lines.specs.Texts.{textsFrom}
 use Rattle.rules.specs.Whole.{refused, runs, textsOf, outcome}
 use Rattle.records.specs.declared.Lengths.{Lengths}
 
-pub empty-file : (l : Lengths) → outcome l [] ≡ refused 19 1
+pub empty-file : (l : Lengths) → outcome l [] ≡ refused 19 1 0
 unfolding outcome runs textsOf textsFrom linesOf faultFrom bytesFault
 empty-file l = refl

@@ -2,22 +2,24 @@
 use Prim.Native.Nat.{ℕ}
 use mathlib.Core.List.{List, map}
 use mathlib.Core.Bool.{Bool, true, false, cond, not, _&&_, _||_}
-use lib.ListN.{length, drop}
+use lib.ListN.{length}
 use lib.Dec.{eqb, leb}
 use Rattle.laws.specs.Bytes.{capital}
-use Rattle.laws.specs.Said.{Said, says, faultIn, orElse}
+use Rattle.laws.specs.Said.{says, orElse}
 use Rattle.decimal.specs.Decimal.{cellOf}
-use Rattle.words.specs.Words.{word, words}
+use Rattle.words.specs.Words.{word, words, restFrom}
+use Rattle.keywords.specs.Form.{argument}
 use Rattle.keywords.specs.declared.ComponentPart.{ComponentPart}
 use Rattle.keywords.specs.declared.ComponentPart.the-variants.{Manufacturer, Package, Pin}
+use Rattle.records.specs.Flaws.{Flaw, Reads, flaw, sound, flawIn, told}
 use Rattle.records.specs.Stored.{nameLaid, noCells}
 use Rattle.records.specs.declared.Triple.{Triple}
 use Rattle.records.specs.declared.Pin as pin
-use Rattle.line_rules.specs.Fields.{isSized, isPinName, isPinModel, needsNoModel, cellsBy, lineAt, wordLine, cellsLine, heading}
+use Rattle.line_rules.specs.Fields.{isSized, isPinName, isPinModel, needsNoModel, cellsBy, noArgument, lineAt, wordLine, cellsLine, heading}
 use Rattle.line_rules.specs.Tables.{componentLines, locations, packageLines}
 use Rattle.given.specs.Given.{noneGiven, has, gave}
 use Rattle.given.specs.declared.Given.{Given}
-use Rattle.rules.specs.Going.{stop, unless, refuse, quietly, once, namedLine}
+use Rattle.rules.specs.Going.{stop, passes, refuse, quietly, once, namedLine}
 use Rattle.rules.specs.declared.ComponentList.{ComponentList}
 use Rattle.rules.specs.declared.ComponentList.the-variants.{ComponentFirst, ComponentShut, PackageLines, PinRows}
 use Rattle.rules.specs.declared.ComponentState.{ComponentState}
@@ -36,33 +38,34 @@ unfoldable pub keptModel : List ℕ → List ℕ
 keptModel w = cond (needsNoModel w) (map capital w) w
 
 -- the cells behind the three names; where none stand, they are missing
-unfoldable pub pinCells : List (List ℕ) → Said Triple
-pinCells ws = cond (eqb (length ws) 0) (says noCells) (cellsBy cellOf ws)
+unfoldable pub pinCells : List ℕ → Reads Triple
+pinCells v = cond (eqb (length (words v)) 0) (says noCells) (cellsBy cellOf v)
 
 abbrev pub pinFrom : List (List ℕ) → Triple → pin.Pin
 pinFrom ws c =
     record { name = nameLaid (word 0 ws); signal = nameLaid (word 1 ws); model = nameLaid (keptModel (word 2 ws)); resistance = c .typ; inductance = c .min; capacitance = c .max }
 
 unfoldable pub pinIn : List ℕ → pin.Pin
-pinIn w = pinFrom (words w) (orElse noCells (pinCells (drop 3 (words w))))
+pinIn w = pinFrom (words w) (orElse noCells (pinCells (restFrom 3 w)))
 
--- cells stand "under the long heading" alone
-unfoldable pub isPin : Bool → List (List ℕ) → Bool
-isPin long ws = isPinName (word 0 ws) && (isSized 40 (word 1 ws) && (isPinModel (word 2 ws) && (long || leb (length ws) 3)))
-
-unfoldable pub pinFault : Bool → List (List ℕ) → ℕ
-pinFault long ws = cond (isPin long ws) (faultIn (pinCells (drop 3 ws))) 10
+-- the names from the left, a missing word being none; cells stand "under the long heading" alone
+unfoldable pub pinFlaw : Bool → List ℕ → Flaw
+pinFlaw long w =
+    cond (not (isPinName (word 0 (words w)))) (flaw 10 (restFrom 0 w))
+    (cond (not (isSized 40 (word 1 (words w)))) (flaw 10 (restFrom 1 w))
+    (cond (not (isPinModel (word 2 (words w)))) (flaw 10 (restFrom 2 w))
+    (cond (long || leb (length (words w)) 3) (flawIn (pinCells (restFrom 3 w))) (flaw 10 (restFrom 3 w)))))
 
 -- ---- a line that is no keyword line, by the list that is open: "at most one each of Si_location and Timing_location, `Pin` or `Die`";
 -- "R_pkg, L_pkg, C_pkg once each, three cells typ min max"
 
 abbrev pub componentLine : ComponentState → ℕ → List ℕ → ComponentList → Went
 componentLine c k w ComponentFirst =
-    namedLine (c .first) (lineAt componentLines w) (faultIn (wordLine locations w)) k (λ g. InComponent (record { line = c .line; first = g; parts = c .parts; list = c .list }))
+    namedLine (c .first) (lineAt componentLines w) (flawIn (wordLine locations w)) k w (λ g. InComponent (record { line = c .line; first = g; parts = c .parts; list = c .list }))
 componentLine c k w ComponentShut = stop 7 k
 componentLine c k w (PackageLines o g) =
-    namedLine g (lineAt packageLines w) (faultIn (cellsLine w)) k (λ h. InComponent (withList c (PackageLines o h)))
-componentLine c k w (PinRows o long any) = unless (pinFault long (words w)) k (On (InComponent (withList c (PinRows o long true))) PinRow)
+    namedLine g (lineAt packageLines w) (flawIn (cellsLine w)) k w (λ h. InComponent (withList c (PackageLines o h)))
+componentLine c k w (PinRows o long any) = passes (told w (pinFlaw long w)) k (On (InComponent (withList c (PinRows o long true))) PinRow)
 
 -- ---- "[Manufacturer] (1 to 40 characters), [Package], [Pin]: each once, any order"
 
@@ -71,20 +74,20 @@ componentPlace Manufacturer = 0
 componentPlace Package = 1
 componentPlace Pin = 2
 
-abbrev pub componentFault : List ℕ → ComponentPart → ℕ
-componentFault argument Manufacturer = cond (isSized 40 argument) 0 10
-componentFault argument Package = cond (eqb (length argument) 0) 0 10
-componentFault argument Pin = faultIn (heading (words argument))
+abbrev pub componentFlaw : List ℕ → ComponentPart → Flaw
+componentFlaw argument Manufacturer = cond (isSized 40 argument) sound (flaw 10 argument)
+componentFlaw argument Package = noArgument argument
+componentFlaw argument Pin = flawIn (heading argument)
 
 abbrev pub componentOpens : ℕ → List ℕ → ComponentPart → ComponentList
 componentOpens k argument Manufacturer = ComponentShut
 componentOpens k argument Package = PackageLines k noneGiven
-componentOpens k argument Pin = PinRows k (orElse false (heading (words argument))) false
+componentOpens k argument Pin = PinRows k (orElse false (heading argument)) false
 
 unfoldable pub componentPart : ComponentState → ℕ → List ℕ → ComponentPart → Went
-componentPart c k argument p =
-    once (c .parts) (componentPlace p) (componentFault argument p) k
-    (λ g. InComponent (record { line = c .line; first = c .first; parts = g; list = componentOpens k argument p }))
+componentPart c k w p =
+    once (c .parts) (componentPlace p) (told w (componentFlaw (argument w) p)) k
+    (λ g. InComponent (record { line = c .line; first = c .first; parts = g; list = componentOpens k (argument w) p }))
 
 -- ---- closing
 

@@ -1,26 +1,25 @@
 -- Document 01, "Sections": the header.
 use Prim.Native.Nat.{ℕ}
 use mathlib.Core.List.{List}
-use mathlib.Core.Bool.{Bool, false, cond, not, _&&_}
+use mathlib.Core.Bool.{Bool, false, cond, _&&_}
 use lib.ListN.{length}
 use lib.Dec.{eqb, leb}
-use Rattle.laws.specs.Bytes.{bytes}
-use Rattle.laws.specs.Lists.{eqs}
-use Rattle.words.specs.Words.{words}
+use Rattle.keywords.specs.Form.{argument}
 use Rattle.keywords.specs.declared.HeaderPart.{HeaderPart}
 use Rattle.keywords.specs.declared.HeaderPart.the-variants.{FileName, FileRev, FreeText}
 use Rattle.keywords.specs.declared.HeaderText.the-variants.{Date, Source, Notes, Disclaimer, Copyright}
-use Rattle.line_rules.specs.Fields.{isFileName, oneWord}
+use Rattle.records.specs.Flaws.{Flaw, flaw, sound, flawIn, told}
+use Rattle.line_rules.specs.Fields.{isFileName, isVersion, alone, passing}
 use Rattle.given.specs.Given.{noneGiven, has}
-use Rattle.rules.specs.Going.{stop, refuse, quietly, once}
+use Rattle.rules.specs.Going.{stop, passes, quietly, once}
 use Rattle.rules.specs.declared.HeaderState.{HeaderState}
 use Rattle.rules.specs.declared.Stage.the-variants.{InHeader}
 use Rattle.rules.specs.declared.Went.{Went}
 
--- "[IBIS Ver] is the first keyword, argument `5.0`"
+-- [IBIS Ver] on line k, which has the text w
 unfoldable pub version : ℕ → List ℕ → Went
-version k argument =
-    refuse (not (eqs argument (bytes "5.0"))) 10 k (quietly (InHeader (record { line = k; text = false; parts = noneGiven })))
+version k w =
+    passes (told w (flawIn (alone (passing isVersion) (argument w)))) k (quietly (InHeader (record { line = k; text = false; parts = noneGiven })))
 
 -- "Then, in any order, each at most once, [File Name] .., [File Rev] .., and the five text keywords"
 abbrev pub headerPlace : HeaderPart → ℕ
@@ -33,15 +32,15 @@ headerPlace (FreeText Disclaimer) = 5
 headerPlace (FreeText Copyright) = 6
 
 -- "(one word ..)", "(not empty)"
-abbrev pub headerFault : List ℕ → HeaderPart → ℕ
-headerFault argument FileName = cond (oneWord isFileName (words argument)) 0 10
-headerFault argument FileRev = cond (eqb (length argument) 0) 10 0
-headerFault argument (FreeText t) = 0
+abbrev pub headerFlaw : List ℕ → HeaderPart → Flaw
+headerFlaw argument FileName = flawIn (alone (passing isFileName) argument)
+headerFlaw argument FileRev = cond (eqb (length argument) 0) (flaw 10 argument) sound
+headerFlaw argument (FreeText t) = sound
 
 -- of the five texts, [Date] the first of them, the "text runs to the next keyword"
 unfoldable pub headerPart : HeaderState → ℕ → List ℕ → HeaderPart → Went
-headerPart h k argument p =
-    once (h .parts) (headerPlace p) (headerFault argument p) k (λ g. InHeader (record { line = h .line; text = leb (headerPlace (FreeText Date)) (headerPlace p); parts = g }))
+headerPart h k w p =
+    once (h .parts) (headerPlace p) (told w (headerFlaw (argument w) p)) k (λ g. InHeader (record { line = h .line; text = leb (headerPlace (FreeText Date)) (headerPlace p); parts = g }))
 
 -- a line that is no keyword line: part of a text, or without a place
 unfoldable pub headerLine : HeaderState → ℕ → Went

@@ -23,7 +23,7 @@ keyIn (fault n) = none
 
 abbrev pub keyAt : Text → Option Keyword
 keyAt (plain k w) = cond (isBracketed w) (keyIn (keyOf w)) none
-keyAt (change k n) = none
+keyAt (change k f) = none
 
 -- by what a keyword is: none or [IBIS Ver], one of the header's, a section's, one of a component's, of a model's, [End]
 abbrev pub byKeyword : {A : Type 0} → A → (HeaderPart → A) → (Section → A) → (ComponentPart → A) → (ModelPart → A) → A → Option Keyword → A

@@ -6,24 +6,27 @@ use lib.ListN.{length}
 use lib.Dec.{eqb, leb}
 use Rattle.laws.specs.Bytes.{bytes, isLetter}
 use Rattle.laws.specs.Lists.{oneOf}
-use Rattle.laws.specs.Said.{Said, says, fault, faultIn}
+use Rattle.laws.specs.Said.{Result, says, fault}
 use Rattle.decimal.specs.Decimal.{lessThan, offset}
 use Rattle.decimal.specs.declared.Decimal.{Decimal}
 use Rattle.decimal.specs.declared.Cell.{Cell}
 use Rattle.decimal.specs.declared.Cell.the-variants.{Number, Missing}
 use Rattle.words.specs.Words.{word, words}
+use Rattle.keywords.specs.Form.{argument}
 use Rattle.keywords.specs.declared.ModelPart.{ModelPart}
 use Rattle.keywords.specs.declared.ModelPart.the-variants.{VoltageRange, TemperatureRange, Current, Ramp, Waveform}
 use Rattle.keywords.specs.declared.CurrentTable.the-variants.{Pulldown, Pullup, GndClamp, PowerClamp}
+use Rattle.records.specs.Flaws.{Flaw, flawIn, told, toldIn}
+use Rattle.records.specs.declared.LineFault.{LineFault}
 use Rattle.records.specs.declared.Row.{Row}
 use Rattle.records.specs.declared.Edge.the-variants.{Rising}
 use Rattle.records.specs.declared.ModelType.the-variants.{Terminator}
-use Rattle.line_rules.specs.Fields.{nameOf, isNamed, lineAt, wordLine, cellsLine, slopesLine, numberLine, takes, threeCells, rowOf}
+use Rattle.line_rules.specs.Fields.{nameOf, isNamed, lineAt, wordLine, cellsLine, slopesLine, numberLine, takes, threeCells, rowOf, noArgument}
 use Rattle.line_rules.specs.Tables.{modelLines, capacitances, modelTypes, polarities, enables, rampLines, fixtures}
 use Rattle.given.specs.Given.{noneGiven, has, gave}
 use Rattle.given.specs.declared.Given.{Given}
 use Rattle.rules.specs.Types.{isInput, isDriven, thresholds, isBelow}
-use Rattle.rules.specs.Going.{stop, unless, refuse, quietly, once, namedLine}
+use Rattle.rules.specs.Going.{stop, stopAt, unless, passes, refuse, quietly, once, namedLine}
 use Rattle.rules.specs.declared.RowsSeen.{RowsSeen}
 use Rattle.rules.specs.declared.ModelList.{ModelList}
 use Rattle.rules.specs.declared.ModelList.the-variants.{ModelFirst, ModelShut, CurrentRows, RampLines, WaveformRows}
@@ -48,13 +51,13 @@ withModelList m l = withParts m (m .parts) (m .waveforms) l
 -- ---- the first lines, "in any order, at most once each"
 
 -- Model_type, Polarity and Enable take a word of their tables, C_comp and its four parts three cells, the others `=` and a number
-unfoldable pub firstFault : List ℕ → ℕ
-firstFault w =
-    cond (isNamed "Model_type" w) (faultIn (wordLine modelTypes w))
-    (cond (isNamed "Polarity" w) (faultIn (wordLine polarities w))
-    (cond (isNamed "Enable" w) (faultIn (wordLine enables w))
-    (cond (oneOf (nameOf w) (words (bytes capacitances))) (faultIn (cellsLine w))
-    (faultIn (numberLine w)))))
+unfoldable pub firstFlaw : List ℕ → Flaw
+firstFlaw w =
+    cond (isNamed "Model_type" w) (flawIn (wordLine modelTypes w))
+    (cond (isNamed "Polarity" w) (flawIn (wordLine polarities w))
+    (cond (isNamed "Enable" w) (flawIn (wordLine enables w))
+    (cond (oneOf (nameOf w) (words (bytes capacitances))) (flawIn (cellsLine w))
+    (flawIn (numberLine w)))))
 
 -- the type, Vinl and Vinh are remembered for the close
 unfoldable pub withFirst : ModelState → List ℕ → Given → ModelState
@@ -87,16 +90,16 @@ abbrev pub withRow : RowsSeen → Decimal → Bool → RowsSeen
 withRow r d typ = record { count = min (r .count + 1) 1001; last = d; head = cond (eqb (r .count) 0) typ (r .head); tail = typ }
 
 -- how a table goes on with more rows
-abbrev pub rowLine : (RowsSeen → ModelList) → ModelState → RowsSeen → ℕ → Said Row → Went
-rowLine on m r k (fault n) = stop n k
+abbrev pub rowLine : (RowsSeen → ModelList) → ModelState → RowsSeen → ℕ → Result LineFault Row → Went
+rowLine on m r k (fault f) = stopAt f k
 rowLine on m r k (says l) =
     refuse (not (rises r (l .number))) 13 k
     (On (InModel (withModelList m (on (withRow r (l .number) (isNumber (l .cells .typ)))))) TableRow)
 
 -- ---- [Ramp]: "dV/dt_r and dV/dt_f once each", "`R_load =` at most once"
 
-unfoldable pub rampFault : List ℕ → ℕ
-rampFault w = cond (isNamed "R_load" w) (faultIn (numberLine w)) (faultIn (slopesLine w))
+unfoldable pub rampFlaw : List ℕ → Flaw
+rampFlaw w = cond (isNamed "R_load" w) (flawIn (numberLine w)) (flawIn (slopesLine w))
 
 -- ---- waveforms: "Before its rows a waveform has at most once each, as name `=` number", the lines of `fixtures`
 
@@ -108,16 +111,16 @@ beginsLetter (b ∷ bs) = isLetter b
 unfoldable pub waveformLine : ModelState → ℕ → Given → RowsSeen → ℕ → List ℕ → Went
 waveformLine m o g r k w =
     cond (beginsLetter (word 0 (words w)))
-    (refuse (not (eqb (r .count) 0)) 7 k (namedLine g (lineAt fixtures w) (faultIn (numberLine w)) k (λ h. InModel (withModelList m (WaveformRows o h r)))))
-    (rowLine (WaveformRows o g) m r k (rowOf (words w)))
+    (refuse (not (eqb (r .count) 0)) 7 k (namedLine g (lineAt fixtures w) (flawIn (numberLine w)) k w (λ h. InModel (withModelList m (WaveformRows o h r)))))
+    (rowLine (WaveformRows o g) m r k (toldIn w (rowOf w)))
 
 -- ---- a line that is no keyword line, by the list or table that is open
 
 abbrev pub modelLine : ModelState → ℕ → List ℕ → ModelList → Went
-modelLine m k w ModelFirst = namedLine (m .first) (lineAt modelLines w) (firstFault w) k (λ g. InModel (withFirst m w g))
+modelLine m k w ModelFirst = namedLine (m .first) (lineAt modelLines w) (firstFlaw w) k w (λ g. InModel (withFirst m w g))
 modelLine m k w ModelShut = stop 7 k
-modelLine m k w (CurrentRows o r) = rowLine (CurrentRows o) m r k (rowOf (words w))
-modelLine m k w (RampLines o g) = namedLine g (lineAt rampLines w) (rampFault w) k (λ h. InModel (withModelList m (RampLines o h)))
+modelLine m k w (CurrentRows o r) = rowLine (CurrentRows o) m r k (toldIn w (rowOf w))
+modelLine m k w (RampLines o g) = namedLine g (lineAt rampLines w) (rampFlaw w) k w (λ h. InModel (withModelList m (RampLines o h)))
 modelLine m k w (WaveformRows o g r) = waveformLine m o g r k w
 
 -- ---- "Then, any order: [Voltage Range] (required), [Temperature Range], three cells on the line; the four current tables; [Ramp]; each at
@@ -134,9 +137,8 @@ modelPlace Ramp = 6
 modelPlace (Waveform e) = 7
 
 -- "Keywords without an argument named here take none"
-abbrev pub modelFault : List ℕ → ModelPart → ℕ
-modelFault argument p =
-    cond (leb (modelPlace p) (modelPlace TemperatureRange)) (faultIn (threeCells (words argument))) (cond (eqb (length argument) 0) 0 10)
+abbrev pub modelFlaw : List ℕ → ModelPart → Flaw
+modelFlaw argument p = cond (leb (modelPlace p) (modelPlace TemperatureRange)) (flawIn (threeCells argument)) (noArgument argument)
 
 abbrev pub modelOpens : ℕ → ModelPart → ModelList
 modelOpens k VoltageRange = ModelShut
@@ -147,19 +149,19 @@ modelOpens k (Waveform e) = WaveformRows k noneGiven noRows
 
 -- the parts that may stand once
 unfoldable pub singlePart : ModelState → ℕ → List ℕ → ModelPart → Went
-singlePart m k argument p =
-    once (m .parts) (modelPlace p) (modelFault argument p) k (λ g. InModel (withParts m g (m .waveforms) (modelOpens k p)))
+singlePart m k w p =
+    once (m .parts) (modelPlace p) (told w (modelFlaw (argument w) p)) k (λ g. InModel (withParts m g (m .waveforms) (modelOpens k p)))
 
 -- "16 waveforms a model": 17 at the next
 unfoldable pub waveformPart : ModelState → ℕ → List ℕ → ModelPart → Went
-waveformPart m k argument p =
-    unless (modelFault argument p) k
+waveformPart m k w p =
+    passes (told w (modelFlaw (argument w) p)) k
     (refuse (leb 16 (m .waveforms)) 17 k
     (On (InModel (withParts m (m .parts) (m .waveforms + 1) (modelOpens k p))) WaveformOpened))
 
 -- "each at most once; waveforms"
 abbrev pub modelPart : ModelState → ℕ → List ℕ → ModelPart → Went
-modelPart m k argument p = cond (eqb (modelPlace p) (modelPlace (Waveform Rising))) (waveformPart m k argument p) (singlePart m k argument p)
+modelPart m k w p = cond (eqb (modelPlace p) (modelPlace (Waveform Rising))) (waveformPart m k w p) (singlePart m k w p)
 
 -- ---- closing
 

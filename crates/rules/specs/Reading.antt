@@ -6,12 +6,13 @@ use mathlib.Core.Bool.{Bool, true, false, cond, not, _&&_}
 use lib.ListN.{length, drop}
 use Rattle.laws.specs.Bytes.{bytes, isBlank}
 use Rattle.laws.specs.Lists.{front, after, eqs, oneOf}
-use Rattle.laws.specs.Said.{Said, says, fault, orElse}
+use Rattle.laws.specs.Said.{says, fault, orElse}
 use Rattle.decimal.specs.declared.Cell.{Cell}
 use Rattle.decimal.specs.declared.Cell.the-variants.{Missing}
 use Rattle.words.specs.Words.{word, words}
 use Rattle.keywords.specs.Form.{inside, isFormed, spelled, argument}
 use Rattle.cut_lines.specs.Texts.{Text, plain, change}
+use Rattle.records.specs.Flaws.{Reads}
 use Rattle.records.specs.Stored.{nameLaid, wordsLaid, noCells, noSlopes}
 use Rattle.records.specs.declared.Row.{Row}
 use Rattle.records.specs.declared.Span.{Span}
@@ -40,20 +41,20 @@ use Rattle.rules.specs.Types.{thresholds}
 -- a keyword in small letters with underscores; empty where the text is no keyword line
 abbrev pub keyName : Text → List ℕ
 keyName (plain k w) = cond (isBracketed w && isFormed w) (spelled (inside w)) []
-keyName (change k n) = []
+keyName (change k f) = []
 
 abbrev pub isKey : String → Text → Bool
 isKey name t = eqs (keyName t) (bytes name)
 
 abbrev pub argumentAt : Text → List ℕ
 argumentAt (plain k w) = argument w
-argumentAt (change k n) = []
+argumentAt (change k f) = []
 
 -- the lines under a keyword: those up to the next keyword line
 unfoldable pub under : List Text → List (List ℕ)
 under [] = []
 under (plain k w ∷ ts) = cond (isBracketed w) [] (w ∷ under ts)
-under (change k n ∷ ts) = under ts
+under (change k f ∷ ts) = under ts
 
 -- the lines under the keyword of this name
 unfoldable pub linesUnder : String → List Text → List (List ℕ)
@@ -101,7 +102,7 @@ numberSaid name ls = lineSays name numberLine Missing ls
 
 -- three cells on the keyword's line
 abbrev pub rangeIn : List ℕ → List (List ℕ) → Range
-rangeIn w ls = record { given = true; cells = orElse noCells (threeCells (words w)) }
+rangeIn w ls = record { given = true; cells = orElse noCells (threeCells w) }
 
 abbrev pub noRange : Range
 noRange = record { given = false; cells = noCells }
@@ -166,14 +167,14 @@ tablesIn [] = []
 tablesIn (t ∷ ts) =
     cond (oneOf (keyName t) (words (bytes tableKeywords))) (record { key = keyName t; lines = under ts } ∷ []) [] ++ tablesIn ts
 
-abbrev pub ontoRows : Said Row → List Row → List Row
+abbrev pub ontoRows : Reads Row → List Row → List Row
 ontoRows (says r) rs = r ∷ rs
-ontoRows (fault n) rs = rs
+ontoRows (fault f) rs = rs
 
 -- a waveform's named lines are no rows: their first word is no number
 unfoldable pub rowsIn : List (List ℕ) → List Row
 rowsIn [] = []
-rowsIn (w ∷ ws) = ontoRows (rowOf (words w)) (rowsIn ws)
+rowsIn (w ∷ ws) = ontoRows (rowOf w) (rowsIn ws)
 
 unfoldable pub edgeOf : List ℕ → Edge
 edgeOf key = cond (eqs key (bytes "rising_waveform")) Rising Falling

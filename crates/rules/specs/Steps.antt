@@ -1,11 +1,9 @@
 -- Document 01, "Faults", the order at a line: first what it closes, inner table before section, then the line itself.
 use Prim.Native.Nat.{ℕ}
 use mathlib.Core.List.{List}
-use mathlib.Core.Bool.{Bool, true, false, cond, not}
+use mathlib.Core.Bool.{Bool, true, false, cond}
 use mathlib.Core.Option.{Option, none, some}
-use lib.ListN.{length}
 use lib.Dec.{eqb}
-use Rattle.words.specs.Words.{words}
 use Rattle.keywords.specs.Form.{argument}
 use Rattle.keywords.specs.Carried.{keyOf}
 use Rattle.keywords.specs.declared.Keyword.{Keyword}
@@ -16,9 +14,11 @@ use Rattle.keywords.specs.declared.HeaderPart.{HeaderPart}
 use Rattle.keywords.specs.declared.ComponentPart.{ComponentPart}
 use Rattle.keywords.specs.declared.ModelPart.{ModelPart}
 use Rattle.laws.specs.Said.{Said, says, fault}
+use Rattle.records.specs.Flaws.{Flaw, flaw, sound, flawIn, told}
+use Rattle.records.specs.declared.LineFault.{LineFault}
 use Rattle.cut_lines.specs.Texts.{Text, plain, change}
-use Rattle.line_rules.specs.Fields.{isSized, isModelName, isBracketed, oneWord}
-use Rattle.rules.specs.Going.{stop, unless, refuse, andThen, quietly}
+use Rattle.line_rules.specs.Fields.{isSized, isModelName, isBracketed, alone, passing, noArgument}
+use Rattle.rules.specs.Going.{stop, unless, passes, refuse, andThen, quietly}
 use Rattle.rules.specs.Header.{version, headerPart, headerLine, headerShut, headerDone}
 use Rattle.rules.specs.Component.{componentPart, componentLine, componentShut, componentDone}
 use Rattle.rules.specs.Selector.{selectorLine, selectorShut}
@@ -85,10 +85,18 @@ done k AfterEnd = stop 7 k
 -- ---- the keywords
 
 -- a section opens: "[Component] name, 1 to 40 characters, inner blanks allowed"; the others "(one word, 1 to 40)"
-abbrev pub opened : ℕ → List ℕ → Section → Went
-opened k w Component = refuse (not (isSized 40 w)) 10 k (On (InComponent (record { line = k; first = noneGiven; parts = noneGiven; list = ComponentFirst })) (Opened Component))
-opened k w Selector = refuse (not (oneWord isModelName (words w))) 10 k (On (InSelector (record { line = k; any = false })) (Opened Selector))
-opened k w Model = refuse (not (oneWord isModelName (words w))) 10 k (On (InModel (newModel k)) (Opened Model))
+abbrev pub openedFlaw : List ℕ → Section → Flaw
+openedFlaw argument Component = cond (isSized 40 argument) sound (flaw 10 argument)
+openedFlaw argument Selector = flawIn (alone (passing isModelName) argument)
+openedFlaw argument Model = flawIn (alone (passing isModelName) argument)
+
+abbrev pub sectionStage : ℕ → Section → Stage
+sectionStage k Component = InComponent (record { line = k; first = noneGiven; parts = noneGiven; list = ComponentFirst })
+sectionStage k Selector = InSelector (record { line = k; any = false })
+sectionStage k Model = InModel (newModel k)
+
+unfoldable pub opened : ℕ → List ℕ → Section → Went
+opened k w o = passes (told w (openedFlaw (argument w) o)) k (On (sectionStage k o) (Opened o))
 
 -- has its place there alone: else 7
 abbrev pub within : {A : Type 0} → ℕ → Option A → (A → Went) → Went
@@ -106,12 +114,12 @@ onKeyword s k w (key.InHeader p) = within k (headerOf s) (λ h. headerPart h k w
 onKeyword s k w (key.Opens o) = andThen (done k s) (λ (t : Stage). opened k w o)
 onKeyword s k w (key.InComponent p) = within k (componentOf s) (λ c. componentPart c k w p)
 onKeyword s k w (key.InModel p) = within k (modelOf s) (λ m. modelPart m k w p)
-onKeyword s k w key.End = andThen (done k s) (λ (t : Stage). On AfterEnd (Ended (eqb (length w) 0)))
+onKeyword s k w key.End = andThen (done k s) (λ (t : Stage). On AfterEnd (Ended (told w (noArgument (argument w)))))
 
 -- 5, 6 and 21, then the keyword
 abbrev pub keyed : Stage → ℕ → List ℕ → Said Keyword → Went
 keyed s k w (fault n) = stop n k
-keyed s k w (says key) = onKeyword s k (argument w) key
+keyed s k w (says key) = onKeyword s k w key
 
 -- ---- a line that is no keyword line
 
@@ -128,15 +136,15 @@ onLine AfterEnd k w = stop 7 k
 unfoldable pub onPlain : Stage → ℕ → List ℕ → Went
 onPlain s k w = cond (isBracketed w) (andThen (shut k s) (λ (t : Stage). keyed t k w (keyOf w))) (onLine s k w)
 
--- ---- a [Comment Char] line: it "may stand anywhere between [IBIS Ver] and [End], and closes nothing"; n is its fault, 5 or 10, or 0 for none
+-- ---- a [Comment Char] line: it "may stand anywhere between [IBIS Ver] and [End], and closes nothing"; f is its fault, 5 or 10, or none
 
-unfoldable pub onChange : Stage → ℕ → ℕ → Went
-onChange s k n =
+unfoldable pub onChange : Stage → ℕ → LineFault → Went
+onChange s k f =
     refuse (isEnded s) 7 k
-    (refuse (eqb n 5) 5 k
+    (refuse (eqb (f .number) 5) 5 k
     (refuse (isBefore s) 7 k
-    (unless n k (quietly s))))
+    (passes f k (quietly s))))
 
 abbrev pub onText : Stage → Text → Went
 onText s (plain k w) = onPlain s k w
-onText s (change k n) = onChange s k n
+onText s (change k f) = onChange s k f

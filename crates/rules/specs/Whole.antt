@@ -5,7 +5,7 @@ use mathlib.Core.List.{List, [], _∷_, reverse}
 use mathlib.Core.Bool.{cond}
 use lib.ListN.{length}
 use lib.Dec.{eqb, leb}
-use Rattle.laws.specs.Said.{Said, says, fault}
+use Rattle.laws.specs.Said.{Result, says, fault}
 use Rattle.words.specs.Words.{word, words}
 use Rattle.lines.specs.Lines.{linesOf, bytesFault}
 use Rattle.lines.specs.declared.Bytes.{Bytes}
@@ -16,9 +16,11 @@ use Rattle.keywords.specs.declared.Section.the-variants.{Component, Selector, M
 use Rattle.cut_lines.specs.Texts.{Text, plain, change, textsFrom}
 use Rattle.rules.specs.Steps.{isEnded, onText}
 use Rattle.rules.specs.Outline.{Entry, is, count, isUsed, isFound, isListed, firstFailing}
+use Rattle.records.specs.Flaws.{bare}
 use Rattle.records.specs.Bounds.{most, mostWaveforms}
 use Rattle.records.specs.declared.Kind.{Kind}
 use Rattle.records.specs.declared.Kind.the-variants.{OfComponent, OfPin, OfSelector, OfChoice, OfModel}
+use Rattle.records.specs.declared.LineFault.{LineFault}
 use Rattle.records.specs.declared.Lengths.{Lengths}
 use Rattle.rules.specs.declared.Stage.{Stage}
 use Rattle.rules.specs.declared.Stage.the-variants.{BeforeVersion}
@@ -47,10 +49,10 @@ abbrev pub nothingHeld : Held
 nothingHeld = record { entries = []; waveforms = 0; rows = 0 }
 
 -- 14, then 17
-unfoldable pub admitEntry : Lengths → Held → Entry → Said Held
+unfoldable pub admitEntry : Lengths → Held → Entry → Result LineFault Held
 admitEntry l h e =
-    cond (isUsed (e .kind) (e .name) (h .entries)) (fault 14)
-    (cond (leb (bound l (e .kind)) (count (is (e .kind)) (h .entries))) (fault 17)
+    cond (isUsed (e .kind) (e .name) (h .entries)) (fault (bare 14))
+    (cond (leb (bound l (e .kind)) (count (is (e .kind)) (h .entries))) (fault (bare 17))
     (says (record { entries = e ∷ h .entries; waveforms = h .waveforms; rows = h .rows })))
 
 -- the entry of a section's keyword line, w being its argument
@@ -64,47 +66,48 @@ abbrev pub rowEntry : Kind → ℕ → ℕ → List ℕ → Entry
 rowEntry x k n w = record { kind = x; line = k; name = word 0 (words w); names = word n (words w) }
 
 -- line k, whose text is w, adds to the file; at [End] first "no component" (9), then its own 10
-abbrev pub admit : Lengths → Held → ℕ → List ℕ → Event → Said Held
+abbrev pub admit : Lengths → Held → ℕ → List ℕ → Event → Result LineFault Held
 admit l h k w Quiet = says h
 admit l h k w (Opened s) = admitEntry l h (sectionEntry k (argument w) s)
 admit l h k w PinRow = admitEntry l h (rowEntry OfPin k 2 w)
 admit l h k w ChoiceRow = admitEntry l h (rowEntry OfChoice k 0 w)
 admit l h k w WaveformOpened =
-    cond (leb (min mostWaveforms (l .waveforms)) (h .waveforms)) (fault 17)
+    cond (leb (min mostWaveforms (l .waveforms)) (h .waveforms)) (fault (bare 17))
     (says (record { entries = h .entries; waveforms = h .waveforms + 1; rows = h .rows }))
 admit l h k w TableRow =
-    cond (leb (l .rows) (h .rows)) (fault 18)
+    cond (leb (l .rows) (h .rows)) (fault (bare 18))
     (says (record { entries = h .entries; waveforms = h .waveforms; rows = h .rows + 1 }))
-admit l h k w (Ended alone) =
-    cond (eqb (count (is OfComponent) (h .entries)) 0) (fault 9)
-    (cond alone (says h) (fault 10))
+admit l h k w (Ended f) =
+    cond (eqb (count (is OfComponent) (h .entries)) 0) (fault (bare 9))
+    (cond (eqb (f .number) 0) (says h) (fault f))
 
 -- ---- lines from the top
 
 pub data Outcome : Type 0 where
   passed : Held → Outcome
-  refused : ℕ → ℕ → Outcome
+  -- the number of the fault, the line and the column told
+  refused : ℕ → ℕ → ℕ → Outcome
 
 abbrev pub textOf : Text → List ℕ
 textOf (plain k w) = w
-textOf (change k n) = []
+textOf (change k f) = []
 
 abbrev pub lineOf : Text → ℕ
 lineOf (plain k w) = k
-lineOf (change k n) = k
+lineOf (change k f) = k
 
 -- a line's own fault is told there
-abbrev pub afterAdmission : ℕ → (Held → Outcome) → Said Held → Outcome
+abbrev pub afterAdmission : ℕ → (Held → Outcome) → Result LineFault Held → Outcome
 afterAdmission k go (says h) = go h
-afterAdmission k go (fault n) = refused n k
+afterAdmission k go (fault f) = refused (f .number) k (f .column)
 
 abbrev pub afterStep : Lengths → Held → Text → (Stage → Held → Outcome) → Went → Outcome
 afterStep l h t go (On s e) = afterAdmission (lineOf t) (go s) (admit l h (lineOf t) (textOf t) e)
-afterStep l h t go (Stop f) = refused (f .number) (f .line)
+afterStep l h t go (Stop f) = refused (f .number) (f .line) (f .column)
 
 -- past is the number of the line after the last: "A file that runs out gives 19 before anything it would close"
 unfoldable pub runs : Lengths → ℕ → Stage → Held → List Text → Outcome
-runs l past s h [] = cond (isEnded s) (passed h) (refused 19 past)
+runs l past s h [] = cond (isEnded s) (passed h) (refused 19 past 0)
 runs l past s h (t ∷ ts) = afterStep l h t (λ (u : Stage) (g : Held). runs l past u g ts) (onText s t)
 
 -- ---- "Last, 15 over all pin and selector rows, then 16 over sections, each from the top of the file"
@@ -113,11 +116,11 @@ unfoldable pub lastChecks : List Entry → Outcome → Outcome
 lastChecks es done =
     let missing = firstFailing (λ e. isFound es e (e .kind)) es in
     let unlisted = firstFailing (λ e. isListed es e (e .kind)) es in
-    cond (eqb missing 0) (cond (eqb unlisted 0) done (refused 16 unlisted)) (refused 15 missing)
+    cond (eqb missing 0) (cond (eqb unlisted 0) done (refused 16 unlisted 0)) (refused 15 missing 0)
 
 abbrev pub concluded : Outcome → Outcome
 concluded (passed h) = lastChecks (reverse (h .entries)) (passed h)
-concluded (refused n k) = refused n k
+concluded (refused n k c) = refused n k c
 
 -- ---- the file
 
@@ -126,7 +129,7 @@ textsOf s = textsFrom (code "|") 1 (linesOf s)
 
 abbrev pub afterBytes : Outcome → Bytes → Outcome
 afterBytes go Clean = go
-afterBytes go (Faulty f) = refused (f .number) (f .line)
+afterBytes go (Faulty f) = refused (f .number) (f .line) (f .column)
 
 -- "Order: 1; then 2, 3, 4 over all lines ..; then lines from the top .. Last, 15 .., then 16"
 unfoldable pub outcome : Lengths → List ℕ → Outcome

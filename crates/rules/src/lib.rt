@@ -1,11 +1,12 @@
 // The state of a reading, for document 01's rules in specs/: what was given of a section so far, the list or table that is open, and what a line adds.
 ghost use mathlib.Core.Path.{_≡_};
-ghost use Rattle.rules.specs.Going.{stop};
+ghost use Rattle.rules.specs.Going.{stop, stopAt};
 use decimal::Cell;
 use decimal::Decimal;
 use given::Given;
 use keywords::Section;
 use records::Fault;
+use records::LineFault;
 use records::ModelType;
 
 pub mod types; // types.rt: what a model's type asks of it
@@ -92,7 +93,7 @@ pub enum Stage {
 }
 
 // What a line adds to the file: nothing that is counted or named; a section; a pin row; a selector row; a waveform; a table row;
-// the end, with whether its keyword stands alone.
+// the end, with what its own line tells.
 pub enum Event {
     Quiet,
     Opened(Section),
@@ -100,7 +101,7 @@ pub enum Event {
     ChoiceRow,
     WaveformOpened,
     TableRow,
-    Ended(bool),
+    Ended(LineFault),
 }
 
 // A line's step: the next stage and what the line adds, or the fault.
@@ -113,5 +114,20 @@ pub enum Went {
 pub fn stopped(n: u8, k: u64) -> Went
     ensures { λ r. ⌜ r ≡ stop n k ⌝ }
 {
-    Went::Stop(Fault { number: n, line: k })
+    Went::Stop(Fault {
+        number: n,
+        line: k,
+        column: 0,
+    })
+}
+
+// Line k's own fault, told there.
+pub fn stopped_at(f: LineFault, k: u64) -> Went
+    ensures { λ r. ⌜ r ≡ stopAt f k ⌝ }
+{
+    Went::Stop(Fault {
+        number: f.number,
+        line: k,
+        column: f.column,
+    })
 }

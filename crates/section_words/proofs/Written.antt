@@ -7,7 +7,6 @@ use lib.ListN.{length}
 use lib.Seq.{sets}
 use Rattle.laws.specs.Said.{orElse}
 use Rattle.laws.specs.Lists.{after}
-use Rattle.words.specs.Words.{words}
 use Rattle.keywords.specs.declared.CurrentTable.{CurrentTable}
 use Rattle.keywords.specs.declared.Keyword.{Keyword}
 use Rattle.keywords.specs.declared.Keyword.the-variants.{InModel}
@@ -60,7 +59,7 @@ module _ (s : List ℕ) (b : Body) (w : List ℕ) (c : Cursor) (k : Keyword) (mo
 module _ {s : List ℕ} {c : Cursor} {before behind : List ℕ} {r : Filled} (f : FillIs s c before behind r)
     (b : Body) (h : b .row < 2 ^ 63 + c .at) (l : b .waveforms < c .at) (w : List ℕ) where
   abbrev cells : Triple
-  cells = orElse noCells (threeCells (words w))
+  cells = orElse noCells (threeCells w)
 
   abbrev ls : List (List ℕ)
   ls = under (rest s c)

@@ -3,7 +3,6 @@ use Prim.Native.Nat.{ℕ, _+_}
 use mathlib.Core.List.{List}
 use mathlib.Core.Bool.{true}
 use Rattle.laws.specs.Said.{orElse}
-use Rattle.words.specs.Words.{words}
 use Rattle.keywords.specs.declared.CurrentTable.{CurrentTable}
 use Rattle.keywords.specs.declared.CurrentTable.the-variants.{Pulldown, Pullup, GndClamp, PowerClamp}
 use Rattle.line_rules.specs.Fields.{threeCells}
@@ -12,10 +11,10 @@ use Rattle.record_words.specs.Records.{tripleWords, rangeWords}
 
 -- w is the keyword's argument
 abbrev pub voltageSaid : List ℕ → List ℕ
-voltageSaid w = tripleWords (orElse noCells (threeCells (words w)))
+voltageSaid w = tripleWords (orElse noCells (threeCells w))
 
 abbrev pub temperatureSaid : List ℕ → List ℕ
-temperatureSaid w = rangeWords (record { given = true; cells = orElse noCells (threeCells (words w)) })
+temperatureSaid w = rangeWords (record { given = true; cells = orElse noCells (threeCells w) })
 
 -- ---- where each begins in the record
 

@@ -1,13 +1,17 @@
 // The step of a text in any stage: first what it closes, inner table before section, then the line itself.
 ghost use mathlib.Core.Path.{_≡_};
-ghost use lib.Dec.{eqb};
-ghost use lib.ListN.{length};
+ghost use Prim.Native.Nat.{_≤_};
+ghost use lib.ListN.{length, drop};
+ghost use Rattle.records.specs.Flaws.{told};
+ghost use Rattle.keywords.specs.Form.{argument};
+ghost use Rattle.line_rules.specs.Fields.{noArgument};
+ghost use Rattle.keywords.specs.Answers.{ArgumentFrom};
 ghost use Rattle.keywords.specs.Carried.{keyOf};
 ghost use Rattle.rules.specs.Going.{unless, andThen, quietly};
 ghost use Rattle.rules.specs.Header.{headerPart};
 ghost use Rattle.rules.specs.Component.{componentPart};
 ghost use Rattle.rules.specs.Model.{modelPart};
-ghost use Rattle.rules.specs.Steps.{headerOf, componentOf, modelOf, isBefore, isEnded, shut, done, opened, within, onVersion, onKeyword, keyed, onLine, onPlain, onChange};
+ghost use Rattle.rules.specs.Steps.{headerOf, componentOf, modelOf, isBefore, isEnded, shut, done, openedFlaw, sectionStage, opened, within, onVersion, onKeyword, keyed, onLine, onPlain, onChange};
 ghost use Rattle.rules.specs.declared.Stage.{Stage};
 ghost use Rattle.rules.specs.declared.Stage.the-variants.{AfterEnd};
 ghost use Rattle.rules.specs.declared.Event.the-variants.{Ended};
@@ -18,6 +22,8 @@ use keywords::KeyRead;
 use keywords::Keyword;
 use keywords::ModelPart;
 use keywords::Section;
+use named_lines::Form;
+use records::LineFault;
 use rules::Event;
 use rules::Stage;
 use rules::Went;
@@ -107,50 +113,48 @@ fn close_section(k: u64, s: Stage) -> Went
     }
 }
 
-// A section's keyword at line k.
-fn open_section(k: u64, argument: &[u8], o: Section) -> Went
-    ensures { λ r. ⌜ r ≡ opened k (now (argument .entry)) o ⌝ }
+// What is wrong with the argument of a section's keyword, which begins at a place.
+fn section_fault(w: &[u8], at: usize, o: Section) -> LineFault
+    requires { ⌜ at ≤ length (now w) ⌝ }
+    ensures { λ r. ⌜ r ≡ told (now (w .entry)) (openedFlaw (drop at (now (w .entry))) o) ⌝ }
 {
     match o {
-        Section::Component => {
-            if named_lines::sized(argument, 40) {
-                Went::On(
-                    Stage::InComponent(component_steps::new_component(k)),
-                    Event::Opened(Section::Component),
-                )
-            } else {
-                rules::stopped(10, k)
-            }
-        }
-        Section::Selector => {
-            if named_lines::one_model_name(argument) {
-                Went::On(
-                    Stage::InSelector(component_steps::new_selector(k)),
-                    Event::Opened(Section::Selector),
-                )
-            } else {
-                rules::stopped(10, k)
-            }
-        }
-        Section::Model => {
-            if named_lines::one_model_name(argument) {
-                Went::On(
-                    Stage::InModel(model_steps::new_model(k)),
-                    Event::Opened(Section::Model),
-                )
-            } else {
-                rules::stopped(10, k)
-            }
-        }
+        Section::Component => named_lines::sized_fault(w, at, 40),
+        Section::Selector => named_lines::argument_fault(w, at, Form::ModelName),
+        Section::Model => named_lines::argument_fault(w, at, Form::ModelName),
     }
 }
 
+// The section that line k opens.
+fn section_stage(k: u64, o: Section) -> Stage
+    ensures { λ r. ⌜ r ≡ sectionStage k o ⌝ }
+{
+    match o {
+        Section::Component => Stage::InComponent(component_steps::new_component(k)),
+        Section::Selector => Stage::InSelector(component_steps::new_selector(k)),
+        Section::Model => Stage::InModel(model_steps::new_model(k)),
+    }
+}
+
+// A section's keyword at line k.
+fn open_section(k: u64, w: &[u8], at: usize, o: Section) -> Went
+    requires { ⌜ ArgumentFrom (now w) at ⌝ }
+    ensures { λ r. ⌜ r ≡ opened k (now (w .entry)) o ⌝ }
+{
+    let fault = section_fault(w, at, o);
+    if fault.number != 0 {
+        return rules::stopped_at(fault, k);
+    }
+    Went::On(section_stage(k, o), Event::Opened(o))
+}
+
 // [IBIS Ver], the first or a second one.
-fn version_key(s: Stage, k: u64, argument: &[u8]) -> Went
-    ensures { λ r. ⌜ r ≡ onVersion s k (now (argument .entry)) ⌝ }
+fn version_key(s: Stage, k: u64, w: &[u8], at: usize) -> Went
+    requires { ⌜ ArgumentFrom (now w) at ⌝ }
+    ensures { λ r. ⌜ r ≡ onVersion s k (now (w .entry)) ⌝ }
 {
     if is_before(s) {
-        return header_steps::open_header(k, argument);
+        return header_steps::open_header(k, w, at);
     }
     let Stage::InHeader(_) = s else {
         return rules::stopped(7, k);
@@ -159,63 +163,72 @@ fn version_key(s: Stage, k: u64, argument: &[u8]) -> Went
 }
 
 // A keyword of the header, of a component and of a model: each has its place in its own section alone.
-fn header_key(s: Stage, k: u64, argument: &[u8], p: HeaderPart) -> Went
-    ensures { λ r. ⌜ r ≡ within k (headerOf s) (λ h. headerPart h k (now (argument .entry)) p) ⌝ }
+fn header_key(s: Stage, k: u64, w: &[u8], at: usize, p: HeaderPart) -> Went
+    requires { ⌜ ArgumentFrom (now w) at ⌝ }
+    ensures { λ r. ⌜ r ≡ within k (headerOf s) (λ h. headerPart h k (now (w .entry)) p) ⌝ }
 {
     let Stage::InHeader(h) = s else {
         return rules::stopped(7, k);
     };
-    header_steps::header_part(h, k, argument, p)
+    header_steps::header_part(h, k, w, at, p)
 }
 
-fn component_key(s: Stage, k: u64, argument: &[u8], p: ComponentPart) -> Went
-    ensures { λ r. ⌜ r ≡ within k (componentOf s) (λ c. componentPart c k (now (argument .entry)) p) ⌝ }
+fn component_key(s: Stage, k: u64, w: &[u8], at: usize, p: ComponentPart) -> Went
+    requires { ⌜ ArgumentFrom (now w) at ⌝ }
+    ensures { λ r. ⌜ r ≡ within k (componentOf s) (λ c. componentPart c k (now (w .entry)) p) ⌝ }
 {
     let Stage::InComponent(c) = s else {
         return rules::stopped(7, k);
     };
-    component_steps::component_part(c, k, argument, p)
+    component_steps::component_part(c, k, w, at, p)
 }
 
-fn model_key(s: Stage, k: u64, argument: &[u8], p: ModelPart) -> Went
-    ensures { λ r. ⌜ r ≡ within k (modelOf s) (λ m. modelPart m k (now (argument .entry)) p) ⌝ }
+fn model_key(s: Stage, k: u64, w: &[u8], at: usize, p: ModelPart) -> Went
+    requires { ⌜ ArgumentFrom (now w) at ⌝ }
+    ensures { λ r. ⌜ r ≡ within k (modelOf s) (λ m. modelPart m k (now (w .entry)) p) ⌝ }
 {
     let Stage::InModel(m) = s else {
         return rules::stopped(7, k);
     };
-    model_steps::model_part(m, k, argument, p)
+    model_steps::model_part(m, k, w, at, p)
 }
 
 // A section closes, and another opens.
-fn section_key(s: Stage, k: u64, argument: &[u8], o: Section) -> Went
-    ensures { λ r. ⌜ r ≡ andThen (done k s) (λ (t : Stage). opened k (now (argument .entry)) o) ⌝ }
+fn section_key(s: Stage, k: u64, w: &[u8], at: usize, o: Section) -> Went
+    requires { ⌜ ArgumentFrom (now w) at ⌝ }
+    ensures { λ r. ⌜ r ≡ andThen (done k s) (λ (t : Stage). opened k (now (w .entry)) o) ⌝ }
 {
     match close_section(k, s) {
-        Went::On(_, _) => open_section(k, argument, o),
+        Went::On(_, _) => open_section(k, w, at, o),
         Went::Stop(f) => Went::Stop(f),
     }
 }
 
 // The last section closes, and the file ends.
-fn end_key(s: Stage, k: u64, argument: &[u8]) -> Went
-    ensures { λ r. ⌜ r ≡ andThen (done k s) (λ (t : Stage). On AfterEnd (Ended (eqb (length (now (argument .entry))) 0))) ⌝ }
+fn end_key(s: Stage, k: u64, w: &[u8], at: usize) -> Went
+    requires { ⌜ ArgumentFrom (now w) at ⌝ }
+    ensures { λ r. ⌜ r ≡ andThen (done k s) (λ (t : Stage). On AfterEnd (Ended (told (now (w .entry)) (noArgument (argument (now (w .entry))))))) ⌝ }
 {
     match close_section(k, s) {
-        Went::On(_, _) => Went::On(Stage::AfterEnd, Event::Ended(argument.len() == 0)),
+        Went::On(_, _) => Went::On(
+            Stage::AfterEnd,
+            Event::Ended(named_lines::surplus_fault(w, at)),
+        ),
         Went::Stop(fault) => Went::Stop(fault),
     }
 }
 
-fn on_keyword(s: Stage, k: u64, argument: &[u8], key: Keyword) -> Went
-    ensures { λ r. ⌜ r ≡ onKeyword s k (now (argument .entry)) key ⌝ }
+fn on_keyword(s: Stage, k: u64, w: &[u8], at: usize, key: Keyword) -> Went
+    requires { ⌜ ArgumentFrom (now w) at ⌝ }
+    ensures { λ r. ⌜ r ≡ onKeyword s k (now (w .entry)) key ⌝ }
 {
     match key {
-        Keyword::IbisVer => version_key(s, k, argument),
-        Keyword::InHeader(p) => header_key(s, k, argument, p),
-        Keyword::Opens(o) => section_key(s, k, argument, o),
-        Keyword::InComponent(p) => component_key(s, k, argument, p),
-        Keyword::InModel(p) => model_key(s, k, argument, p),
-        Keyword::End => end_key(s, k, argument),
+        Keyword::IbisVer => version_key(s, k, w, at),
+        Keyword::InHeader(p) => header_key(s, k, w, at, p),
+        Keyword::Opens(o) => section_key(s, k, w, at, o),
+        Keyword::InComponent(p) => component_key(s, k, w, at, p),
+        Keyword::InModel(p) => model_key(s, k, w, at, p),
+        Keyword::End => end_key(s, k, w, at),
     }
 }
 
@@ -224,7 +237,7 @@ fn keyword_line(s: Stage, k: u64, w: &[u8]) -> Went
     ensures { λ r. ⌜ r ≡ keyed s k (now (w .entry)) (keyOf (now (w .entry))) ⌝ }
 {
     match keywords::key_of(w) {
-        KeyRead::Known { keyword, argument } => on_keyword(s, k, &w[argument..], keyword),
+        KeyRead::Known { keyword, argument } => on_keyword(s, k, w, argument, keyword),
         KeyRead::Gap => rules::stopped(6, k),
         KeyRead::Slip => rules::stopped(21, k),
         KeyRead::Malformed => rules::stopped(5, k),
@@ -258,18 +271,21 @@ pub fn on_plain(s: Stage, k: u64, w: &[u8]) -> Went
     }
 }
 
-// A [Comment Char] line with fault n, 0 for none.
-pub fn on_change(s: Stage, k: u64, n: u8) -> Went
-    ensures { λ r. ⌜ r ≡ onChange s k n ⌝ }
+// A [Comment Char] line with its fault, or none.
+pub fn on_change(s: Stage, k: u64, fault: LineFault) -> Went
+    ensures { λ r. ⌜ r ≡ onChange s k fault ⌝ }
 {
     if is_ended(s) {
         return rules::stopped(7, k);
     }
-    if n == 5 {
+    if fault.number == 5 {
         return rules::stopped(5, k);
     }
     if is_before(s) {
         return rules::stopped(7, k);
     }
-    quiet_unless(n, k, s)
+    if fault.number != 0 {
+        return rules::stopped_at(fault, k);
+    }
+    quiet(s)
 }

@@ -64,7 +64,7 @@ module _ (s : List ℕ) (t : WordTables) (ns : List ℕ) where
         waveforms = omega (arith, f .waveforms, words, waveforms-length (file l s ns sorted .waveforms));
         rows = rows-fit l s ns sorted (t .rows) refl;
       }
-  fits-for (refused n k) u =
+  fits-for (refused n k c) u =
       record { components = zero-le; pins = zero-le; selectors = zero-le; choices = zero-le; models = zero-le; waveforms = zero-le; rows = zero-le }
 
   abbrev LeftBy : Answer → Type 0
@@ -86,13 +86,13 @@ module _ (s : List ℕ) (t : WordTables) (ns : List ℕ) where
             rw (rows-made l s ns sorted) refl;
       }
 
-  left-none : (n k : ℕ) → outcome l s ≡ refused n k → LeftBy (answerOf l s)
+  left-none : (n k c : ℕ) → outcome l s ≡ refused n k c → LeftBy (answerOf l s)
   unfolding answerOf joinedTo stored over
-  left-none n k is = record { answer = refl; tables = rw is refl }
+  left-none n k c is = record { answer = refl; tables = rw is refl }
 
   left-for : (o : Outcome) → outcome l s ≡ o → SortedFor l s ns o → LeftBy (answerOf l s)
   left-for (passed h) is sorted = left-whole h is sorted
-  left-for (refused n k) is u = left-none n k is
+  left-for (refused n k c) is u = left-none n k c is
 
   module _ (r : Answer) (said : Outlines l s r ns) where
     pub fits : Room s ns (r .counts) t

@@ -38,7 +38,7 @@ wordsLeft (passed h) a t =
       waveforms = over (t .waveforms) (flatMap waveformWords (a .waveforms));
       rows = over (t .rows) (stored (a .rows));
     }
-wordsLeft (refused n k) a t = t
+wordsLeft (refused n k c) a t = t
 
 -- file s is read into tables t: r is answered, and the tables then are u
 pub record ReadInWords (s : List ℕ) (t : WordTables) (r : Answer) (u : WordTables) : Type 0 where

@@ -8,8 +8,8 @@ use borrow.Rule.Slice.PartMut.{putMid, midOf}
 use Rattle.laws.specs.Lists.{part}
 use Rattle.cut_lines.specs.Cursors.{Placed}
 use Rattle.cut_lines.specs.declared.Cursor.{Cursor}
+use Rattle.records.specs.Flaws.{toldIn}
 use Rattle.records.specs.Stored.{stored, over}
-use Rattle.words.specs.Words.{words}
 use Rattle.line_rules.specs.Fields.{rowOf}
 use Rattle.line_cells.specs.Rows.{rowWorded}
 use Rattle.line_cells.specs.declared.RowWords.{RowWords}
@@ -20,7 +20,7 @@ use Rattle.lines_under.specs.declared.LineNext.the-variants as next
 use Rattle.lines_under.proofs.Folds.{Gathers, gathers-start, gathers-line, gathers-end}
 use Rattle.table_rows.specs.Rows.{Lies, rowsAt, fourWords, FillIs}
 use Rattle.table_rows.proofs.Stores.{stored-length, over-none, over-length, over-rest}
-use Rattle.table_rows.proofs.RowLaws.{row-fold, worded, words-fold, words-small}
+use Rattle.table_rows.proofs.RowLaws.{row-fold, row-kept, worded, words-fold, words-small}
 
 -- ---- words over the row store
 
@@ -67,9 +67,9 @@ module _ {s : List ℕ} {c d : Cursor} {before now : List ℕ} {used : ℕ} (p :
   pub fills-length : length (stored (rowsAt s c)) ≤ length before → length now ≡ length before
   fills-length h = lies-length (p .lies) h (stored (rowsAt s d)) (p .gathers .same)
 
-  module _ {r : LineNext} {a e : ℕ} {n : Cursor} (q : r ≡ next.Line a e n) (l : LineNextIs s d r) {x : RowWords} (i : x ≡ rowWorded (rowOf (words (part a e s)))) where
-    abbrev line : List (List ℕ)
-    line = words (part a e s)
+  module _ {r : LineNext} {a e : ℕ} {n : Cursor} (q : r ≡ next.Line a e n) (l : LineNextIs s d r) {x : RowWords} (i : x ≡ rowWorded (toldIn (part a e s) (rowOf (part a e s)))) where
+    abbrev line : List ℕ
+    line = part a e s
 
     module _ (j : x .fault ≡ 0) (h : length (stored (rowsAt s c)) ≤ length before) where
       with-row : Gathers (row-fold words-fold) s c n [] (p .written ++ fourWords x)
@@ -86,7 +86,7 @@ module _ {s : List ℕ} {c d : Cursor} {before now : List ℕ} {used : ℕ} (p :
 
     pub fills-none : (x .fault ≡ 0 → ⊥) → Fills s c n before now used
     fills-none j =
-        record { written = p .written; gathers = gathers-line (p .gathers) q l (ap (worded (p .written)) (row-amiss line i j .0)); lies = p .lies }
+        record { written = p .written; gathers = gathers-line (p .gathers) q l (row-kept _ (p .written) line (rowOf line) (row-amiss line i j .0)); lies = p .lies }
 
   pub fills-end : {r : LineNext} {n : Cursor} → r ≡ next.NoLine n → LineNextIs s d r → FillIs s c before now (record { words = used; next = n })
   fills-end q l =

@@ -17,23 +17,26 @@ use Rattle.name_table.specs.Names.{placeFrom}
 use Rattle.name_table.specs.declared.Found.the-variants.{At, Nothing}
 use Rattle.line_rules.specs.Fields.{nameOf, isNamed, lineAt, numberLine, rowOf, takes, lineSays}
 use Rattle.line_rules.specs.Tables.{fixtures}
-use Rattle.line_rules.proofs.Places.{takes-at, takes-nothing, takes-fault}
+use Rattle.line_rules.proofs.Places.{takes-at, takes-nothing}
 use Rattle.rules.specs.Model.{beginsLetter}
 use Rattle.rules.specs.Reading.{numberSaid, rowsIn, waveformIn}
 use Rattle.rules.proofs.Lettered.{letter-no-row}
+use Rattle.records.specs.Flaws.{toldIn}
 use Rattle.records.specs.declared.Edge.{Edge}
+use Rattle.records.specs.declared.LineFault.{LineFault}
 use Rattle.records.specs.declared.Row.{Row}
 use Rattle.records.specs.declared.Waveform.{Waveform}
 use Rattle.lines_under.proofs.Folds.{Folds, count-fold}
+use Rattle.lines_under.proofs.Told.{takes-flawed}
 use Rattle.table_rows.specs.Rows.{counted}
 use Rattle.table_rows.specs.Waveforms.{bareWaveform, withCount, fixtureAt, fixtureLine, withWaveformLine, waveformOn}
-use Rattle.table_rows.proofs.RowLaws.{onto-row}
+use Rattle.table_rows.proofs.RowLaws.{onto-row, row-kept}
 
 -- ---- the fold
 
 waveform-more : (x : Waveform) (w : List ℕ) (ws : List (List ℕ)) → waveformOn x (w ∷ ws) ≡ waveformOn (withWaveformLine x w) ws
 unfolding waveformOn lineSays rowsIn
-waveform-more x w ws = ap (withCount (waveformOn (withWaveformLine x w) ws)) (onto-row count-fold (x .rows .count) (rowOf (words w)) (rowsIn ws))
+waveform-more x w ws = ap (withCount (waveformOn (withWaveformLine x w) ws)) (onto-row count-fold (x .rows .count) (rowOf w) (rowsIn ws))
 
 waveform-none : (x : Waveform) → waveformOn x [] ≡ x
 unfolding waveformOn lineSays rowsIn
@@ -80,8 +83,8 @@ module _ (x : Waveform) (w : List ℕ) where
         h "C_dut" (x .cdut) refl,
       )
 
-  pub fixture-bad : (n : ℕ) → numberLine w ≡ fault n → x ≡ fixtureLine x w
-  fixture-bad n q = fixture-kept (λ name v h. takes-fault name numberLine v w n q)
+  pub fixture-bad : {f : LineFault} → toldIn w (numberLine w) ≡ fault f → x ≡ fixtureLine x w
+  fixture-bad q = fixture-kept (λ name v h. takes-flawed name numberLine v w q)
 
   pub fixture-nothing : lineAt fixtures w ≡ Nothing → x ≡ fixtureLine x w
   unfolding placeFrom words grown ontoWord isBlank eqs
@@ -112,18 +115,18 @@ named-letter : (name : String) (w : List ℕ) → isNamed name w ≡ true → be
 unfolding isNamed nameOf
 named-letter name w e h = begins-front _ (word 0 (words w)) (ap beginsLetter (eqs-eq (nameOf w) (bytes name) e) ∙ h)
 
-takes-row : (w : List ℕ) (r : Row) → says r ≡ rowOf (words w) → (name : String) (v : Cell) → beginsLetter (bytes name) ≡ true → takes name numberLine v w ≡ v
+takes-row : (w : List ℕ) (r : Row) → says r ≡ rowOf w → (name : String) (v : Cell) → beginsLetter (bytes name) ≡ true → takes name numberLine v w ≡ v
 unfolding takes
 takes-row w r e name v h =
     by-test (isNamed name w)
-    (λ q. let z : says r ≡ fault _ = e ∙ letter-no-row (words w) (named-letter name w q h) in let y : _≡_ {A = ℕ} 0 1 = cc in impossible y)
+    (λ q. let z : says r ≡ fault _ = e ∙ letter-no-row w (named-letter name w q h) in let y : _≡_ {A = ℕ} 0 1 = cc in impossible y)
     (λ q. cond-no _ _ q)
 
 module _ (x : Waveform) (w : List ℕ) where
-  pub line-row : (r : Row) → says r ≡ rowOf (words w) → withCount x (x .rows .count + 1) ≡ withWaveformLine x w
+  pub line-row : (r : Row) → says r ≡ rowOf w → withCount x (x .rows .count + 1) ≡ withWaveformLine x w
   line-row r e =
       ap (λ (y : Waveform). withCount y (x .rows .count + 1)) (fixture-kept x w (takes-row w r e))
       ∙ ap (λ read. withCount (fixtureLine x w) (counted (x .rows .count) read)) e
 
-  pub line-fixture : (n : ℕ) → fault n ≡ rowOf (words w) → fixtureLine x w ≡ withWaveformLine x w
-  line-fixture n e = ap (λ read. withCount (fixtureLine x w) (counted (x .rows .count) read)) e
+  pub line-fixture : {f : LineFault} → fault f ≡ toldIn w (rowOf w) → fixtureLine x w ≡ withWaveformLine x w
+  line-fixture e = ap (withCount (fixtureLine x w)) (row-kept _ (x .rows .count) w (rowOf w) e)

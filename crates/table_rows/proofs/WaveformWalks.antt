@@ -8,12 +8,12 @@ use borrow.Rule.Slice.PartMut.{putMid, midOf}
 use Rattle.laws.specs.Lists.{part}
 use Rattle.cut_lines.specs.Cursors.{rest, Placed}
 use Rattle.cut_lines.specs.declared.Cursor.{Cursor}
-use Rattle.words.specs.Words.{words}
 use Rattle.line_rules.specs.Fields.{rowOf}
 use Rattle.line_cells.specs.Rows.{rowWorded}
 use Rattle.line_cells.specs.declared.RowWords.{RowWords}
 use Rattle.line_cells.proofs.Rows.{row-there, row-amiss}
 use Rattle.rules.specs.Reading.{under, waveformIn}
+use Rattle.records.specs.Flaws.{toldIn}
 use Rattle.records.specs.Stored.{stored, over}
 use Rattle.records.specs.declared.Edge.{Edge}
 use Rattle.records.specs.declared.Waveform.{Waveform}
@@ -34,7 +34,7 @@ pub reads-start : (s : List ℕ) (c : Cursor) (x : Waveform) (before : List ℕ)
 reads-start s c x before h = record { gathers = gathers-start waveform-fold s c (withCount x 0) h; fills = fills-start s c before h }
 
 module _ {s : List ℕ} {c d : Cursor} {x₀ x : Waveform} {before now : List ℕ} {used : ℕ} (p : Reads s c d x₀ x before now used) where
-  module _ {r : LineNext} {a e : ℕ} {n : Cursor} (q : r ≡ next.Line a e n) (l : LineNextIs s d r) {row : RowWords} (i : row ≡ rowWorded (rowOf (words (part a e s)))) where
+  module _ {r : LineNext} {a e : ℕ} {n : Cursor} (q : r ≡ next.Line a e n) (l : LineNextIs s d r) {row : RowWords} (i : row ≡ rowWorded (toldIn (part a e s) (rowOf (part a e s)))) where
     abbrev line : List ℕ
     line = part a e s
 
@@ -42,7 +42,7 @@ module _ {s : List ℕ} {c d : Cursor} {x₀ x : Waveform} {before now : List �
         → Reads s c n x₀ x before (putMid used (length now - used) now (over (midOf used (length now - used) now) (fourWords row))) (used + 4)
     reads-row j h =
         let k : (used + 4) / 4 ≡ used / 4 + 1 = omega arith in
-        let t = row-there (words line) i j in
+        let t = row-there line i j in
         record {
           gathers = gathers-line (p .gathers) q l (ap (withCount x) k ∙ line-row (withCount x (used / 4)) line (t .row) (t .said));
           fills = fills-row (p .fills) q l i j h;
@@ -53,7 +53,7 @@ module _ {s : List ℕ} {c d : Cursor} {x₀ x : Waveform} {before now : List �
         record {
           gathers =
               gathers-line (p .gathers) q l
-              (ap (λ (y : Waveform). withCount y (used / 4)) z ∙ line-fixture (withCount x (used / 4)) line (row .fault) (row-amiss (words line) i j .0));
+              (ap (λ (y : Waveform). withCount y (used / 4)) z ∙ line-fixture (withCount x (used / 4)) line (row-amiss line i j .0));
           fills = fills-none (p .fills) q l i j;
         }
 

@@ -3,10 +3,11 @@ use Prim.Native.Nat.{ℕ, _+_, _≤_}
 use mathlib.Core.Path.{_≡_}
 use mathlib.Core.List.{List, [], _∷_}
 use lib.ListN.{length}
-use Rattle.laws.specs.Said.{Said, says, fault}
+use Rattle.laws.specs.Said.{says, fault}
 use Rattle.cut_lines.specs.Cursors.{rest}
 use Rattle.cut_lines.specs.declared.Cursor.{Cursor}
 use Rattle.rules.specs.Reading.{under, rowsIn}
+use Rattle.records.specs.Flaws.{Reads}
 use Rattle.records.specs.Stored.{stored, over}
 use Rattle.records.specs.declared.Row.{Row}
 use Rattle.line_cells.specs.declared.RowWords.{RowWords}
@@ -27,11 +28,11 @@ abbrev pub fourWords : RowWords → List ℕ
 fourWords r = r .number ∷ r .typ ∷ r .min ∷ r .max ∷ []
 
 -- a line more: it has a row, or nothing
-abbrev pub withSaidRow : {X : Type 0} → (X → Row → X) → X → Said Row → X
+abbrev pub withSaidRow : {X : Type 0} → (X → Row → X) → X → Reads Row → X
 withSaidRow add x (says r) = add x r
-withSaidRow add x (fault n) = x
+withSaidRow add x (fault f) = x
 
-abbrev pub counted : ℕ → Said Row → ℕ
+abbrev pub counted : ℕ → Reads Row → ℕ
 counted = withSaidRow (λ (n : ℕ) (r : Row). n + 1)
 
 -- the words written, and the row store behind it; every row has a byte

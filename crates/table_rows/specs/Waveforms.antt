@@ -6,7 +6,6 @@ use lib.ListN.{length}
 use lib.Dec.{eqb}
 use Rattle.decimal.specs.declared.Cell.{Cell}
 use Rattle.decimal.specs.declared.Cell.the-variants.{Missing}
-use Rattle.words.specs.Words.{words}
 use Rattle.line_rules.specs.Fields.{rowOf, numberLine, takes, lineSays}
 use Rattle.rules.specs.Reading.{rowsIn}
 use Rattle.records.specs.declared.Edge.{Edge}
@@ -83,7 +82,7 @@ fixtureLine x w =
 
 -- what a line makes of it, and what lines do
 abbrev pub withWaveformLine : Waveform → List ℕ → Waveform
-withWaveformLine x w = withCount (fixtureLine x w) (counted (x .rows .count) (rowOf (words w)))
+withWaveformLine x w = withCount (fixtureLine x w) (counted (x .rows .count) (rowOf w))
 
 unfoldable pub waveformOn : Waveform → List (List ℕ) → Waveform
 waveformOn x ls =

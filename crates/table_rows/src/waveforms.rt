@@ -14,7 +14,7 @@ use crate::WaveformFilled;
 use crate::rows::put_row;
 use cut_lines::Cursor;
 use decimal::Cell;
-use decimal::CellRead;
+use line_rules::LineCell;
 use lines_under::LineNext;
 use name_table::Found;
 use records::Edge;
@@ -88,8 +88,8 @@ fn with_fixture(x: Waveform, w: &[u8]) -> Waveform
 {
     match named_lines::fixture_line(w) {
         Found::At(n) => match named_lines::number_line(w) {
-            CellRead::Read(number) => fixture_at(x, n, number),
-            CellRead::Bad(_) => x,
+            LineCell::Stated(number) => fixture_at(x, n, number),
+            LineCell::Misstated(_) => x,
         },
         Found::Nothing => x,
     }

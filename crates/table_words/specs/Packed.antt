@@ -33,12 +33,17 @@ abbrev pub faultLine : Verdict → ℕ
 faultLine Accepted = 0
 faultLine (Refused f) = f .line
 
-abbrev pub countWords : ℕ → Counts → List ℕ
-countWords k c = k ∷ c .components ∷ c .pins ∷ c .selectors ∷ c .choices ∷ c .models ∷ c .waveforms ∷ c .rows ∷ []
+abbrev pub faultColumn : Verdict → ℕ
+faultColumn Accepted = 0
+faultColumn (Refused f) = f .column
 
--- 40 words
+-- line, column and counts
+abbrev pub countWords : ℕ → ℕ → Counts → List ℕ
+countWords k n c = k ∷ n ∷ c .components ∷ c .pins ∷ c .selectors ∷ c .choices ∷ c .models ∷ c .waveforms ∷ c .rows ∷ []
+
+-- 41 words
 abbrev pub answerWords : Answer → List ℕ
-answerWords a = countWords (faultLine (a .verdict)) (a .counts) ++ textWords (a .header .name) ++ textWords (a .header .revision)
+answerWords a = countWords (faultLine (a .verdict)) (faultColumn (a .verdict)) (a .counts) ++ textWords (a .header .name) ++ textWords (a .header .revision)
 
 -- ---- the lent tables
 

@@ -1,6 +1,6 @@
 // The answer and the tables as words, for C: a record is as many words as its fields need, and a table has its records one after the other.
 ghost use mathlib.Core.Path.{_≡_};
-ghost use Rattle.table_words.specs.Packed.{faultNumber, faultLine, countWords, answerWords, wordTables, Room, filled};
+ghost use Rattle.table_words.specs.Packed.{faultNumber, faultLine, faultColumn, countWords, answerWords, wordTables, Room, filled};
 use record_words::ANSWER_WORDS;
 use record_words::COUNT_WORDS;
 use record_words::TEXT_WORDS;
@@ -31,11 +31,21 @@ pub fn fault_line(v: Verdict) -> u64
     }
 }
 
-fn count_words(line: u64, c: Counts) -> [u64; COUNT_WORDS]
-    ensures { λ r. ⌜ r ≡ countWords line c ⌝ }
+pub fn fault_column(v: Verdict) -> u64
+    ensures { λ r. ⌜ r ≡ faultColumn v ⌝ }
+{
+    match v {
+        Verdict::Accepted => 0,
+        Verdict::Refused(f) => f.column,
+    }
+}
+
+fn count_words(line: u64, column: u64, c: Counts) -> [u64; COUNT_WORDS]
+    ensures { λ r. ⌜ r ≡ countWords line column c ⌝ }
 {
     [
         line,
+        column,
         c.components as u64,
         c.pins as u64,
         c.selectors as u64,
@@ -50,7 +60,7 @@ pub fn put_answer(answer: &mut [u64; ANSWER_WORDS], a: Answer)
     ensures { λ _. ⌜ now (answer .exit) ≡ answerWords a ⌝ }
 {
     let v = a.verdict;
-    let head = count_words(fault_line(v), a.counts);
+    let head = count_words(fault_line(v), fault_column(v), a.counts);
     let name = record_words::tables::text_words(a.header.name);
     let revision = record_words::tables::text_words(a.header.revision);
     section_words::put(answer, 0, &head);

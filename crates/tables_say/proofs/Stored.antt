@@ -3,10 +3,7 @@ use Prim.Native.Nat.{ℕ, _+_}
 use mathlib.Core.Path.{_≡_, refl, ap₂}
 use mathlib.Core.List.{List, [], _∷_, _++_, flatMap}
 use mathlib.Core.Bool.{false}
-use lib.ListN.{length, drop}
-use lib.Dec.{eqb}
-use Rattle.laws.specs.Said.{Said, says, fault, readOn}
-use Rattle.laws.proofs.Tests.{cond-all}
+use Rattle.laws.specs.Said.{Said, says, fault}
 use Rattle.decimal.specs.Decimal.{wordOf, numberOf, cellOf}
 use Rattle.decimal.specs.Answers.{cellIn}
 use Rattle.decimal.specs.Fine.{FineNumber, FineRead}
@@ -15,23 +12,15 @@ use Rattle.decimal.specs.declared.Cell.{Cell}
 use Rattle.decimal.specs.declared.Cell.the-variants.{Number, Missing}
 use Rattle.decimal.proofs.Cells.{kept}
 use Rattle.decimal.proofs.Fine.{number-fine, cell-fine}
-use Rattle.words.specs.Words.{word, words}
-use Rattle.line_rules.specs.Fields.{exactly, cellsBy, rowOf}
+use Rattle.words.specs.Words.{restFrom}
+use Rattle.records.specs.Flaws.{Reads}
+use Rattle.line_rules.specs.Fields.{wordBy, cellsBy, rowOf}
+use Rattle.line_rules.proofs.Says.{Says, says-on, word-says, exactly-says}
 use Rattle.rules.specs.Reading.{TableIs, tablesIn, ontoRows, rowsIn, SectionIs, component, selector, model, FileIs}
 use Rattle.layout.specs.Laid.{Laid, rowsOf, withSection, laidFrom, laid}
 use Rattle.records.specs.Stored.{stored}
 use Rattle.records.specs.declared.Row.{Row}
 use Rattle.records.specs.declared.Triple.{Triple}
-
--- ---- what is said has this
-
-abbrev Says : {A : Type 0} → (A → Type 0) → Said A → Type 0
-Says P (says a) = P a
-Says P (fault n) = Unit {0}
-
-says-on : {A B : Type 0} (P : A → Type 0) (Q : B → Type 0) (r : Said A) (go : A → Said B) → Says P r → ((a : A) → P a → Says Q (go a)) → Says Q (readOn r go)
-says-on P Q (says a) go h k = k a h
-says-on P Q (fault n) go h k = tt
 
 -- ---- a row from its words
 
@@ -52,6 +41,9 @@ rowsFrom (a ∷ b ∷ c ∷ d ∷ ws) = rowFrom a b c d ∷ rowsFrom ws
 abbrev CellBack : Cell → Type 0
 CellBack c = cellIn (wordOf c) ≡ c
 
+abbrev NumberBack : Decimal → Type 0
+NumberBack d = CellBack (Number d)
+
 abbrev TripleBack : Triple → Type 0
 TripleBack t = CellBack (t .typ) × CellBack (t .min) × CellBack (t .max)
 
@@ -64,7 +56,7 @@ row-back d t h k =
 
 -- ---- what is read comes back
 
-fine-number : (r : Said Decimal) → FineNumber r → Says (λ (d : Decimal). CellBack (Number d)) r
+fine-number : (r : Said Decimal) → FineNumber r → Says NumberBack r
 fine-number (says d) h = kept (Number d) h
 fine-number (fault n) h = tt
 
@@ -72,29 +64,30 @@ fine-cell : (r : Said Cell) → FineRead r → Says CellBack r
 fine-cell (says c) h = kept c h
 fine-cell (fault n) h = tt
 
-number-back : (w : List ℕ) → Says (λ (d : Decimal). CellBack (Number d)) (numberOf w)
+number-back : (w : List ℕ) → Says NumberBack (numberOf w)
 number-back w = fine-number (numberOf w) (number-fine w)
 
 cell-back : (w : List ℕ) → Says CellBack (cellOf w)
 cell-back w = fine-cell (cellOf w) (cell-fine w)
 
-cells-back : (ws : List (List ℕ)) → Says TripleBack (cellsBy cellOf ws)
-unfolding cellsBy exactly
-cells-back ws =
-    cond-all (Says TripleBack) (eqb (length ws) 3) _ (fault 10)
-    (λ h. says-on CellBack TripleBack (cellOf (word 0 ws)) _ (cell-back (word 0 ws))
-    (λ a x. says-on CellBack TripleBack (cellOf (word 1 ws)) _ (cell-back (word 1 ws))
-    (λ b y. says-on CellBack TripleBack (cellOf (word 2 ws)) _ (cell-back (word 2 ws))
-    (λ c z. (x, y, z)))))
-    (λ h. tt)
+cell-at : (n : ℕ) (v : List ℕ) → Says CellBack (wordBy cellOf n v)
+cell-at n v = word-says CellBack cellOf cell-back n v
 
-row-read : (ws : List (List ℕ)) → Says RowBack (rowOf ws)
-unfolding rowOf exactly
-row-read ws =
-    cond-all (Says RowBack) (eqb (length ws) 4) _ (fault 10)
-    (λ h. says-on (λ (d : Decimal). CellBack (Number d)) RowBack (numberOf (word 0 ws)) _ (number-back (word 0 ws))
-    (λ d x. says-on TripleBack RowBack (cellsBy cellOf (drop 1 ws)) _ (cells-back (drop 1 ws)) (λ t y. row-back d t x y)))
-    (λ h. tt)
+cells-back : (v : List ℕ) → Says TripleBack (cellsBy cellOf v)
+unfolding cellsBy
+cells-back v =
+    exactly-says TripleBack 3 _ v
+    (says-on CellBack TripleBack (wordBy cellOf 0 v) _ (cell-at 0 v)
+    (λ a x. says-on CellBack TripleBack (wordBy cellOf 1 v) _ (cell-at 1 v)
+    (λ b y. says-on CellBack TripleBack (wordBy cellOf 2 v) _ (cell-at 2 v)
+    (λ c z. (x, y, z)))))
+
+row-read : (w : List ℕ) → Says RowBack (rowOf w)
+unfolding rowOf
+row-read w =
+    exactly-says RowBack 4 _ w
+    (says-on NumberBack RowBack (wordBy numberOf 0 w) _ (word-says NumberBack numberOf number-back 0 w)
+    (λ d x. says-on TripleBack RowBack (cellsBy cellOf (restFrom 1 w)) _ (cells-back (restFrom 1 w)) (λ t y. row-back d t x y)))
 
 -- ---- the rows of a file
 
@@ -106,14 +99,14 @@ back-both : (xs ys : List Row) → AllBack xs → AllBack ys → AllBack (xs ++ 
 back-both [] ys h k = k
 back-both (x ∷ xs) ys h k = (h .0, back-both xs ys (h .1) k)
 
-back-onto : (x : Said Row) (rs : List Row) → Says RowBack x → AllBack rs → AllBack (ontoRows x rs)
+back-onto : (x : Reads Row) (rs : List Row) → Says RowBack x → AllBack rs → AllBack (ontoRows x rs)
 back-onto (says r) rs h k = (h, k)
-back-onto (fault n) rs h k = k
+back-onto (fault f) rs h k = k
 
 back-read : (ls : List (List ℕ)) → AllBack (rowsIn ls)
 unfolding rowsIn
 back-read [] = tt
-back-read (w ∷ ws) = back-onto (rowOf (words w)) (rowsIn ws) (row-read (words w)) (back-read ws)
+back-read (w ∷ ws) = back-onto (rowOf w) (rowsIn ws) (row-read w) (back-read ws)
 
 back-tables : (ts : List TableIs) → AllBack (flatMap rowsOf ts)
 unfolding flatMap

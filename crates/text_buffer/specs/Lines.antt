@@ -35,9 +35,9 @@ acceptedText n =
     bytes "OK" ++ countText (n .components) ++ countText (n .pins) ++ countText (n .selectors) ++ countText (n .models) ++ countText (n .rows)
     ++ bytes "\n"
 
--- "Refused: `NO`, number, line"
+-- "Refused: `NO`, number, line"; document 02: "The listing's `NO` line gets the column as a third number"
 unfoldable pub refusedText : Fault → List ℕ
-refusedText f = bytes "NO" ++ countText (f .number) ++ countText (f .line) ++ bytes "\n"
+refusedText f = bytes "NO" ++ countText (f .number) ++ countText (f .line) ++ countText (f .column) ++ bytes "\n"
 
 -- "for each pin `P`, pin, signal, model after selection .., Vinl, Vinh"
 unfoldable pub pinText : Name → Name → Name → Cell → Cell → List ℕ

@@ -52,14 +52,15 @@ pub fn accepted_line(out: &mut [u8], at: usize, counts: Counts) -> usize
     put_byte(out, rows, b'\n')
 }
 
-// `NO`, the fault's number and its line.
+// `NO`, the fault's number, its line and its column.
 pub fn refused_line(out: &mut [u8], at: usize, fault: Fault) -> usize
     ensures { λ r. ⌜ Put (now (out .entry)) (now (out .exit)) at (refusedText fault) r ⌝ }
 {
     let verdict = put_bytes(out, at, b"NO");
     let number = put_count(out, verdict, fault.number as usize);
     let line = put_count(out, number, fault.line as usize);
-    put_byte(out, line, b'\n')
+    let column = put_count(out, line, fault.column as usize);
+    put_byte(out, column, b'\n')
 }
 
 // `P`, pin, signal, the model after selection, its Vinl and its Vinh.

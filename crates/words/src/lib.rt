@@ -5,7 +5,8 @@ ghost use Prim.Native.Nat.{_+_, _≤_};
 ghost use lib.ListN.{length, drop};
 ghost use Rattle.laws.specs.Bytes.{isBlank, capital, spelledByte};
 ghost use Rattle.laws.specs.Lists.{front, trim, other, eqs};
-ghost use Rattle.words.specs.Places.{WordAt, isInk};
+ghost use Rattle.words.specs.Places.{WordAt};
+ghost use Rattle.words.specs.Words.{isInk};
 ghost use Rattle.words.specs.Spelled.{byteAs};
 
 // A word, from start up to end. Where no word is left, both are the end of the slice.
@@ -136,7 +137,7 @@ pub fn skip_blanks(s: &[u8], at: usize) -> usize
 }
 
 // Where the bytes other than blanks from at on end.
-fn skip_ink(s: &[u8], at: usize) -> usize
+pub fn skip_ink(s: &[u8], at: usize) -> usize
     requires { ⌜ at ≤ length (now s) ⌝ }
     ensures { λ r. ⌜ r ≡ at + length (front isInk (drop at (now (s .entry)))) ⌝ }
     ensures { λ r. ⌜ (at ≤ r) × (r ≤ length (now (s .entry))) ⌝ }

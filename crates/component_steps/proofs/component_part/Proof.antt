@@ -1,48 +1,57 @@
--- Given before, a fault of the argument, or on: `refused`, `faulted`, `clean`.
+-- Given before, a fault of the argument, or on: `refused`, `flawed`, `flawless`.
+use Prim.Native.Nat.{ℕ}
 use mathlib.Core.Path.{sym, ap, _∙_}
+use mathlib.Core.List.{List}
+use denote.Ref.{now}
+use Rattle.records.specs.Flaws.{told}
 use Rattle.given.specs.Given.{has}
-use Rattle.rules.specs.Component.{componentPart}
-use Rattle.rules.proofs.Going.{refused, passed, faulted, clean}
+use Rattle.rules.specs.Component.{componentFlaw, componentOpens, componentPart}
+use Rattle.rules.proofs.Going.{refused, passed, flawed, flawless}
+use borrow.Author.Needs.{needs}
 use Rattle.component_steps.proofs.component_part.Statement.{statement}
 use Rattle.component_steps.proofs.component_part.Tie as tie
 
 part-place-requires : tie.Need-part-place-requires
-part-place-requires c κs = tt
+part-place-requires c κs = search needs
 
 is-given-requires : tie.Need-is-given-requires
-is-given-requires c κs = tt
+is-given-requires c κs = search needs
 
 stopped-requires : tie.Need-stopped-requires
-stopped-requires c κs = tt
+stopped-requires c κs = search needs
 
 returns : tie.Need-returns
 unfolding componentPart
 returns c = c .stopped .ensures ∙ refused 8 _ _ (sym (ap (has (c .before .before .before .before .before .before .args .c .parts)) (c .before .before .before .before .part-place .ensures)) ∙ sym (c .before .before .is-given .ensures) ∙ c .before .if1 .taken)
 
 component-fault-requires : tie.Need-component-fault-requires
-component-fault-requires c κs = tt
+component-fault-requires c κs = c .before .before .before .before .before .pre .within
 
-stopped-requires-2 : tie.Need-stopped-requires-2
-stopped-requires-2 c κs = tt
+stopped-at-requires : tie.Need-stopped-at-requires
+stopped-at-requires c κs = search needs
 
 returns-2 : tie.Need-returns-2
 unfolding componentPart
 returns-2 c =
-    c .stopped2 .ensures ∙ faulted _ _ (c .before .before .component-fault .ensures) (c .before .if2 .taken)
-    ∙ passed 8 _ _ (sym (ap (has (c .before .before .before .before .before .before .before .before .args .c .parts)) (c .before .before .before .before .before .before .part-place .ensures)) ∙ sym (c .before .before .before .before .is-given .ensures) ∙ c .before .before .before .if1 .left)
+    let w = now (c .before .before .before .before .before .before .before .before .before .args .w) in
+    c .stopped-at .ensures
+    ∙ flawed _ _ (c .before .before .before .component-fault .ensures ∙ ap (λ (v : List ℕ). told w (componentFlaw v (c .before .before .before .before .before .before .before .before .before .args .p))) (c .before .before .before .before .before .before .before .before .before .pre .text)) (c .before .if2 .taken)
+    ∙ passed 8 _ _ (sym (ap (has (c .before .before .before .before .before .before .before .before .before .args .c .parts)) (c .before .before .before .before .before .before .before .part-place .ensures)) ∙ sym (c .before .before .before .before .before .is-given .ensures) ∙ c .before .before .before .before .if1 .left)
 
 also-requires : tie.Need-also-requires
-also-requires c κs = tt
+also-requires c κs = search needs
 
 part-opens-requires : tie.Need-part-opens-requires
-part-opens-requires c κs = tt
+part-opens-requires c κs = c .before .before .before .before .before .before .before .before .before .before .pre .within
 
 returns-3 : tie.Need-returns-3
 unfolding componentPart
 returns-3 c =
-    rw (c .before .also .ensures, c .part-opens .ensures, c .before .before .before .before .before .before .before .before .part-place .ensures)
-    (clean _ _ (c .before .before .before .before .component-fault .ensures) (c .before .before .before .if2 .left)
-    ∙ passed 8 _ _ (sym (ap (has (c .before .before .before .before .before .before .before .before .before .before .args .c .parts)) (c .before .before .before .before .before .before .before .before .part-place .ensures)) ∙ sym (c .before .before .before .before .before .before .is-given .ensures) ∙ c .before .before .before .before .before .if1 .left))
+    let w = now (c .before .before .before .before .before .before .before .before .before .before .before .args .w) in
+    let opens = c .part-opens .ensures ∙ ap (λ (v : List ℕ). componentOpens (c .before .before .before .before .before .before .before .before .before .before .before .args .k) v (c .before .before .before .before .before .before .before .before .before .before .before .args .p)) (c .before .before .before .before .before .before .before .before .before .before .before .pre .text) in
+    rw (c .before .also .ensures, opens, c .before .before .before .before .before .before .before .before .before .part-place .ensures)
+    (flawless _ _ (c .before .before .before .before .before .component-fault .ensures ∙ ap (λ (v : List ℕ). told w (componentFlaw v (c .before .before .before .before .before .before .before .before .before .before .before .args .p))) (c .before .before .before .before .before .before .before .before .before .before .before .pre .text)) (c .before .before .before .if2 .left)
+    ∙ passed 8 _ _ (sym (ap (has (c .before .before .before .before .before .before .before .before .before .before .before .args .c .parts)) (c .before .before .before .before .before .before .before .before .before .part-place .ensures)) ∙ sym (c .before .before .before .before .before .before .before .is-given .ensures) ∙ c .before .before .before .before .before .before .if1 .left))
 
 pub component-part-spec : {M : Type 1} → statement M
 component-part-spec =
@@ -53,7 +62,7 @@ component-part-spec =
     stopped-requires
     returns
     component-fault-requires
-    stopped-requires-2
+    stopped-at-requires
     returns-2
     also-requires
     part-opens-requires

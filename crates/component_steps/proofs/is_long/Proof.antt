@@ -1,16 +1,16 @@
 -- By what the code answers of the heading.
 use mathlib.Core.Path.{sym, ap, _∙_}
-use borrow.Author.Needs.{needs}
+use lib.ListN.{drop}
 use denote.Ref.{now}
-use Rattle.words.specs.Words.{words}
 use Rattle.line_rules.specs.Fields.{heading}
 use Rattle.line_cells.specs.Headings.{isLong}
 use Rattle.line_cells.proofs.Headings.{heading-long}
+use borrow.Author.Needs.{needs}
 use Rattle.component_steps.proofs.is_long.Statement.{statement}
 use Rattle.component_steps.proofs.is_long.Tie as tie
 
 heading-of-requires : tie.Need-heading-of-requires
-heading-of-requires c κs = tt
+heading-of-requires c κs = search needs
 
 enum-told : tie.Need-enum-told
 enum-told c = search needs
@@ -22,13 +22,19 @@ enum-told-3 : tie.Need-enum-told-3
 enum-told-3 c = search needs
 
 returns : tie.Need-returns
-returns c = sym (heading-long (heading (words (now (c .before .before .before .before .args .argument)))) ∙ ap isLong (sym (c .before .before .heading-of .ensures) ∙ c .enum-told .given .1))
+returns c =
+    let w = now (c .before .before .before .before .args .w) in
+    sym (heading-long w (heading (drop (c .before .before .before .before .args .at) w)) ∙ ap isLong (sym (c .before .before .heading-of .ensures) ∙ c .enum-told .given .1))
 
 returns-2 : tie.Need-returns-2
-returns-2 c = sym (heading-long (heading (words (now (c .before .before .before .before .args .argument)))) ∙ ap isLong (sym (c .before .before .heading-of .ensures) ∙ c .enum-told2 .given .1))
+returns-2 c =
+    let w = now (c .before .before .before .before .args .w) in
+    sym (heading-long w (heading (drop (c .before .before .before .before .args .at) w)) ∙ ap isLong (sym (c .before .before .heading-of .ensures) ∙ c .enum-told2 .given .1))
 
 returns-3 : tie.Need-returns-3
-returns-3 c = sym (heading-long (heading (words (now (c .before .before .before .before .args .argument)))) ∙ ap isLong (sym (c .before .before .heading-of .ensures) ∙ c .enum-told3 .given .1))
+returns-3 c =
+    let w = now (c .before .before .before .before .args .w) in
+    sym (heading-long w (heading (drop (c .before .before .before .before .args .at) w)) ∙ ap isLong (sym (c .before .before .heading-of .ensures) ∙ c .enum-told3 .given .1))
 
 pub is-long-spec : {M : Type 1} → statement M
 is-long-spec =

@@ -1,16 +1,14 @@
--- Not such a line, given before, a fault of its cells, or on: `refused`, `faulted`, `clean`.
+-- Not such a line, given before, a fault of its cells, or on: `refused`, `flawed`, `flawless`.
 use mathlib.Core.Path.{sym, ap, _∙_}
+use Rattle.records.specs.declared.LineFault.{LineFault}
+use Rattle.rules.specs.Going.{stopAt}
+use Rattle.rules.proofs.Going.{refused, passed, flawed, flawless}
 use borrow.Author.Needs.{needs}
-use denote.Ref.{now}
-use Rattle.laws.specs.Said.{faultIn}
-use Rattle.line_rules.specs.Fields.{cellsLine}
-use Rattle.line_rules.proofs.Answers.{triple-said}
-use Rattle.rules.proofs.Going.{refused, passed, faulted, clean}
 use Rattle.component_steps.proofs.package_line.Statement.{statement}
 use Rattle.component_steps.proofs.package_line.Tie as tie
 
 package-line-requires : tie.Need-package-line-requires
-package-line-requires c κs = tt
+package-line-requires c κs = search needs
 
 enum-known-found : tie.Need-enum-known-found
 enum-known-found c = search needs
@@ -18,48 +16,48 @@ enum-known-found c = search needs
 enum-told : tie.Need-enum-told
 enum-told c = search needs
 
-stopped-requires : tie.Need-stopped-requires
-stopped-requires c κs = tt
+name-fault-requires : tie.Need-name-fault-requires
+name-fault-requires c κs = search needs
+
+stopped-at-requires : tie.Need-stopped-at-requires
+stopped-at-requires c κs = search needs
 
 returns : tie.Need-returns
-returns c = rw (sym (c .before .before .before .package-line .ensures) ∙ c .before .enum-told .given .1) (c .stopped .ensures)
+returns c = rw (sym (c .before .before .before .before .package-line .ensures) ∙ c .before .before .enum-told .given .1) (c .stopped-at .ensures ∙ ap (λ (f : LineFault). stopAt f (c .before .before .before .before .before .before .args .k)) (c .before .name-fault .ensures))
 
 is-given-requires : tie.Need-is-given-requires
-is-given-requires c κs = tt
+is-given-requires c κs = search needs
 
-stopped-requires-2 : tie.Need-stopped-requires-2
-stopped-requires-2 c κs = tt
+stopped-requires : tie.Need-stopped-requires
+stopped-requires c κs = search needs
 
 returns-2 : tie.Need-returns-2
 returns-2 c =
     rw (sym (c .before .before .before .before .before .before .package-line .ensures) ∙ c .before .before .before .before .found .given .1)
-    (c .stopped2 .ensures ∙ refused 8 _ _ (sym (c .before .before .is-given .ensures) ∙ c .before .if1 .taken))
+    (c .stopped .ensures ∙ refused 8 _ _ (sym (c .before .before .is-given .ensures) ∙ c .before .if1 .taken))
 
-cells-line-requires : tie.Need-cells-line-requires
-cells-line-requires c κs = tt
+cells-fault-requires : tie.Need-cells-fault-requires
+cells-fault-requires c κs = search needs
 
-triple-fault-requires : tie.Need-triple-fault-requires
-triple-fault-requires c κs = tt
-
-stopped-requires-3 : tie.Need-stopped-requires-3
-stopped-requires-3 c κs = tt
+stopped-at-requires-2 : tie.Need-stopped-at-requires-2
+stopped-at-requires-2 c κs = search needs
 
 returns-3 : tie.Need-returns-3
 returns-3 c =
     rw (sym (c .before .before .before .before .before .before .before .before .before .package-line .ensures) ∙ c .before .before .before .before .before .before .before .found .given .1)
-    (c .stopped3 .ensures ∙ faulted _ _ (c .before .before .triple-fault .ensures ∙ ap faultIn (triple-said _ (cellsLine (now (c .before .before .before .before .before .before .before .before .before .before .before .args .w))) (c .before .before .before .cells-line .ensures))) (c .before .if2 .taken)
+    (c .stopped-at2 .ensures ∙ flawed _ _ (c .before .before .before .cells-fault .ensures) (c .before .if2 .taken)
     ∙ passed 8 _ _ (sym (c .before .before .before .before .before .is-given .ensures) ∙ c .before .before .before .before .if1 .left))
 
 also-requires : tie.Need-also-requires
-also-requires c κs = tt
+also-requires c κs = search needs
 
 with-list-requires : tie.Need-with-list-requires
-with-list-requires c κs = tt
+with-list-requires c κs = search needs
 
 returns-4 : tie.Need-returns-4
 returns-4 c =
     rw (sym (c .before .before .before .before .before .before .before .before .before .before .package-line .ensures) ∙ c .before .before .before .before .before .before .before .before .found .given .1, c .with-list .ensures, c .before .also .ensures)
-    (clean _ _ (c .before .before .before .triple-fault .ensures ∙ ap faultIn (triple-said _ (cellsLine (now (c .before .before .before .before .before .before .before .before .before .before .before .before .args .w))) (c .before .before .before .before .cells-line .ensures))) (c .before .before .if2 .left)
+    (flawless _ _ (c .before .before .before .before .cells-fault .ensures) (c .before .before .if2 .left)
     ∙ passed 8 _ _ (sym (c .before .before .before .before .before .before .is-given .ensures) ∙ c .before .before .before .before .before .if1 .left))
 
 pub package-line-spec : {M : Type 1} → statement M
@@ -69,14 +67,14 @@ package-line-spec =
     package-line-requires
     enum-known-found
     enum-told
-    stopped-requires
+    name-fault-requires
+    stopped-at-requires
     returns
     is-given-requires
-    stopped-requires-2
+    stopped-requires
     returns-2
-    cells-line-requires
-    triple-fault-requires
-    stopped-requires-3
+    cells-fault-requires
+    stopped-at-requires-2
     returns-3
     also-requires
     with-list-requires

@@ -10,13 +10,13 @@ enum-told-2 : tie.Need-enum-told-2
 enum-told-2 c = search needs
 
 none-given-requires : tie.Need-none-given-requires
-none-given-requires c κs = tt
+none-given-requires c κs = search needs
 
 enum-told-3 : tie.Need-enum-told-3
 enum-told-3 c = search needs
 
 is-long-requires : tie.Need-is-long-requires
-is-long-requires c κs = tt
+is-long-requires c κs = search needs
 
 returns : tie.Need-returns
 returns c = search needs

@@ -1,33 +1,27 @@
--- Fewer than three words, then the names, then the cells or nothing: `row-few`, `row-fails`, `row-cells`, `row-short`, `row-names`.
+-- A name that fails, then the cells or nothing: `row-fails`, `row-cells`, `row-short`, `row-names`.
 use Prim.Native.Nat.{ℕ}
-use mathlib.Core.Path.{sym, ap, _∙_}
 use mathlib.Core.List.{List}
-use native.Mathlib.Omega.{arith}
-use lib.ListN.{length, drop}
-use borrow.Author.Needs.{needs}
-use borrow.Author.Tests.{not-true, not-false}
+use mathlib.Core.Path.{ap, _∙_}
+use lib.ListN.{drop}
 use denote.Ref.{now}
-use Rattle.laws.specs.Said.{faultIn}
 use Rattle.laws.proofs.Lists.{part-rest}
-use Rattle.words.specs.Words.{words}
-use Rattle.words.proofs.Chains.{link, done, words-under, words-from, words-just}
+use Rattle.records.specs.Flaws.{toldIn, lineFaultIn}
+use Rattle.records.proofs.Columns.{told-fault}
 use Rattle.line_rules.specs.Answers.{tripleRead}
 use Rattle.line_rules.proofs.Answers.{triple-said}
 use Rattle.rules.specs.Component.{pinCells}
-use Rattle.component_steps.proofs.Laws.{row-few, row-fails, row-cells, row-short, row-names}
+use Rattle.component_steps.proofs.Laws.{row-fails, row-cells, row-short, row-names}
+use borrow.Author.Needs.{needs}
 use Rattle.component_steps.proofs.row_fault.Statement.{statement}
 use Rattle.component_steps.proofs.row_fault.Tie as tie
 
+names-fault-requires : tie.Need-names-fault-requires
+names-fault-requires c κs = search needs
+
 returns : tie.Need-returns
-returns c = row-few _ _ (words-under (link (c .before .before .before .before .before .before .pre .pin) (link (c .before .before .before .before .before .before .pre .signal) done)) (c .before .before .before .before .before .before .pre .model) (c .if1 .taken))
-
-names-pass-requires : tie.Need-names-pass-requires
-names-pass-requires c κs = search needs
-
-returns-2 : tie.Need-returns-2
-returns-2 c =
-    row-fails _ (words-from (link (c .before .before .before .before .before .before .before .before .pre .pin) (link (c .before .before .before .before .before .before .before .before .pre .signal) done)) (c .before .before .before .before .before .before .before .before .pre .model) (c .before .before .if1 .left))
-    (sym (c .before .names-pass .ensures) ∙ not-true (c .before .names-pass .result) (c .if2 .taken))
+returns c =
+    let a = c .before .before .before .before .before .before .before .args in
+    row-fails (now (a .w)) (a .names) (c .before .before .before .before .before .before .before .pre) (a .long) (c .before .before .names-fault .ensures) (c .if1 .taken)
 
 sub-pin-cells : tie.Need-sub-pin-cells
 sub-pin-cells c = search needs
@@ -39,46 +33,54 @@ part-pin-cells-end : tie.Need-part-pin-cells-end
 part-pin-cells-end c = search needs
 
 pin-cells-requires : tie.Need-pin-cells-requires
-pin-cells-requires c κs = rw (part-rest (now (c .before .before .before .before .before .before .before .before .before .before .args .w)) 0) (c .before .before .before .before .before .before .before .before .before .before .pre .model .ends)
+pin-cells-requires c κs = rw (part-rest (now (c .before .before .before .before .before .before .before .before .before .args .w)) 0) (c .before .before .before .before .before .before .before .before .before .pre .model .ends)
 
 triple-fault-requires : tie.Need-triple-fault-requires
-triple-fault-requires c κs = tt
+triple-fault-requires c κs = search needs
 
-returns-3 : tie.Need-returns-3
-returns-3 c =
-    let w = now (c .before .before .before .before .before .before .before .before .before .before .before .before .args .w) in
-    let end = c .before .before .before .before .before .before .before .before .before .before .before .before .args .names .model .end in
+returns-2 : tie.Need-returns-2
+returns-2 c =
+    let a = c .before .before .before .before .before .before .before .before .before .before .before .args in
+    let w = now (c .before .before .before .before .before .before .before .before .before .before .before .args .w) in
+    let x = pinCells (drop (a .names .model .end) w) in
     c .triple-fault .ensures
-    ∙ ap faultIn (triple-said _ (pinCells (words (drop end w))) (c .before .pin-cells .ensures ∙ ap (λ (l : List ℕ). tripleRead (pinCells (words (drop end l)))) (part-rest w 0)))
-    ∙ row-cells _ (words-from (link (c .before .before .before .before .before .before .before .before .before .before .before .before .pre .pin) (link (c .before .before .before .before .before .before .before .before .before .before .before .before .pre .signal) done)) (c .before .before .before .before .before .before .before .before .before .before .before .before .pre .model) (c .before .before .before .before .before .before .if1 .left))
-    (sym (c .before .before .before .before .before .names-pass .ensures) ∙ not-false (c .before .before .before .before .before .names-pass .result) (c .before .before .before .before .if2 .left)) (c .before .before .before .if3 .taken)
+    ∙ ap lineFaultIn (triple-said _ (toldIn w x) (c .before .pin-cells .ensures ∙ ap (λ (l : List ℕ). tripleRead (toldIn l (pinCells (drop (a .names .model .end) l)))) (part-rest w 0)))
+    ∙ told-fault w x
+    ∙ row-cells w (a .names) (c .before .before .before .before .before .before .before .before .before .before .before .pre) (c .before .before .before .before .before .before .names-fault .ensures) (c .before .before .before .before .if1 .left) (a .long) (c .before .before .before .if2 .taken)
 
 word-at-requires : tie.Need-word-at-requires
 word-at-requires c κs = search needs
 
+at-fault-requires : tie.Need-at-fault-requires
+at-fault-requires c κs = search needs
+
+returns-3 : tie.Need-returns-3
+returns-3 c =
+    let a = c .before .before .before .before .before .before .before .before .before .before .before .before .args in
+    c .at-fault .ensures ∙ row-short (now (a .w)) (a .names) (c .before .before .before .before .before .before .before .before .before .before .before .before .pre) (c .before .before .before .before .before .before .before .names-fault .ensures) (c .before .before .before .before .before .if1 .left) (c .before .before .before .word-at .ensures) (a .long) (c .before .before .before .before .if2 .left) (c .before .if3 .taken)
+
+bare-fault-requires : tie.Need-bare-fault-requires
+bare-fault-requires c κs = search needs
+
 returns-4 : tie.Need-returns-4
 returns-4 c =
-    row-short _ (words-from (link (c .before .before .before .before .before .before .before .before .before .before .before .before .pre .pin) (link (c .before .before .before .before .before .before .before .before .before .before .before .before .pre .signal) done)) (c .before .before .before .before .before .before .before .before .before .before .before .before .pre .model) (c .before .before .before .before .before .before .if1 .left)) (c .before .before .before .if3 .left)
-    (omega (arith, ap length (c .before .before .word-at .ensures .some (c .if4 .taken))))
-
-returns-5 : tie.Need-returns-5
-returns-5 c =
-    row-names _ (words-just (link (c .before .before .before .before .before .before .before .before .before .before .before .before .pre .pin) (link (c .before .before .before .before .before .before .before .before .before .before .before .before .pre .signal) done)) (c .before .before .before .before .before .before .before .before .before .before .before .before .pre .model) (c .before .before .before .before .before .before .if1 .left) (c .before .before .word-at .ensures) (c .if4 .left))
-    (sym (c .before .before .before .before .before .names-pass .ensures) ∙ not-false (c .before .before .before .before .before .names-pass .result) (c .before .before .before .before .if2 .left))
+    let a = c .before .before .before .before .before .before .before .before .before .before .before .before .args in
+    c .bare-fault .ensures ∙ row-names (now (a .w)) (a .names) (c .before .before .before .before .before .before .before .before .before .before .before .before .pre) (c .before .before .before .before .before .before .before .names-fault .ensures) (c .before .before .before .before .before .if1 .left) (c .before .before .before .word-at .ensures) (a .long) (c .before .if3 .left)
 
 pub row-fault-spec : {M : Type 1} → statement M
 row-fault-spec =
     tie.close
     (tie.spec
+    names-fault-requires
     returns
-    names-pass-requires
-    returns-2
     sub-pin-cells
     part-pin-cells-start
     part-pin-cells-end
     pin-cells-requires
     triple-fault-requires
-    returns-3
+    returns-2
     word-at-requires
-    returns-4
-    returns-5)
+    at-fault-requires
+    returns-3
+    bare-fault-requires
+    returns-4)

@@ -1,20 +1,21 @@
--- Fewer than two words, then each name, then the rest: `heading-few`, `heading-first`, `heading-second`, `heading-rest`.
-use mathlib.Core.Path.{sym, _∙_}
-use borrow.Author.Needs.{needs}
+-- Word by word: `heading-word`, `heading-other`.
+use mathlib.Core.Path.{refl, sym, ap, _∙_}
+use mathlib.Core.List.{List, [], _∷_}
+use Prim.Native.Nat.{ℕ}
 use borrow.Author.Tests.{not-true, not-false}
-use Rattle.words.proofs.Chains.{link, done, words-under, words-from}
-use Rattle.line_cells.proofs.Headings.{heading-few, heading-first, heading-second, heading-rest}
+use denote.Ref.{now}
+use Rattle.laws.specs.Bytes.{bytes}
+use Rattle.laws.specs.Lists.{eqs}
+use Rattle.records.specs.Flaws.{toldIn}
+use Rattle.line_cells.specs.Headings.{headingRead}
+use Rattle.line_cells.specs.declared.HeadingRead.the-variants.{NoHeading}
+use Rattle.line_cells.proofs.Headings.{heading-from, heading-word, heading-other}
+use borrow.Author.Needs.{needs}
 use Rattle.line_cells.proofs.heading_of.Statement.{statement}
 use Rattle.line_cells.proofs.heading_of.Tie as tie
 
 word-at-requires : tie.Need-word-at-requires
 word-at-requires c κs = search needs
-
-word-at-requires-2 : tie.Need-word-at-requires-2
-word-at-requires-2 c κs = search needs
-
-returns : tie.Need-returns
-returns c = heading-few _ (words-under (link (c .before .before .before .word-at .ensures) done) (c .before .before .word-at2 .ensures) (c .if1 .taken))
 
 slice-aggregate-named : tie.Need-slice-aggregate-named
 slice-aggregate-named c = search needs
@@ -22,10 +23,19 @@ slice-aggregate-named c = search needs
 named-requires : tie.Need-named-requires
 named-requires c κs = search needs
 
-returns-2 : tie.Need-returns-2
-returns-2 c =
-    heading-first (words-from (link (c .before .before .before .before .before .before .word-at .ensures) done) (c .before .before .before .before .before .word-at2 .ensures) (c .before .before .before .if1 .left))
-    (sym (c .before .named .ensures) ∙ not-true (c .before .named .result) (c .if2 .taken))
+at-fault-requires : tie.Need-at-fault-requires
+at-fault-requires c κs = search needs
+
+returns : tie.Need-returns
+unfolding eqs
+returns c =
+    let w = now (c .before .before .before .before .before .before .args .w) in
+    let a = c .before .before .before .before .word-at .ensures in
+    ap NoHeading (c .at-fault .ensures)
+    ∙ sym (ap headingRead (ap (toldIn w) (heading-from _) ∙ heading-other w _ _ a (bytes "signal_name") refl (sym (c .before .before .named .ensures) ∙ not-true (c .before .before .named .result) (c .before .if1 .taken)) _ _))
+
+word-at-requires-2 : tie.Need-word-at-requires-2
+word-at-requires-2 c κs = search needs
 
 slice-aggregate-named-2 : tie.Need-slice-aggregate-named-2
 slice-aggregate-named-2 c = search needs
@@ -33,33 +43,43 @@ slice-aggregate-named-2 c = search needs
 named-requires-2 : tie.Need-named-requires-2
 named-requires-2 c κs = search needs
 
-returns-3 : tie.Need-returns-3
-returns-3 c =
-    heading-second (words-from (link (c .before .before .before .before .before .before .before .before .before .word-at .ensures) done) (c .before .before .before .before .before .before .before .before .word-at2 .ensures) (c .before .before .before .before .before .before .if1 .left))
-    (sym (c .before .named2 .ensures) ∙ not-true (c .before .named2 .result) (c .if3 .taken))
+at-fault-requires-2 : tie.Need-at-fault-requires-2
+at-fault-requires-2 c κs = search needs
+
+returns-2 : tie.Need-returns-2
+unfolding eqs
+returns-2 c =
+    let w = now (c .before .before .before .before .before .before .before .before .before .before .args .w) in
+    let a = c .before .before .before .before .before .before .before .before .word-at .ensures in
+    let b = c .before .before .before .before .word-at2 .ensures in
+    ap NoHeading (c .at-fault2 .ensures)
+    ∙ sym (ap headingRead (ap (toldIn w) (heading-from _ ∙ heading-word w _ _ a (bytes "signal_name") refl (sym (c .before .before .before .before .before .before .named .ensures) ∙ not-false (c .before .before .before .before .before .before .named .result) (c .before .before .before .before .before .if1 .left)) _ _) ∙ heading-other w _ _ b (bytes "model_name") refl (sym (c .before .before .named2 .ensures) ∙ not-true (c .before .before .named2 .result) (c .before .if2 .taken)) _ _))
 
 rest-of-requires : tie.Need-rest-of-requires
 rest-of-requires c κs = search needs
 
-returns-4 : tie.Need-returns-4
-returns-4 c =
+returns-3 : tie.Need-returns-3
+unfolding eqs
+returns-3 c =
+    let w = now (c .before .before .before .before .before .before .before .before .before .before .args .w) in
+    let a = c .before .before .before .before .before .before .before .before .word-at .ensures in
+    let b = c .before .before .before .before .word-at2 .ensures in
     c .rest-of .ensures
-    ∙ heading-rest (words-from (link (c .before .before .before .before .before .before .before .before .before .before .word-at .ensures) done) (c .before .before .before .before .before .before .before .before .before .word-at2 .ensures) (c .before .before .before .before .before .before .before .if1 .left))
-    (sym (c .before .before .before .before .before .named .ensures) ∙ not-false (c .before .before .before .before .before .named .result) (c .before .before .before .before .if2 .left))
-    (sym (c .before .before .named2 .ensures) ∙ not-false (c .before .before .named2 .result) (c .before .if3 .left))
+    ∙ sym (ap (λ x. headingRead (toldIn w x)) (heading-from _ ∙ heading-word w _ _ a (bytes "signal_name") refl (sym (c .before .before .before .before .before .before .named .ensures) ∙ not-false (c .before .before .before .before .before .before .named .result) (c .before .before .before .before .before .if1 .left)) _ _ ∙ heading-word w _ _ b (bytes "model_name") refl (sym (c .before .before .named2 .ensures) ∙ not-false (c .before .before .named2 .result) (c .before .if2 .left)) _ _))
 
 pub heading-of-spec : {M : Type 1} → statement M
 heading-of-spec =
     tie.close
     (tie.spec
     word-at-requires
-    word-at-requires-2
-    returns
     slice-aggregate-named
     named-requires
-    returns-2
+    at-fault-requires
+    returns
+    word-at-requires-2
     slice-aggregate-named-2
     named-requires-2
-    returns-3
+    at-fault-requires-2
+    returns-2
     rest-of-requires
-    returns-4)
+    returns-3)

@@ -1,12 +1,14 @@
--- No word, another number than three, then each name: `rest-none`, `rest-other`, `rest-first` to `rest-all`.
-use mathlib.Core.Path.{sym, ap, _∙_, subst}
-use native.Mathlib.Omega.{arith}
-use lib.ListN.{length}
-use borrow.Author.Needs.{needs}
+-- Word by word: `heading-none`, `heading-some`, `long-word`, `long-other`; then `end_of`.
+use mathlib.Core.Path.{refl, sym, ap, _∙_}
 use borrow.Author.Tests.{not-true, not-false}
 use denote.Ref.{now}
-use Rattle.line_cells.specs.Threes.{ThreeFrom}
-use Rattle.line_cells.proofs.Headings.{rest-none, rest-other, rest-first, rest-second, rest-third, rest-all}
+use Rattle.laws.specs.Bytes.{bytes}
+use Rattle.laws.specs.Lists.{eqs}
+use Rattle.records.specs.Flaws.{toldIn}
+use Rattle.line_cells.specs.Headings.{headingRead}
+use Rattle.line_cells.specs.declared.HeadingRead.the-variants.{NoHeading}
+use Rattle.line_cells.proofs.Headings.{heading-none, heading-some, long-word, long-other}
+use borrow.Author.Needs.{needs}
 use Rattle.line_cells.proofs.rest_of.Statement.{statement}
 use Rattle.line_cells.proofs.rest_of.Tie as tie
 
@@ -14,68 +16,82 @@ word-at-requires : tie.Need-word-at-requires
 word-at-requires c κs = search needs
 
 returns : tie.Need-returns
-returns c = rest-none _ (c .before .before .word-at .ensures .none (c .if1 .taken))
-
-three-words-requires : tie.Need-three-words-requires
-three-words-requires c κs = search needs
-
-enum-known-a : tie.Need-enum-known-a
-enum-known-a c = search needs
+returns c =
+    let w = now (c .before .before .before .before .args .w) in
+    sym (ap (λ x. headingRead (toldIn w x)) (heading-none w _ _ (c .before .before .word-at .ensures) _ (c .if1 .taken)))
 
 slice-aggregate-named : tie.Need-slice-aggregate-named
 slice-aggregate-named c = search needs
 
 named-requires : tie.Need-named-requires
-named-requires c κs =
-    let o = subst (ThreeFrom (now (c .before .before .before .before .before .before .before .before .before .args .w)) (c .before .before .before .before .before .before .before .before .before .args .at)) (c .before .before .a .given .1) (c .before .before .before .before .three-words .ensures) in
-    o .first
+named-requires c κs = search needs
+
+at-fault-requires : tie.Need-at-fault-requires
+at-fault-requires c κs = search needs
 
 returns-2 : tie.Need-returns-2
+unfolding eqs
 returns-2 c =
-    let o = subst (ThreeFrom (now (c .before .before .before .before .before .before .before .before .before .before .before .args .w)) (c .before .before .before .before .before .before .before .before .before .before .before .args .at)) (c .before .before .before .before .a .given .1) (c .before .before .before .before .before .before .three-words .ensures) in
-    rest-first (o .are) (sym (c .before .named .ensures) ∙ not-true (c .before .named .result) (c .if2 .taken))
+    let w = now (c .before .before .before .before .before .before .before .before .args .w) in
+    let a = c .before .before .before .before .before .before .word-at .ensures in
+    ap NoHeading (c .at-fault .ensures)
+    ∙ sym (ap headingRead (ap (toldIn w) (heading-some w _ _ a _ (c .before .before .before .before .if1 .left)) ∙ long-other w _ _ a (bytes "R_pin") refl (sym (c .before .before .named .ensures) ∙ not-true (c .before .before .named .result) (c .before .if2 .taken)) _))
+
+word-at-requires-2 : tie.Need-word-at-requires-2
+word-at-requires-2 c κs = search needs
 
 slice-aggregate-named-2 : tie.Need-slice-aggregate-named-2
 slice-aggregate-named-2 c = search needs
 
 named-requires-2 : tie.Need-named-requires-2
-named-requires-2 c κs =
-    let o = subst (ThreeFrom (now (c .before .before .before .before .before .before .before .before .before .before .before .before .args .w)) (c .before .before .before .before .before .before .before .before .before .before .before .before .args .at)) (c .before .before .before .before .before .a .given .1) (c .before .before .before .before .before .before .before .three-words .ensures) in
-    o .second
+named-requires-2 c κs = search needs
+
+at-fault-requires-2 : tie.Need-at-fault-requires-2
+at-fault-requires-2 c κs = search needs
 
 returns-3 : tie.Need-returns-3
+unfolding eqs
 returns-3 c =
-    let o = subst (ThreeFrom (now (c .before .before .before .before .before .before .before .before .before .before .before .before .before .before .args .w)) (c .before .before .before .before .before .before .before .before .before .before .before .before .before .before .args .at)) (c .before .before .before .before .before .before .before .a .given .1) (c .before .before .before .before .before .before .before .before .before .three-words .ensures) in
-    rest-second (o .are) (sym (c .before .named2 .ensures) ∙ not-true (c .before .named2 .result) (c .if3 .taken))
+    let w = now (c .before .before .before .before .before .before .before .before .before .before .before .before .args .w) in
+    let a = c .before .before .before .before .before .before .before .before .before .before .word-at .ensures in
+    let b = c .before .before .before .before .word-at2 .ensures in
+    ap NoHeading (c .at-fault2 .ensures)
+    ∙ sym (ap headingRead (ap (toldIn w) (heading-some w _ _ a _ (c .before .before .before .before .before .before .before .before .if1 .left) ∙ long-word w _ _ a (bytes "R_pin") refl (sym (c .before .before .before .before .before .before .named .ensures) ∙ not-false (c .before .before .before .before .before .before .named .result) (c .before .before .before .before .before .if2 .left)) _) ∙ long-other w _ _ b (bytes "L_pin") refl (sym (c .before .before .named2 .ensures) ∙ not-true (c .before .before .named2 .result) (c .before .if3 .taken)) _))
+
+word-at-requires-3 : tie.Need-word-at-requires-3
+word-at-requires-3 c κs = search needs
 
 slice-aggregate-named-3 : tie.Need-slice-aggregate-named-3
 slice-aggregate-named-3 c = search needs
 
 named-requires-3 : tie.Need-named-requires-3
-named-requires-3 c κs =
-    let o = subst (ThreeFrom (now (c .before .before .before .before .before .before .before .before .before .before .before .before .before .before .before .args .w)) (c .before .before .before .before .before .before .before .before .before .before .before .before .before .before .before .args .at)) (c .before .before .before .before .before .before .before .before .a .given .1) (c .before .before .before .before .before .before .before .before .before .before .three-words .ensures) in
-    o .third
+named-requires-3 c κs = search needs
+
+at-fault-requires-3 : tie.Need-at-fault-requires-3
+at-fault-requires-3 c κs = search needs
 
 returns-4 : tie.Need-returns-4
+unfolding eqs
 returns-4 c =
-    let o = subst (ThreeFrom (now (c .before .before .before .before .before .before .before .before .before .before .before .before .before .before .before .before .before .args .w)) (c .before .before .before .before .before .before .before .before .before .before .before .before .before .before .before .before .before .args .at)) (c .before .before .before .before .before .before .before .before .before .before .a .given .1) (c .before .before .before .before .before .before .before .before .before .before .before .before .three-words .ensures) in
-    rest-third (o .are) (sym (c .before .named3 .ensures) ∙ not-true (c .before .named3 .result) (c .if4 .taken))
+    let w = now (c .before .before .before .before .before .before .before .before .before .before .before .before .before .before .before .before .args .w) in
+    let a = c .before .before .before .before .before .before .before .before .before .before .before .before .before .before .word-at .ensures in
+    let b = c .before .before .before .before .before .before .before .before .word-at2 .ensures in
+    let d = c .before .before .before .before .word-at3 .ensures in
+    ap NoHeading (c .at-fault3 .ensures)
+    ∙ sym (ap headingRead (ap (toldIn w) (heading-some w _ _ a _ (c .before .before .before .before .before .before .before .before .before .before .before .before .if1 .left) ∙ long-word w _ _ a (bytes "R_pin") refl (sym (c .before .before .before .before .before .before .before .before .before .before .named .ensures) ∙ not-false (c .before .before .before .before .before .before .before .before .before .before .named .result) (c .before .before .before .before .before .before .before .before .before .if2 .left)) _ ∙ long-word w _ _ b (bytes "L_pin") refl (sym (c .before .before .before .before .before .before .named2 .ensures) ∙ not-false (c .before .before .before .before .before .before .named2 .result) (c .before .before .before .before .before .if3 .left)) _) ∙ long-other w _ _ d (bytes "C_pin") refl (sym (c .before .before .named3 .ensures) ∙ not-true (c .before .before .named3 .result) (c .before .if4 .taken)) _))
 
-enum-told : tie.Need-enum-told
-enum-told c = search needs
+end-of-requires : tie.Need-end-of-requires
+end-of-requires c κs = search needs
 
 returns-5 : tie.Need-returns-5
+unfolding eqs
 returns-5 c =
-    let o = subst (ThreeFrom (now (c .before .before .before .before .before .before .before .before .before .before .before .before .before .before .before .before .before .args .w)) (c .before .before .before .before .before .before .before .before .before .before .before .before .before .before .before .before .before .args .at)) (c .before .before .before .before .before .before .before .before .before .before .a .given .1) (c .before .before .before .before .before .before .before .before .before .before .before .before .three-words .ensures) in
-    rest-all (o .are)
-    (sym (c .before .before .before .before .before .before .before .named .ensures) ∙ not-false (c .before .before .before .before .before .before .before .named .result) (c .before .before .before .before .before .before .if2 .left))
-    (sym (c .before .before .before .before .named2 .ensures) ∙ not-false (c .before .before .before .before .named2 .result) (c .before .before .before .if3 .left))
-    (sym (c .before .named3 .ensures) ∙ not-false (c .before .named3 .result) (c .if4 .left))
-
-returns-6 : tie.Need-returns-6
-returns-6 c =
-    let o = subst (ThreeFrom (now (c .before .before .before .before .before .before .before .args .w)) (c .before .before .before .before .before .before .before .args .at)) (c .enum-told .given .1) (c .before .before .three-words .ensures) in
-    rest-other _ (omega (arith, ap length (c .before .before .before .before .before .word-at .ensures .some (c .before .before .before .if1 .left)))) o
+    let w = now (c .before .before .before .before .before .before .before .before .before .before .before .before .before .before .before .before .args .w) in
+    let a = c .before .before .before .before .before .before .before .before .before .before .before .before .before .before .word-at .ensures in
+    let b = c .before .before .before .before .before .before .before .before .word-at2 .ensures in
+    let d = c .before .before .before .before .word-at3 .ensures in
+    c .end-of .ensures
+    ∙ sym (ap (λ x. headingRead (toldIn w x)) (heading-some w _ _ a _ (c .before .before .before .before .before .before .before .before .before .before .before .before .if1 .left) ∙ long-word w _ _ a (bytes "R_pin") refl (sym (c .before .before .before .before .before .before .before .before .before .before .named .ensures) ∙ not-false (c .before .before .before .before .before .before .before .before .before .before .named .result) (c .before .before .before .before .before .before .before .before .before .if2 .left)) _ ∙ long-word w _ _ b (bytes "L_pin") refl (sym (c .before .before .before .before .before .before .named2 .ensures) ∙ not-false (c .before .before .before .before .before .before .named2 .result) (c .before .before .before .before .before .if3 .left)) _ ∙ long-word w _ _ d (bytes "C_pin") refl (sym (c .before .before .named3 .ensures) ∙ not-false (c .before .before .named3 .result) (c .before .if4 .left)) _))
 
 pub rest-of-spec : {M : Type 1} → statement M
 rest-of-spec =
@@ -83,17 +99,19 @@ rest-of-spec =
     (tie.spec
     word-at-requires
     returns
-    three-words-requires
-    enum-known-a
     slice-aggregate-named
     named-requires
+    at-fault-requires
     returns-2
+    word-at-requires-2
     slice-aggregate-named-2
     named-requires-2
+    at-fault-requires-2
     returns-3
+    word-at-requires-3
     slice-aggregate-named-3
     named-requires-3
+    at-fault-requires-3
     returns-4
-    enum-told
-    returns-5
-    returns-6)
+    end-of-requires
+    returns-5)

@@ -1,9 +1,10 @@
 -- Just three words, or another number of them: `three-slopes`, `slopes-other`.
-use mathlib.Core.Path.{_∙_, subst}
-use borrow.Author.Needs.{needs}
+use mathlib.Core.Path.{ap, _∙_, subst}
 use denote.Ref.{now}
 use Rattle.line_cells.specs.Threes.{ThreeFrom}
+use Rattle.line_rules.specs.declared.RampRead.the-variants.{Refused}
 use Rattle.line_cells.proofs.Laws.{three-slopes, slopes-other}
+use borrow.Author.Needs.{needs}
 use Rattle.line_cells.proofs.three_slopes.Statement.{statement}
 use Rattle.line_cells.proofs.three_slopes.Tie as tie
 
@@ -29,10 +30,24 @@ slope-or-missing-at-requires-2 c κs =
     o .third
 
 slopes-typ-requires : tie.Need-slopes-typ-requires
-slopes-typ-requires c κs = tt
+slopes-typ-requires c κs =
+    let o = subst (ThreeFrom (now (c .before .before .before .before .before .before .before .before .args .w)) (c .before .before .before .before .before .before .before .before .args .at)) (c .before .before .before .before .a .given .1) (c .before .before .before .before .before .before .three-words .ensures) in
+    let f = o .first .starts in
+    let g = o .first .ends in
+    let h = o .second .starts in
+    let i = o .second .ends in
+    let j = o .third .starts in
+    let k = o .third .ends in
+    (search needs, (search needs, search needs))
 
-enum-told : tie.Need-enum-told
-enum-told c = search needs
+enum-known-place : tie.Need-enum-known-place
+enum-known-place c = search needs
+
+at-fault-requires : tie.Need-at-fault-requires
+at-fault-requires c κs =
+    let o = subst (ThreeFrom (now (c .before .before .before .before .before .args .w)) (c .before .before .before .before .before .args .at)) (c .before .place .given .1) (c .before .before .before .three-words .ensures) in
+    let h = o .within in
+    search needs
 
 returns : tie.Need-returns
 returns c =
@@ -41,8 +56,8 @@ returns c =
 
 returns-2 : tie.Need-returns-2
 returns-2 c =
-    let o = subst (ThreeFrom (now (c .before .before .before .before .args .w)) (c .before .before .before .before .args .at)) (c .enum-told .given .1) (c .before .before .three-words .ensures) in
-    slopes-other _ o
+    let o = subst (ThreeFrom (now (c .before .before .before .before .before .before .args .w)) (c .before .before .before .before .before .before .args .at)) (c .before .before .place .given .1) (c .before .before .before .before .three-words .ensures) in
+    ap Refused (c .at-fault .ensures) ∙ slopes-other o
 
 pub three-slopes-spec : {M : Type 1} → statement M
 three-slopes-spec =
@@ -54,6 +69,7 @@ three-slopes-spec =
     slope-or-missing-at-requires
     slope-or-missing-at-requires-2
     slopes-typ-requires
-    enum-told
+    enum-known-place
+    at-fault-requires
     returns
     returns-2)

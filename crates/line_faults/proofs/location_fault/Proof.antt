@@ -1,27 +1,25 @@
--- By what the word means, with `location-fault`.
-use mathlib.Core.Path.{sym, ap, _∙_}
-use borrow.Author.Needs.{needs}
+-- By the word's place in its list, `line-flaw`.
+use mathlib.Core.Path.{refl, ap, _∙_}
 use denote.Ref.{now}
-use Rattle.named_lines.specs.Views.{locationFault}
-use Rattle.named_lines.proofs.TableLaws.{location-fault}
+use Rattle.laws.specs.Bytes.{isBlank}
+use Rattle.words.specs.Words.{words, grown, ontoWord}
+use Rattle.records.specs.Flaws.{told}
+use Rattle.name_table.specs.Places.{namesOf}
+use Rattle.name_table.specs.declared.NameList.the-variants.{Locations}
+use Rattle.line_rules.specs.Tables.{locations}
+use Rattle.named_lines.proofs.TableLaws.{line-flaw}
+use borrow.Author.Needs.{needs}
 use Rattle.line_faults.proofs.location_fault.Statement.{statement}
 use Rattle.line_faults.proofs.location_fault.Tie as tie
 
-location-of-requires : tie.Need-location-of-requires
-location-of-requires c κs = tt
-
-enum-told : tie.Need-enum-told
-enum-told c = search needs
-
-enum-told-2 : tie.Need-enum-told-2
-enum-told-2 c = search needs
+word-line-fault-requires : tie.Need-word-line-fault-requires
+word-line-fault-requires c κs = search needs
 
 returns : tie.Need-returns
-returns c = sym (location-fault (now (c .before .before .before .before .args .w)) ∙ ap locationFault (sym (c .before .before .location-of .ensures) ∙ c .enum-told .given .1))
-
-returns-2 : tie.Need-returns-2
-returns-2 c = sym (location-fault (now (c .before .before .before .before .args .w)) ∙ ap locationFault (sym (c .before .before .location-of .ensures) ∙ c .enum-told2 .given .1))
+unfolding words grown ontoWord isBlank namesOf locations
+returns c =
+    let w = now (c .before .before .args .w) in
+    c .word-line-fault .ensures ∙ ap (told w) (line-flaw locations Locations refl w)
 
 pub location-fault-spec : {M : Type 1} → statement M
-location-fault-spec =
-    tie.close (tie.spec location-of-requires enum-told enum-told-2 returns returns-2)
+location-fault-spec = tie.close (tie.spec word-line-fault-requires returns)

@@ -1,26 +1,25 @@
--- By what the word means, with `type-fault`.
-use mathlib.Core.Path.{sym, ap, _∙_}
-use borrow.Author.Needs.{needs}
+-- By the word's place in its list, `line-flaw`.
+use mathlib.Core.Path.{refl, ap, _∙_}
 use denote.Ref.{now}
-use Rattle.named_lines.specs.Views.{typeFault}
-use Rattle.named_lines.proofs.TableLaws.{type-fault}
+use Rattle.laws.specs.Bytes.{isBlank}
+use Rattle.words.specs.Words.{words, grown, ontoWord}
+use Rattle.records.specs.Flaws.{told}
+use Rattle.name_table.specs.Places.{namesOf}
+use Rattle.name_table.specs.declared.NameList.the-variants.{ModelTypes}
+use Rattle.line_rules.specs.Tables.{modelTypes}
+use Rattle.named_lines.proofs.TableLaws.{line-flaw}
+use borrow.Author.Needs.{needs}
 use Rattle.line_faults.proofs.type_fault.Statement.{statement}
 use Rattle.line_faults.proofs.type_fault.Tie as tie
 
-type-of-requires : tie.Need-type-of-requires
-type-of-requires c κs = tt
-
-enum-told : tie.Need-enum-told
-enum-told c = search needs
-
-enum-told-2 : tie.Need-enum-told-2
-enum-told-2 c = search needs
+word-line-fault-requires : tie.Need-word-line-fault-requires
+word-line-fault-requires c κs = search needs
 
 returns : tie.Need-returns
-returns c = sym (type-fault (now (c .before .before .before .before .args .w)) ∙ ap typeFault (sym (c .before .before .type-of .ensures) ∙ c .enum-told .given .1))
-
-returns-2 : tie.Need-returns-2
-returns-2 c = sym (type-fault (now (c .before .before .before .before .args .w)) ∙ ap typeFault (sym (c .before .before .type-of .ensures) ∙ c .enum-told2 .given .1))
+unfolding words grown ontoWord isBlank namesOf modelTypes
+returns c =
+    let w = now (c .before .before .args .w) in
+    c .word-line-fault .ensures ∙ ap (told w) (line-flaw modelTypes ModelTypes refl w)
 
 pub type-fault-spec : {M : Type 1} → statement M
-type-fault-spec = tie.close (tie.spec type-of-requires enum-told enum-told-2 returns returns-2)
+type-fault-spec = tie.close (tie.spec word-line-fault-requires returns)

@@ -20,10 +20,10 @@ returns : tie.Need-returns
 returns c =
     let a = c .before .before .before .args in
     c .stopped .ensures
-    ∙ sym (ap (λ (o : Option ComponentState). within (a .k) o (λ x. componentPart x (a .k) (now (a .argument)) (a .p))) (not-component (a .s) (c .before .match .keys2)))
+    ∙ sym (ap (λ (o : Option ComponentState). within (a .k) o (λ x. componentPart x (a .k) (now (a .w)) (a .p))) (not-component (a .s) (c .before .match .keys2)))
 
 component-part-requires : tie.Need-component-part-requires
-component-part-requires c κs = tt
+component-part-requires c κs = c .before .before .before .before .pre
 
 returns-2 : tie.Need-returns-2
 returns-2 c = rw (c .before .before .s .given .1) (c .component-part .ensures)

@@ -20,10 +20,10 @@ returns : tie.Need-returns
 returns c =
     let a = c .before .before .before .args in
     c .stopped .ensures
-    ∙ sym (ap (λ (o : Option HeaderState). within (a .k) o (λ x. headerPart x (a .k) (now (a .argument)) (a .p))) (not-header (a .s) (c .before .match .keys2)))
+    ∙ sym (ap (λ (o : Option HeaderState). within (a .k) o (λ x. headerPart x (a .k) (now (a .w)) (a .p))) (not-header (a .s) (c .before .match .keys2)))
 
 header-part-requires : tie.Need-header-part-requires
-header-part-requires c κs = tt
+header-part-requires c κs = c .before .before .before .before .pre
 
 returns-2 : tie.Need-returns-2
 returns-2 c = rw (c .before .before .s .given .1) (c .header-part .ensures)

@@ -1,56 +1,41 @@
--- What `key_of` answers says what the line says; the argument by `key-within` and `key-argument`.
+-- What `key_of` answers says what the line says; the argument by `key-argument`.
 use mathlib.Core.Path.{sym, ap, _∙_}
-use borrow.Author.Needs.{needs}
 use denote.Ref.{now}
 use Rattle.keywords.specs.Answers.{keywordSays}
-use Rattle.keywords.proofs.Arguments.{key-within, key-argument}
+use Rattle.keywords.proofs.Arguments.{key-argument}
+use borrow.Author.Needs.{needs}
 use Rattle.steps.proofs.keyword_line.Statement.{statement}
 use Rattle.steps.proofs.keyword_line.Tie as tie
 
 key-of-requires : tie.Need-key-of-requires
-key-of-requires c κs = tt
+key-of-requires c κs = search needs
 
 enum-known-keyword : tie.Need-enum-known-keyword
 enum-known-keyword c = search needs
 
-sub-on-keyword : tie.Need-sub-on-keyword
-sub-on-keyword c = key-within (now (c .before .before .before .before .before .args .w)) (sym (c .before .before .before .key-of .ensures .0) ∙ c .before .keyword .given .1)
-
-part-on-keyword-start : tie.Need-part-on-keyword-start
-part-on-keyword-start c =
-    let h = key-within (now (c .before .before .before .before .before .args .w)) (sym (c .before .before .before .key-of .ensures .0) ∙ c .before .keyword .given .1) in
-    search needs
-
-part-on-keyword-end : tie.Need-part-on-keyword-end
-part-on-keyword-end c = search needs
-
 on-keyword-requires : tie.Need-on-keyword-requires
-on-keyword-requires c κs = tt
+on-keyword-requires c κs = key-argument (now (c .before .before .before .before .before .args .w)) (sym (c .before .before .before .key-of .ensures .0) ∙ c .before .keyword .given .1)
 
 enum-told : tie.Need-enum-told
 enum-told c = search needs
 
 stopped-requires : tie.Need-stopped-requires
-stopped-requires c κs = tt
+stopped-requires c κs = search needs
 
 enum-told-2 : tie.Need-enum-told-2
 enum-told-2 c = search needs
 
 stopped-requires-2 : tie.Need-stopped-requires-2
-stopped-requires-2 c κs = tt
+stopped-requires-2 c κs = search needs
 
 enum-told-3 : tie.Need-enum-told-3
 enum-told-3 c = search needs
 
 stopped-requires-3 : tie.Need-stopped-requires-3
-stopped-requires-3 c κs = tt
+stopped-requires-3 c κs = search needs
 
 returns : tie.Need-returns
-returns c =
-    let w = now (c .before .before .before .before .before .before .before .args .w) in
-    let read = c .before .before .before .before .before .key-of .ensures in
-    let known = c .before .before .before .keyword .given .1 in
-    rw (sym (read .1) ∙ ap keywordSays known, sym (key-argument w (sym (read .0) ∙ known))) (c .on-keyword .ensures)
+returns c = rw (sym (c .before .before .before .before .key-of .ensures .1) ∙ ap keywordSays (c .before .before .keyword .given .1)) (c .on-keyword .ensures)
 
 returns-2 : tie.Need-returns-2
 returns-2 c = rw (sym (c .before .before .before .key-of .ensures .1) ∙ ap keywordSays (c .before .enum-told .given .1)) (c .stopped .ensures)
@@ -67,9 +52,6 @@ keyword-line-spec =
     (tie.spec
     key-of-requires
     enum-known-keyword
-    sub-on-keyword
-    part-on-keyword-start
-    part-on-keyword-end
     on-keyword-requires
     enum-told
     stopped-requires

@@ -7,37 +7,37 @@ enum-told : tie.Need-enum-told
 enum-told c = search needs
 
 version-key-requires : tie.Need-version-key-requires
-version-key-requires c κs = tt
+version-key-requires c κs = c .before .before .before .pre
 
 enum-known-key : tie.Need-enum-known-key
 enum-known-key c = search needs
 
 header-key-requires : tie.Need-header-key-requires
-header-key-requires c κs = tt
+header-key-requires c κs = c .before .before .before .before .pre
 
 enum-known-key-2 : tie.Need-enum-known-key-2
 enum-known-key-2 c = search needs
 
 section-key-requires : tie.Need-section-key-requires
-section-key-requires c κs = tt
+section-key-requires c κs = c .before .before .before .before .pre
 
 enum-known-key-3 : tie.Need-enum-known-key-3
 enum-known-key-3 c = search needs
 
 component-key-requires : tie.Need-component-key-requires
-component-key-requires c κs = tt
+component-key-requires c κs = c .before .before .before .before .pre
 
 enum-known-key-4 : tie.Need-enum-known-key-4
 enum-known-key-4 c = search needs
 
 model-key-requires : tie.Need-model-key-requires
-model-key-requires c κs = tt
+model-key-requires c κs = c .before .before .before .before .pre
 
 enum-told-2 : tie.Need-enum-told-2
 enum-told-2 c = search needs
 
 end-key-requires : tie.Need-end-key-requires
-end-key-requires c κs = tt
+end-key-requires c κs = c .before .before .before .pre
 
 returns : tie.Need-returns
 returns c = rw (c .before .enum-told .given .1) (c .version-key .ensures)

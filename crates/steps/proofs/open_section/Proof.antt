@@ -1,84 +1,40 @@
--- By cases on the section; the name passes or is refused: `passed`, `refused`.
-use mathlib.Core.Path.{sym, ap, _∙_}
+-- The name passes or is told: `flawed`, `flawless`.
+use Prim.Native.Nat.{ℕ}
+use mathlib.Core.List.{List}
+use mathlib.Core.Path.{ap, _∙_}
+use denote.Ref.{now}
+use Rattle.records.specs.Flaws.{told}
+use Rattle.rules.specs.Steps.{openedFlaw, opened}
+use Rattle.rules.specs.declared.Stage.{Stage}
+use Rattle.rules.specs.declared.Event.the-variants.{Opened}
+use Rattle.rules.specs.declared.Went.the-variants.{On}
+use Rattle.rules.proofs.Going.{flawed, flawless}
 use borrow.Author.Needs.{needs}
-use mathlib.Core.Bool.{not}
-use Rattle.rules.proofs.Going.{refused, passed}
 use Rattle.steps.proofs.open_section.Statement.{statement}
 use Rattle.steps.proofs.open_section.Tie as tie
 
-enum-told : tie.Need-enum-told
-enum-told c = search needs
+section-fault-requires : tie.Need-section-fault-requires
+section-fault-requires c κs = c .before .pre .within
 
-sized-requires : tie.Need-sized-requires
-sized-requires c κs = tt
-
-new-component-requires : tie.Need-new-component-requires
-new-component-requires c κs = tt
-
-stopped-requires : tie.Need-stopped-requires
-stopped-requires c κs = tt
-
-enum-told-2 : tie.Need-enum-told-2
-enum-told-2 c = search needs
-
-one-model-name-requires : tie.Need-one-model-name-requires
-one-model-name-requires c κs = tt
-
-new-selector-requires : tie.Need-new-selector-requires
-new-selector-requires c κs = tt
-
-stopped-requires-2 : tie.Need-stopped-requires-2
-stopped-requires-2 c κs = tt
-
-enum-told-3 : tie.Need-enum-told-3
-enum-told-3 c = search needs
-
-one-model-name-requires-2 : tie.Need-one-model-name-requires-2
-one-model-name-requires-2 c κs = tt
-
-new-model-requires : tie.Need-new-model-requires
-new-model-requires c κs = tt
-
-stopped-requires-3 : tie.Need-stopped-requires-3
-stopped-requires-3 c κs = tt
+stopped-at-requires : tie.Need-stopped-at-requires
+stopped-at-requires c κs = search needs
 
 returns : tie.Need-returns
-returns c = rw (c .before .before .before .enum-told .given .1, c .new-component .ensures) (passed 10 _ _ (ap not (sym (c .before .before .sized .ensures) ∙ c .before .if1 .taken)))
+unfolding opened
+returns c =
+    let w = now (c .before .before .before .before .before .args .w) in
+    c .stopped-at .ensures ∙ flawed _ _ (c .before .before .before .section-fault .ensures ∙ ap (λ (v : List ℕ). told w (openedFlaw v (c .before .before .before .before .before .args .o))) (c .before .before .before .before .before .pre .text)) (c .before .if1 .taken)
+
+section-stage-requires : tie.Need-section-stage-requires
+section-stage-requires c κs = search needs
 
 returns-2 : tie.Need-returns-2
-returns-2 c = rw (c .before .before .before .enum-told .given .1) (c .stopped .ensures ∙ refused 10 _ _ (ap not (sym (c .before .before .sized .ensures) ∙ c .before .if1 .left)))
-
-returns-3 : tie.Need-returns-3
-returns-3 c = rw (c .before .before .before .enum-told2 .given .1, c .new-selector .ensures) (passed 10 _ _ (ap not (sym (c .before .before .one-model-name .ensures) ∙ c .before .if2 .taken)))
-
-returns-4 : tie.Need-returns-4
-returns-4 c = rw (c .before .before .before .enum-told2 .given .1) (c .stopped2 .ensures ∙ refused 10 _ _ (ap not (sym (c .before .before .one-model-name .ensures) ∙ c .before .if2 .left)))
-
-returns-5 : tie.Need-returns-5
-returns-5 c = rw (c .before .before .before .enum-told3 .given .1, c .new-model .ensures) (passed 10 _ _ (ap not (sym (c .before .before .one-model-name2 .ensures) ∙ c .before .if3 .taken)))
-
-returns-6 : tie.Need-returns-6
-returns-6 c = rw (c .before .before .before .enum-told3 .given .1) (c .stopped3 .ensures ∙ refused 10 _ _ (ap not (sym (c .before .before .one-model-name2 .ensures) ∙ c .before .if3 .left)))
+unfolding opened
+returns-2 c =
+    let w = now (c .before .before .before .before .before .args .w) in
+    ap (λ (s : Stage). On s (Opened (c .before .before .before .before .before .args .o))) (c .section-stage .ensures) ∙ flawless _ _ (c .before .before .before .section-fault .ensures ∙ ap (λ (v : List ℕ). told w (openedFlaw v (c .before .before .before .before .before .args .o))) (c .before .before .before .before .before .pre .text)) (c .before .if1 .left)
 
 pub open-section-spec : {M : Type 1} → statement M
 open-section-spec =
     tie.close
-    (tie.spec
-    enum-told
-    sized-requires
-    new-component-requires
-    stopped-requires
-    enum-told-2
-    one-model-name-requires
-    new-selector-requires
-    stopped-requires-2
-    enum-told-3
-    one-model-name-requires-2
-    new-model-requires
-    stopped-requires-3
-    returns
-    returns-2
-    returns-3
-    returns-4
-    returns-5
-    returns-6)
+    (tie.spec section-fault-requires stopped-at-requires returns section-stage-requires returns-2)

@@ -11,7 +11,7 @@ enum-told : tie.Need-enum-told
 enum-told c = search needs
 
 open-section-requires : tie.Need-open-section-requires
-open-section-requires c κs = tt
+open-section-requires c κs = c .before .before .before .before .pre
 
 enum-known-f : tie.Need-enum-known-f
 enum-known-f c = search needs

@@ -15,7 +15,7 @@ is-before-requires : tie.Need-is-before-requires
 is-before-requires c κs = tt
 
 open-header-requires : tie.Need-open-header-requires
-open-header-requires c κs = tt
+open-header-requires c κs = c .before .before .before .pre
 
 returns : tie.Need-returns
 unfolding onVersion

@@ -6,7 +6,7 @@ use lib.ListN.{length, drop}
 use borrow.Author.Needs.{needs}
 use Rattle.laws.specs.Lists.{front}
 use Rattle.laws.proofs.Fronts.{front-more, front-stop, front-end}
-use Rattle.words.specs.Places.{isInk}
+use Rattle.words.specs.Words.{isInk}
 use Rattle.words.proofs.Laws.{ink-no, ink-yes}
 use Rattle.words.proofs.skip_ink.Statement.{statement}
 use Rattle.words.proofs.skip_ink.Tie as tie

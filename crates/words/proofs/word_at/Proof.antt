@@ -4,8 +4,8 @@ use native.Mathlib.Omega.{arith}
 use borrow.Author.Needs.{needs}
 use denote.Ref.{now}
 use Rattle.laws.proofs.Fronts.{front-end}
-use Rattle.words.specs.Places.{isInk}
-use Rattle.words.proofs.Laws.{run-from, words-none, words-some, word-rises, ink-goes}
+use Rattle.words.specs.Words.{isInk}
+use Rattle.words.proofs.Laws.{run-from, rest-here, rest-next, words-none, words-some, word-rises, ink-goes}
 use Rattle.words.proofs.word_at.Statement.{statement}
 use Rattle.words.proofs.word_at.Tie as tie
 
@@ -17,8 +17,11 @@ returns c =
     let s = now (c .before .before .before .args .s) in
     let a = c .before .skip-blanks .ensures in
     let h = c .if1 .taken in
+    let e = sym (front-end isInk s _ h) in
     record {
-      is = run-from s _ _ _ (a .0) (sym (front-end isInk s _ h));
+      here = rest-here s _ _ (a .0);
+      next = rest-next s _ _ _ (a .0) e;
+      is = run-from s _ _ _ (a .0) e;
       none = λ g. words-none s _ _ (a .0) g;
       some = λ g. absurd (omega (arith, g, h));
       rises = λ g. absurd (omega (arith, g, h));
@@ -39,6 +42,8 @@ returns-2 c =
     let a = c .before .before .skip-blanks .ensures in
     let e = ink-goes s _ _ (a .0) (c .before .if1 .left) _ (c .skip-ink .ensures .0) in
     record {
+      here = rest-here s _ _ (a .0);
+      next = rest-next s _ _ _ (a .0) e;
       is = run-from s _ _ _ (a .0) e;
       none = λ g. words-none s _ _ (a .0) g;
       some = λ g. words-some s _ _ (a .0) g _ e;

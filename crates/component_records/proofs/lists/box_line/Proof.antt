@@ -2,8 +2,10 @@
 use mathlib.Core.Path.{sym, _∙_}
 use borrow.Author.Needs.{needs}
 use denote.Ref.{now}
+use Rattle.records.specs.Flaws.{toldIn}
 use Rattle.line_rules.specs.Fields.{cellsLine}
 use Rattle.line_rules.proofs.Answers.{triple-said}
+use Rattle.lines_under.proofs.Told.{told-says}
 use Rattle.component_records.proofs.Lines.{box-named, box-flawed, box-nothing}
 use Rattle.component_records.proofs.lists.box_line.Statement.{statement}
 use Rattle.component_records.proofs.lists.box_line.Tie as tie
@@ -32,14 +34,14 @@ enum-told-2 c = search needs
 returns : tie.Need-returns
 returns c =
     let a = c .before .before .before .before .before .before .before .before .before .before .args in
-    let cells = triple-said _ (cellsLine (now (a .w))) (sym (c .before .before .cells .given .1) ∙ c .before .before .before .before .cells-line .ensures) in
-    c .box-at .ensures ∙ box-named (a .b) (now (a .w)) _ _ (sym (c .before .before .before .before .before .before .before .before .package-line .ensures) ∙ c .before .before .before .before .before .before .n .given .1) (sym cells)
+    let cells = triple-said _ (toldIn (now (a .w)) (cellsLine (now (a .w)))) (sym (c .before .before .cells .given .1) ∙ c .before .before .before .before .cells-line .ensures) in
+    c .box-at .ensures ∙ box-named (a .b) (now (a .w)) _ _ (sym (c .before .before .before .before .before .before .before .before .package-line .ensures) ∙ c .before .before .before .before .before .before .n .given .1) (told-says (now (a .w)) (cellsLine (now (a .w))) (sym cells))
 
 returns-2 : tie.Need-returns-2
 returns-2 c =
     let a = c .before .before .before .before .before .before .before .before .args in
-    let cells = triple-said _ (cellsLine (now (a .w))) (sym (c .enum-told .given .1) ∙ c .before .before .cells-line .ensures) in
-    box-flawed (a .b) (now (a .w)) _ (sym cells)
+    let cells = triple-said _ (toldIn (now (a .w)) (cellsLine (now (a .w)))) (sym (c .enum-told .given .1) ∙ c .before .before .cells-line .ensures) in
+    box-flawed (a .b) (now (a .w)) (sym cells)
 
 returns-3 : tie.Need-returns-3
 returns-3 c =

@@ -2,9 +2,7 @@
 use mathlib.Core.Path.{sym, _∙_}
 use borrow.Author.Needs.{needs}
 use denote.Ref.{now}
-use Rattle.line_rules.specs.Fields.{wordLine}
-use Rattle.line_rules.specs.Tables.{locations}
-use Rattle.component_records.proofs.Lines.{located, site-named, site-unread, site-nothing}
+use Rattle.component_records.proofs.Lines.{site-named, site-unread, site-nothing}
 use Rattle.component_records.proofs.lists.site_line.Statement.{statement}
 use Rattle.component_records.proofs.lists.site_line.Tie as tie
 
@@ -32,7 +30,7 @@ enum-told-2 c = search needs
 returns : tie.Need-returns
 returns c =
     let a = c .before .before .before .before .before .before .before .before .before .before .args in
-    let said = located (wordLine locations (now (a .w))) _ (sym (c .before .before .l .given .1) ∙ c .before .before .before .before .location-of .ensures) in
+    let said = sym (c .before .before .l .given .1) ∙ c .before .before .before .before .location-of .ensures in
     c .site-at .ensures ∙ site-named (a .s) (now (a .w)) _ _ (sym (c .before .before .before .before .before .before .before .before .component-line .ensures) ∙ c .before .before .before .before .before .before .n .given .1) said
 
 returns-2 : tie.Need-returns-2

@@ -3,6 +3,7 @@ use mathlib.Core.Path.{sym, ap, _∙_}
 use borrow.Author.Needs.{needs}
 use denote.Ref.{now}
 use Rattle.note_words.specs.Store.{liesAt, wordsOfRow, withName}
+use Rattle.records.specs.declared.LineFault.{LineFault}
 use Rattle.records.specs.declared.Kind.the-variants.{OfPin}
 use Rattle.file_answer.proofs.pins.pin_noted.Statement.{statement}
 use Rattle.file_answer.proofs.pins.pin_noted.Tie as tie
@@ -48,12 +49,12 @@ same-length c = search needs
 
 returns-3 : tie.Need-returns-3
 returns-3 c =
-    let a = c .before .before .before .before .before .before .before .before .before .before .before .before .before .args in
+    let a = c .before .before .before .before .before .before .before .before .before .before .before .before .before .before .args in
     record {
-      unbracketed = sym (c .before .before .before .before .before .before .before .before .before .bracketed .ensures) ∙ c .before .before .before .before .before .before .before .before .if1 .left;
-      pin = sym (c .before .before .before .before .before .before .row-fault .ensures) ∙ c .before .before .before .before .before .if2 .left;
-      names = c .before .before .before .before .before .before .before .pin-names .result;
-      lie = c .before .before .before .before .before .before .before .pin-names .ensures;
+      unbracketed = sym (c .before .before .before .before .before .before .before .before .before .before .bracketed .ensures) ∙ c .before .before .before .before .before .before .before .before .before .if1 .left;
+      pin = sym (ap (λ (x : LineFault). x .number) (c .before .before .before .before .before .before .before .row-fault .ensures)) ∙ c .before .before .before .before .before .if2 .left;
+      names = c .before .before .before .before .before .before .before .before .pin-names .result;
+      lie = c .before .before .before .before .before .before .before .before .pin-names .ensures;
       written = c .before .before .put-row .ensures ∙ ap (λ x. withName (now (a .notes)) (a .i) (liesAt OfPin (a .j)) (wordsOfRow x)) (c .before .before .before .before .pin-note .ensures .0);
     }
 

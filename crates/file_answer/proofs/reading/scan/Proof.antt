@@ -70,16 +70,16 @@ broken-at-requires : tie.Need-broken-at-requires Inv-loop μ-loop
 broken-at-requires c κs = tt
 
 same-length : tie.Need-same-length Inv-loop μ-loop
-same-length c = c .before .before .before .before .before .notes .given ∙ c .before .before .before .before .before .before .before .before .before .before .before .before .before .before .before .before .before .before .loop .inv .1
+same-length c = c .before .before .before .before .before .before .notes .given ∙ c .before .before .before .before .before .before .before .before .before .before .before .before .before .before .before .before .before .before .before .loop .inv .1
 
 returns : tie.Need-returns Inv-loop μ-loop
 returns c =
-    let a = c .before .before .before .before .before .before .before .before .before .before .before .before .before .before .before .before .before .before .before .before .before .before .before .args in
+    let a = c .before .before .before .before .before .before .before .before .before .before .before .before .before .before .before .before .before .before .before .before .before .before .before .before .args in
     let s = now (a .src) in
-    let i = c .before .before .before .before .before .before .before .before .before .before .before .before .before .before .before .before .before .before .loop in
-    let n = c .before .before .before .before .before .before .note-line in
-    let h = subst (NextIs s (i .cursor)) (c .before .before .before .before .before .before .before .before .before .before .before .before .before .before .before .line .given .1) (c .before .before .before .before .before .before .before .before .before .before .before .before .before .before .before .before .before .next-text .ensures) in
-    (first-run (a .l) s (now (a .notes)) _ _ (c .before .before .before .before .before .before .before .before .before .before .before .before .before .before .before .before .before .before .before .before .first .ensures) (c .before .before .before .before .before .before .before .before .before .before .before .before .before .before .before .before .before .before .before .nothing .ensures) ∙ i .inv .2 ∙ (rw (c .broken-at .ensures) (noted-full (a .l) s (i .notes) (n .last .0) (i .stage) (i .cursor) (i .tally) _ (c .before .before .before .before .before .before .before .before .spot-at .result) (c .before .before .before .before .before .before .before .before .spot-at .ensures) h (n .result) _ (n .ensures .0) _ (sym (c .before .before .before .before .before .before .before .before .before .before .before .before .on-plain .ensures) ∙ c .before .before .before .before .before .before .before .before .before .before .u .given .1) (c .before .if1 .taken))), (rw (c .broken-at .ensures) (noted-names (n .last .0) (i .tally) (n .result) (n .ensures .1) (c .before .if1 .taken)), rw (c .broken-at .ensures) tt))
+    let i = c .before .before .before .before .before .before .before .before .before .before .before .before .before .before .before .before .before .before .before .loop in
+    let n = c .before .before .before .before .before .before .before .note-line in
+    let h = subst (NextIs s (i .cursor)) (c .before .before .before .before .before .before .before .before .before .before .before .before .before .before .before .before .line .given .1) (c .before .before .before .before .before .before .before .before .before .before .before .before .before .before .before .before .before .before .next-text .ensures) in
+    (first-run (a .l) s (now (a .notes)) _ _ (c .before .before .before .before .before .before .before .before .before .before .before .before .before .before .before .before .before .before .before .before .before .first .ensures) (c .before .before .before .before .before .before .before .before .before .before .before .before .before .before .before .before .before .before .before .before .nothing .ensures) ∙ i .inv .2 ∙ (rw (c .broken-at .ensures) (noted-full (a .l) s (i .notes) (n .last .0) (i .stage) (i .cursor) (i .tally) _ (c .before .before .before .before .before .before .before .before .before .spot-at .result) (c .before .before .before .before .before .before .before .before .before .spot-at .ensures) h (n .result) _ (n .ensures .0) _ (sym (c .before .before .before .before .before .before .before .before .before .before .before .before .before .on-plain .ensures) ∙ c .before .before .before .before .before .before .before .before .before .before .before .u .given .1) (c .before .if1 .taken))), (rw (c .broken-at .ensures) (noted-names (n .last .0) (i .tally) (n .result) (n .ensures .1) (c .before .if1 .taken)), rw (c .broken-at .ensures) tt))
 
 comes-in-numbers-requires : tie.Need-comes-in-numbers-requires Inv-loop μ-loop
 comes-in-numbers-requires c κs = tt
@@ -89,42 +89,42 @@ stands-requires c κs = tt
 
 behind-list-requires : tie.Need-behind-list-requires Inv-loop μ-loop
 behind-list-requires c κs =
-    let a = c .before .before .before .before .before .before .before .before .before .before .before .before .before .before .before .before .before .before .before .before .before .before .before .before .before .before .args in
+    let a = c .before .before .before .before .before .before .before .before .before .before .before .before .before .before .before .before .before .before .before .before .before .before .before .before .before .before .before .args in
     let s = now (a .src) in
-    let i = c .before .before .before .before .before .before .before .before .before .before .before .before .before .before .before .before .before .before .before .before .before .loop in
-    let n = c .before .before .before .before .before .before .before .before .before .note-line in
-    let h = subst (NextIs s (i .cursor)) (c .before .before .before .before .before .before .before .before .before .before .before .before .before .before .before .before .before .before .line .given .1) (c .before .before .before .before .before .before .before .before .before .before .before .before .before .before .before .before .before .before .before .before .next-text .ensures) in
-    rw (c .before .stands .ensures) (noted-sound (a .l) s (i .notes) (n .last .0) (i .stage) (i .cursor) (i .tally) _ h (n .result) (i .inv .0) (c .before .before .before .before .before .before .before .before .notes .given) (n .ensures .1) (c .before .before .before .before .if1 .left))
+    let i = c .before .before .before .before .before .before .before .before .before .before .before .before .before .before .before .before .before .before .before .before .before .before .loop in
+    let n = c .before .before .before .before .before .before .before .before .before .before .note-line in
+    let h = subst (NextIs s (i .cursor)) (c .before .before .before .before .before .before .before .before .before .before .before .before .before .before .before .before .before .before .before .line .given .1) (c .before .before .before .before .before .before .before .before .before .before .before .before .before .before .before .before .before .before .before .before .before .next-text .ensures) in
+    rw (c .before .stands .ensures) (noted-sound (a .l) s (i .notes) (n .last .0) (i .stage) (i .cursor) (i .tally) _ h (n .result) (i .inv .0) (c .before .before .before .before .before .before .before .before .before .notes .given) (n .ensures .1) (c .before .before .before .before .if1 .left))
 
 loop-less : tie.Need-loop-less Inv-loop μ-loop
 loop-less c =
-    let h = subst (NextIs (now (c .before .before .before .before .before .before .before .before .before .before .before .before .before .before .before .before .before .before .before .before .before .before .before .before .before .before .before .before .before .before .before .args .src)) (c .before .before .before .before .before .before .before .before .before .before .before .before .before .before .before .before .before .before .before .before .before .before .before .before .before .before .loop .cursor)) (c .before .before .before .before .before .before .before .before .before .before .before .before .before .before .before .before .before .before .before .before .before .before .before .line .given .1) (c .before .before .before .before .before .before .before .before .before .before .before .before .before .before .before .before .before .before .before .before .before .before .before .before .before .next-text .ensures) in
+    let h = subst (NextIs (now (c .before .before .before .before .before .before .before .before .before .before .before .before .before .before .before .before .before .before .before .before .before .before .before .before .before .before .before .before .before .before .before .before .args .src)) (c .before .before .before .before .before .before .before .before .before .before .before .before .before .before .before .before .before .before .before .before .before .before .before .before .before .before .before .loop .cursor)) (c .before .before .before .before .before .before .before .before .before .before .before .before .before .before .before .before .before .before .before .before .before .before .before .before .line .given .1) (c .before .before .before .before .before .before .before .before .before .before .before .before .before .before .before .before .before .before .before .before .before .before .before .before .before .before .next-text .ensures) in
     let q = c .before .before .before .before .behind-list .ensures in
     omega (arith, h .goes .rises, q .from, ap (λ (x : Standing). x .cursor .at) (c .before .before .before .before .before .before .stands .ensures), q .sound .placed .within)
 
 loop-again : tie.Need-loop-again Inv-loop μ-loop
 loop-again c =
-    let a = c .before .before .before .before .before .before .before .before .before .before .before .before .before .before .before .before .before .before .before .before .before .before .before .before .before .before .before .before .before .before .before .args in
+    let a = c .before .before .before .before .before .before .before .before .before .before .before .before .before .before .before .before .before .before .before .before .before .before .before .before .before .before .before .before .before .before .before .before .args in
     let s = now (a .src) in
-    let i = c .before .before .before .before .before .before .before .before .before .before .before .before .before .before .before .before .before .before .before .before .before .before .before .before .before .before .loop in
-    let n = c .before .before .before .before .before .before .before .before .before .before .before .before .before .before .note-line in
-    let h = subst (NextIs s (i .cursor)) (c .before .before .before .before .before .before .before .before .before .before .before .before .before .before .before .before .before .before .before .before .before .before .before .line .given .1) (c .before .before .before .before .before .before .before .before .before .before .before .before .before .before .before .before .before .before .before .before .before .before .before .before .before .next-text .ensures) in
+    let i = c .before .before .before .before .before .before .before .before .before .before .before .before .before .before .before .before .before .before .before .before .before .before .before .before .before .before .before .loop in
+    let n = c .before .before .before .before .before .before .before .before .before .before .before .before .before .before .before .note-line in
+    let h = subst (NextIs s (i .cursor)) (c .before .before .before .before .before .before .before .before .before .before .before .before .before .before .before .before .before .before .before .before .before .before .before .before .line .given .1) (c .before .before .before .before .before .before .before .before .before .before .before .before .before .before .before .before .before .before .before .before .before .before .before .before .before .before .next-text .ensures) in
     let q = c .before .before .before .before .behind-list .ensures in
-    (q .sound, c .before .before .before .notes2 .given ∙ c .before .before .before .before .before .before .before .before .before .before .before .before .before .notes .given ∙ i .inv .1, i .inv .2 ∙ noted-going (a .l) s (i .notes) (n .last .0) (i .stage) (i .cursor) (i .tally) _ (c .before .before .before .before .before .before .before .before .before .before .before .before .before .before .before .before .spot-at .result) (c .before .before .before .before .before .before .before .before .before .before .before .before .before .before .before .before .spot-at .ensures) h (n .result) _ (n .ensures .0) _ (sym (c .before .before .before .before .before .before .before .before .before .before .before .before .before .before .before .before .before .before .before .before .on-plain .ensures) ∙ c .before .before .before .before .before .before .before .before .before .before .before .before .before .before .before .before .before .before .u .given .1) (c .before .before .before .before .before .before .before .before .before .if1 .left) ∙ ap (runFrom (a .l) s (n .last .0)) (sym (c .before .before .before .before .before .before .stands .ensures)) ∙ q .says)
+    (q .sound, c .before .before .before .notes2 .given ∙ c .before .before .before .before .before .before .before .before .before .before .before .before .before .before .notes .given ∙ i .inv .1, i .inv .2 ∙ noted-going (a .l) s (i .notes) (n .last .0) (i .stage) (i .cursor) (i .tally) _ (c .before .before .before .before .before .before .before .before .before .before .before .before .before .before .before .before .before .spot-at .result) (c .before .before .before .before .before .before .before .before .before .before .before .before .before .before .before .before .before .spot-at .ensures) h (n .result) _ (n .ensures .0) _ (sym (c .before .before .before .before .before .before .before .before .before .before .before .before .before .before .before .before .before .before .before .before .before .on-plain .ensures) ∙ c .before .before .before .before .before .before .before .before .before .before .before .before .before .before .before .before .before .before .before .u .given .1) (c .before .before .before .before .before .before .before .before .before .if1 .left) ∙ ap (runFrom (a .l) s (n .last .0)) (sym (c .before .before .before .before .before .before .stands .ensures)) ∙ q .says)
 
 loop-less-2 : tie.Need-loop-less-2 Inv-loop μ-loop
 loop-less-2 c =
-    let h = subst (NextIs (now (c .before .before .before .before .before .before .before .before .before .before .before .before .before .before .before .before .before .before .before .before .before .before .before .before .args .src)) (c .before .before .before .before .before .before .before .before .before .before .before .before .before .before .before .before .before .before .before .loop .cursor)) (c .before .before .before .before .before .before .before .before .before .before .before .before .before .before .before .before .line .given .1) (c .before .before .before .before .before .before .before .before .before .before .before .before .before .before .before .before .before .before .next-text .ensures) in
+    let h = subst (NextIs (now (c .before .before .before .before .before .before .before .before .before .before .before .before .before .before .before .before .before .before .before .before .before .before .before .before .before .args .src)) (c .before .before .before .before .before .before .before .before .before .before .before .before .before .before .before .before .before .before .before .before .loop .cursor)) (c .before .before .before .before .before .before .before .before .before .before .before .before .before .before .before .before .before .line .given .1) (c .before .before .before .before .before .before .before .before .before .before .before .before .before .before .before .before .before .before .before .next-text .ensures) in
     omega (arith, h .goes .rises, h .goes .placed .within)
 
 loop-again-2 : tie.Need-loop-again-2 Inv-loop μ-loop
 loop-again-2 c =
-    let a = c .before .before .before .before .before .before .before .before .before .before .before .before .before .before .before .before .before .before .before .before .before .before .before .before .args in
+    let a = c .before .before .before .before .before .before .before .before .before .before .before .before .before .before .before .before .before .before .before .before .before .before .before .before .before .args in
     let s = now (a .src) in
-    let i = c .before .before .before .before .before .before .before .before .before .before .before .before .before .before .before .before .before .before .before .loop in
-    let n = c .before .before .before .before .before .before .before .note-line in
-    let h = subst (NextIs s (i .cursor)) (c .before .before .before .before .before .before .before .before .before .before .before .before .before .before .before .before .line .given .1) (c .before .before .before .before .before .before .before .before .before .before .before .before .before .before .before .before .before .before .next-text .ensures) in
-    (noted-sound (a .l) s (i .notes) (n .last .0) (i .stage) (i .cursor) (i .tally) _ h (n .result) (i .inv .0) (c .before .before .before .before .before .before .notes .given) (n .ensures .1) (c .before .before .if1 .left), c .before .before .before .before .before .before .notes .given ∙ i .inv .1, i .inv .2 ∙ noted-going (a .l) s (i .notes) (n .last .0) (i .stage) (i .cursor) (i .tally) _ (c .before .before .before .before .before .before .before .before .before .spot-at .result) (c .before .before .before .before .before .before .before .before .before .spot-at .ensures) h (n .result) _ (n .ensures .0) _ (sym (c .before .before .before .before .before .before .before .before .before .before .before .before .before .on-plain .ensures) ∙ c .before .before .before .before .before .before .before .before .before .before .before .u .given .1) (c .before .before .if1 .left))
+    let i = c .before .before .before .before .before .before .before .before .before .before .before .before .before .before .before .before .before .before .before .before .loop in
+    let n = c .before .before .before .before .before .before .before .before .note-line in
+    let h = subst (NextIs s (i .cursor)) (c .before .before .before .before .before .before .before .before .before .before .before .before .before .before .before .before .before .line .given .1) (c .before .before .before .before .before .before .before .before .before .before .before .before .before .before .before .before .before .before .before .next-text .ensures) in
+    (noted-sound (a .l) s (i .notes) (n .last .0) (i .stage) (i .cursor) (i .tally) _ h (n .result) (i .inv .0) (c .before .before .before .before .before .before .before .notes .given) (n .ensures .1) (c .before .before .if1 .left), c .before .before .before .before .before .before .before .notes .given ∙ i .inv .1, i .inv .2 ∙ noted-going (a .l) s (i .notes) (n .last .0) (i .stage) (i .cursor) (i .tally) _ (c .before .before .before .before .before .before .before .before .before .before .spot-at .result) (c .before .before .before .before .before .before .before .before .before .before .spot-at .ensures) h (n .result) _ (n .ensures .0) _ (sym (c .before .before .before .before .before .before .before .before .before .before .before .before .before .before .on-plain .ensures) ∙ c .before .before .before .before .before .before .before .before .before .before .before .before .u .given .1) (c .before .before .if1 .left))
 
 enum-known-f : tie.Need-enum-known-f Inv-loop μ-loop
 enum-known-f c = search needs

@@ -3,7 +3,6 @@ use mathlib.Core.Path.{sym, ap, _∙_}
 use native.Mathlib.Omega.{arith}
 use borrow.Author.Tests.{not-false}
 use denote.Ref.{now}
-use Rattle.words.specs.Words.{words}
 use Rattle.line_cells.specs.declared.RowWords.{RowWords}
 use Rattle.line_cells.proofs.Rows.{row-there}
 use Rattle.model_steps.proofs.Laws.{row-taken}
@@ -41,7 +40,7 @@ returns-3 c = λ z head tail. absurd (omega (arith, z, ap (λ (x : RowWords). x 
 returns-4 : tie.Need-returns-4
 returns-4 c = λ z head tail.
     let a = c .before .before .before .before .before .before .before .before .before .args in
-    let t = row-there (words (now (a .w))) (c .before .before .before .before .before .row-words .ensures) z in
+    let t = row-there (now (a .w)) (c .before .before .before .before .before .row-words .ensures) z in
     record {
       unbracketed = sym (c .before .before .before .before .before .before .before .bracketed .ensures) ∙ c .before .before .before .before .before .before .if1 .left;
       row = sym (row-taken t (seenRows (a .seen) (a .last) head tail) (rw (sym (c .before .before .decimal-in .ensures)) (sym (c .before .rising .ensures) ∙ not-false (c .before .rising .result) (c .if3 .left))));

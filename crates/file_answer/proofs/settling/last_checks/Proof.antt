@@ -41,7 +41,7 @@ returns-2 c =
     let s = now (a .src) in
     let xs = now (a .notes) in
     let done = passed (heldOf (logOf s xs (a .t))) in
-    refuses (a .l) s _ _ _ _ (through (a .l) s xs (a .t) (c .before .before .before .before .before .before .before .pre) ∙ c .before .before .before .before .last-fault .ensures done ∙ ap (lastIs done) (c .before .before .f .given .1)) (c .refused .ensures)
+    refuses (a .l) s _ _ _ (through (a .l) s xs (a .t) (c .before .before .before .before .before .before .before .pre) ∙ c .before .before .before .before .last-fault .ensures done ∙ ap (lastIs done) (c .before .before .f .given .1)) (c .refused .ensures)
 
 pub last-checks-spec : {M : Type 1} → statement M
 last-checks-spec =

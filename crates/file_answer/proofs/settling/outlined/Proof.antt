@@ -31,7 +31,7 @@ returns c = c .before .before .settle .ensures
 returns-2 : tie.Need-returns-2
 returns-2 c =
     let a = c .before .before .before .before .before .before .before .args in
-    refuses (a .l) (now (a .src)) _ _ _ _ (faulty (a .l) (now (a .src)) _ (sym (c .before .before .before .before .check-bytes .ensures) ∙ c .before .before .f .given .1)) (c .refused .ensures)
+    refuses (a .l) (now (a .src)) _ _ _ (faulty (a .l) (now (a .src)) _ (sym (c .before .before .before .before .check-bytes .ensures) ∙ c .before .before .f .given .1)) (c .refused .ensures)
 
 pub outlined-spec : {M : Type 1} → statement M
 outlined-spec =

@@ -47,7 +47,7 @@ returns : tie.Need-returns
 returns c =
     let a = c .before .before .before .before .before .before .before .before .before .before .before .before .before .args in
     let s = now (a .src) in
-    refuses (a .l) s _ _ 14 _ (twice (a .l) s (c .before .before .before .before .before .before .before .before .before .scan .last .0) (c .before .before .before .before .before .before .before .before .before .scan .result) (c .before .before .before .before .before .before .before .before .before .before .before .before .before .pre .0) (c .before .before .before .before .before .before .before .before .before .scan .ensures .0) _ (found-clash _ _ (sym (c .before .before .k .given .1) ∙ c .before .before .before .before .first-clash .ensures))) (c .refused .ensures)
+    refuses (a .l) s _ _ _ (twice (a .l) s (c .before .before .before .before .before .before .before .before .before .scan .last .0) (c .before .before .before .before .before .before .before .before .before .scan .result) (c .before .before .before .before .before .before .before .before .before .before .before .before .before .pre .0) (c .before .before .before .before .before .before .before .before .before .scan .ensures .0) _ (found-clash _ _ (sym (c .before .before .k .given .1) ∙ c .before .before .before .before .first-clash .ensures))) (c .refused .ensures)
 
 same-length-2 : tie.Need-same-length-2
 same-length-2 c = search needs
@@ -62,7 +62,7 @@ returns-3 : tie.Need-returns-3
 returns-3 c =
     let a = c .before .before .before .before .before .before .before .before .before .before .before .before .before .before .before .args in
     let s = now (a .src) in
-    refuses (a .l) s _ _ _ _ (broken (a .l) s (c .before .before .before .before .before .before .before .before .before .before .before .scan .last .0) (c .before .before .before .before .before .before .before .before .before .before .before .scan .result) (c .before .before .before .before .before .before .before .before .before .before .before .before .before .before .before .pre .0) (c .before .before .before .before .before .before .before .before .before .before .before .scan .ensures .0) _ (no-clash _ (sym (c .before .before .before .before .enum-told .given .1) ∙ c .before .before .before .before .before .before .first-clash .ensures)) (c .before .before .ending .given .1)) (c .refused2 .ensures)
+    refuses (a .l) s _ _ _ (broken (a .l) s (c .before .before .before .before .before .before .before .before .before .before .before .scan .last .0) (c .before .before .before .before .before .before .before .before .before .before .before .scan .result) (c .before .before .before .before .before .before .before .before .before .before .before .before .before .before .before .pre .0) (c .before .before .before .before .before .before .before .before .before .before .before .scan .ensures .0) _ (no-clash _ (sym (c .before .before .before .before .enum-told .given .1) ∙ c .before .before .before .before .before .before .first-clash .ensures)) (c .before .before .ending .given .1)) (c .refused2 .ensures)
 
 pub settle-spec : {M : Type 1} → statement M
 settle-spec =

@@ -4,8 +4,7 @@ use mathlib.Core.Path.{sym, ap, _∙_}
 use denote.Ref.{now}
 use Rattle.laws.specs.Said.{orElse}
 use Rattle.line_rules.specs.Answers.{tripleSays}
-use Rattle.line_rules.proofs.Answers.{triple-said}
-use Rattle.line_rules.specs.Fields.{cellsLine}
+use Rattle.model_record.proofs.FirstLaws.{cells-said}
 use Rattle.model_record.proofs.firsts.comp_after.Statement.{statement}
 use Rattle.model_record.proofs.firsts.comp_after.Tie as tie
 
@@ -21,12 +20,12 @@ enum-told c = search needs
 returns : tie.Need-returns
 returns c =
     let before = c .before .before .before .before .before .args .before in
-    ap (λ r. orElse before (tripleSays r)) (sym (c .before .cells .given .1)) ∙ ap (orElse before) (triple-said _ (cellsLine (now (c .before .before .before .before .before .args .w))) (c .before .before .before .cells-line .ensures))
+    ap (λ r. orElse before (tripleSays r)) (sym (c .before .cells .given .1)) ∙ cells-said (now (c .before .before .before .before .before .args .w)) before _ (c .before .before .before .cells-line .ensures)
 
 returns-2 : tie.Need-returns-2
 returns-2 c =
     let before = c .before .before .before .before .args .before in
-    ap (λ r. orElse before (tripleSays r)) (sym (c .enum-told .given .1)) ∙ ap (orElse before) (triple-said _ (cellsLine (now (c .before .before .before .before .args .w))) (c .before .before .cells-line .ensures))
+    ap (λ r. orElse before (tripleSays r)) (sym (c .enum-told .given .1)) ∙ cells-said (now (c .before .before .before .before .args .w)) before _ (c .before .before .cells-line .ensures)
 
 pub comp-after-spec : {M : Type 1} → statement M
 comp-after-spec =

@@ -6,9 +6,7 @@ use borrow.Author.Needs.{needs}
 use Rattle.laws.proofs.Tests.{cond-yes, cond-no}
 use Rattle.laws.specs.Said.{orElse, readOn}
 use Rattle.line_rules.specs.Answers.{tripleSays}
-use Rattle.line_rules.proofs.Answers.{triple-said}
-use Rattle.line_rules.specs.Fields.{cellsLine, groupLine}
-use Rattle.model_record.proofs.FirstLaws.{present}
+use Rattle.model_record.proofs.FirstLaws.{present, group-said}
 use Rattle.model_record.proofs.firsts.group_after.Statement.{statement}
 use Rattle.model_record.proofs.firsts.group_after.Tie as tie
 
@@ -25,19 +23,17 @@ enum-told : tie.Need-enum-told
 enum-told c = search needs
 
 returns-2 : tie.Need-returns-2
-unfolding groupLine
 returns-2 c =
     let w = now (c .before .before .before .before .before .before .args .w) in
     let before = c .before .before .before .before .before .before .args .before in
-    ap (λ r. orElse before (readOn (tripleSays r) present)) (sym (c .before .cells .given .1)) ∙ ap (λ x. orElse before (readOn x present)) (triple-said _ (cellsLine w) (c .before .before .before .cells-line .ensures))
+    ap (λ r. orElse before (readOn (tripleSays r) present)) (sym (c .before .cells .given .1)) ∙ group-said w before _ (c .before .before .before .cells-line .ensures)
     ∙ sym (cond-yes _ _ (eq-eqb _ _ (c .before .before .before .before .if1 .left)))
 
 returns-3 : tie.Need-returns-3
-unfolding groupLine
 returns-3 c =
     let w = now (c .before .before .before .before .before .args .w) in
     let before = c .before .before .before .before .before .args .before in
-    ap (λ r. orElse before (readOn (tripleSays r) present)) (sym (c .enum-told .given .1)) ∙ ap (λ x. orElse before (readOn x present)) (triple-said _ (cellsLine w) (c .before .before .cells-line .ensures))
+    ap (λ r. orElse before (readOn (tripleSays r) present)) (sym (c .enum-told .given .1)) ∙ group-said w before _ (c .before .before .cells-line .ensures)
     ∙ sym (cond-yes _ _ (eq-eqb _ _ (c .before .before .before .if1 .left)))
 
 pub group-after-spec : {M : Type 1} → statement M

@@ -1,8 +1,7 @@
 -- By the row's step, with `row-line`.
 use mathlib.Core.Path.{sym, ap, _∙_}
-use borrow.Author.Needs.{needs}
 use denote.Ref.{now}
-use Rattle.words.specs.Words.{words}
+use Rattle.records.specs.Flaws.{toldIn}
 use Rattle.line_rules.specs.Fields.{rowOf}
 use Rattle.rules.specs.declared.ModelList.the-variants.{WaveformRows}
 use Rattle.rules.specs.declared.Stage.the-variants.{InModel}
@@ -10,35 +9,38 @@ use Rattle.rules.specs.declared.Event.the-variants.{TableRow}
 use Rattle.rules.specs.declared.Went.the-variants.{On}
 use Rattle.model_steps.specs.Rows.{rowWent}
 use Rattle.model_steps.proofs.Laws.{row-line}
+use borrow.Author.Needs.{needs}
 use Rattle.model_steps.proofs.body.point_line.Statement.{statement}
 use Rattle.model_steps.proofs.body.point_line.Tie as tie
 
 row-step-requires : tie.Need-row-step-requires
-row-step-requires c κs = tt
+row-step-requires c κs = search needs
 
 enum-known-rows : tie.Need-enum-known-rows
 enum-known-rows c = search needs
 
 with-list-requires : tie.Need-with-list-requires
-with-list-requires c κs = tt
+with-list-requires c κs = search needs
 
 enum-known-fault : tie.Need-enum-known-fault
 enum-known-fault c = search needs
 
-stopped-requires : tie.Need-stopped-requires
-stopped-requires c κs = tt
+stopped-at-requires : tie.Need-stopped-at-requires
+stopped-at-requires c κs = search needs
 
 returns : tie.Need-returns
 returns c =
     let a = c .before .before .before .before .before .before .args in
+    let w = now (c .before .before .before .before .before .before .args .w) in
     ap (λ (m : _). On (InModel m) TableRow) (c .with-list .ensures)
-    ∙ sym (row-line (WaveformRows (a .line) (a .given)) (a .m) (a .r) (a .k) (rowOf (words (now (a .w)))) ∙ ap (rowWent (WaveformRows (a .line) (a .given)) (a .m) (a .k)) (sym (c .before .before .before .before .row-step .ensures) ∙ c .before .before .rows .given .1))
+    ∙ sym (row-line (WaveformRows (a .line) (a .given)) (a .m) (a .r) (a .k) (toldIn w (rowOf w)) ∙ ap (rowWent (WaveformRows (a .line) (a .given)) (a .m) (a .k)) (sym (c .before .before .before .before .row-step .ensures) ∙ c .before .before .rows .given .1))
 
 returns-2 : tie.Need-returns-2
 returns-2 c =
     let a = c .before .before .before .before .before .before .args in
-    c .stopped .ensures
-    ∙ sym (row-line (WaveformRows (a .line) (a .given)) (a .m) (a .r) (a .k) (rowOf (words (now (a .w)))) ∙ ap (rowWent (WaveformRows (a .line) (a .given)) (a .m) (a .k)) (sym (c .before .before .before .before .row-step .ensures) ∙ c .before .before .fault .given .1))
+    let w = now (c .before .before .before .before .before .before .args .w) in
+    c .stopped-at .ensures
+    ∙ sym (row-line (WaveformRows (a .line) (a .given)) (a .m) (a .r) (a .k) (toldIn w (rowOf w)) ∙ ap (rowWent (WaveformRows (a .line) (a .given)) (a .m) (a .k)) (sym (c .before .before .before .before .row-step .ensures) ∙ c .before .before .fault .given .1))
 
 pub point-line-spec : {M : Type 1} → statement M
 point-line-spec =
@@ -48,6 +50,6 @@ point-line-spec =
     enum-known-rows
     with-list-requires
     enum-known-fault
-    stopped-requires
+    stopped-at-requires
     returns
     returns-2)

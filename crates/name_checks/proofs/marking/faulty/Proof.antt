@@ -10,7 +10,7 @@ line-at-requires : tie.Need-line-at-requires
 line-at-requires c κs = search needs
 
 returns : tie.Need-returns
-returns c = ap (λ (k : ℕ). Faulty (record { number = c .before .before .before .args .number; line = k })) (c .line-at .ensures)
+returns c = ap (λ (k : ℕ). Faulty (record { number = c .before .before .before .args .number; line = k; column = 0 })) (c .line-at .ensures)
 
 pub faulty-spec : {M : Type 1} → statement M
 faulty-spec = tie.close (tie.spec line-at-requires returns)

@@ -5,9 +5,11 @@ use denote.Ref.{now}
 use borrow.Author.Needs.{needs}
 use Rattle.laws.proofs.Tests.{cond-yes, cond-no}
 use Rattle.laws.specs.Said.{orElse}
-use Rattle.decimal.specs.Answers.{cellSays}
-use Rattle.decimal.proofs.Answers.{cell-said}
+use Rattle.records.specs.Flaws.{toldIn}
+use Rattle.records.proofs.Columns.{told-else}
 use Rattle.line_rules.specs.Fields.{numberLine}
+use Rattle.line_rules.specs.Answers.{lineCellSays}
+use Rattle.line_rules.proofs.Answers.{line-cell-said}
 use Rattle.named_lines.proofs.fields.number_after.Statement.{statement}
 use Rattle.named_lines.proofs.fields.number_after.Tie as tie
 
@@ -27,14 +29,14 @@ returns-2 : tie.Need-returns-2
 returns-2 c =
     let w = now (c .before .before .before .before .before .before .args .w) in
     let before = c .before .before .before .before .before .before .args .before in
-    ap (λ r. orElse before (cellSays r)) (sym (c .before .number .given .1)) ∙ ap (orElse before) (cell-said _ (numberLine w) (c .before .before .before .number-line .ensures))
+    ap (λ r. orElse before (lineCellSays r)) (sym (c .before .number .given .1)) ∙ ap (orElse before) (line-cell-said _ (toldIn w (numberLine w)) (c .before .before .before .number-line .ensures)) ∙ told-else w before (numberLine w)
     ∙ sym (cond-yes _ _ (eq-eqb _ _ (c .before .before .before .before .if1 .left)))
 
 returns-3 : tie.Need-returns-3
 returns-3 c =
     let w = now (c .before .before .before .before .before .args .w) in
     let before = c .before .before .before .before .before .args .before in
-    ap (λ r. orElse before (cellSays r)) (sym (c .enum-told .given .1)) ∙ ap (orElse before) (cell-said _ (numberLine w) (c .before .before .number-line .ensures))
+    ap (λ r. orElse before (lineCellSays r)) (sym (c .enum-told .given .1)) ∙ ap (orElse before) (line-cell-said _ (toldIn w (numberLine w)) (c .before .before .number-line .ensures)) ∙ told-else w before (numberLine w)
     ∙ sym (cond-yes _ _ (eq-eqb _ _ (c .before .before .before .if1 .left)))
 
 pub number-after-spec : {M : Type 1} → statement M

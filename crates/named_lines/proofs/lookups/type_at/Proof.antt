@@ -1,45 +1,37 @@
--- Each arm by computing the table at its number; past them nothing stands.
-use borrow.Author.Needs.{needs}
+-- Each arm by computing the table at its number, the last at the last number below the bound.
+use Prim.Native.Nat.{ℕ}
+use mathlib.Core.Path.{_≡_}
+use native.Mathlib.Omega.{arith}
 use Rattle.laws.proofs.Numbers.{apart-le}
-use Rattle.name_table.specs.Places.{meaningAt, meaningOf}
-use Rattle.name_table.proofs.Laws.{meaning-past}
+use Rattle.name_table.specs.Places.{meaningAt}
 use Rattle.line_rules.specs.Tables.{modelTypes}
 use Rattle.named_lines.proofs.lookups.type_at.Statement.{statement}
 use Rattle.named_lines.proofs.lookups.type_at.Tie as tie
 
-enum-known-found : tie.Need-enum-known-found
-enum-known-found c = search needs
-
-enum-told : tie.Need-enum-told
-enum-told c = search needs
-
-past : tie.Need-returns-17
-unfolding modelTypes meaningOf
-past c =
-    let k = c .before .before .found .given .0 .0 in
-    rw (c .before .before .found .given .1, meaning-past modelTypes k (apart-le 15 k (c .match2 .rest)))
+last : tie.Need-returns-15
+unfolding modelTypes meaningAt
+last c =
+    let k = c .before .args .k in
+    let e : k ≡ 14 = omega (arith, c .before .pre, apart-le 14 k (c .match .rest)) in
+    rw e
 
 pub type-at-spec : {M : Type 1} → statement M
-unfolding modelTypes meaningAt meaningOf
+unfolding modelTypes meaningAt
 type-at-spec =
     tie.close
     (tie.spec
-    enum-known-found
-    enum-told
-    (λ c. rw (c .enum-told .given .1))
-    (λ c. rw (c .before .before .found .given .1, c .match2 .keys1))
-    (λ c. rw (c .before .before .found .given .1, c .match2 .keys2))
-    (λ c. rw (c .before .before .found .given .1, c .match2 .keys3))
-    (λ c. rw (c .before .before .found .given .1, c .match2 .keys4))
-    (λ c. rw (c .before .before .found .given .1, c .match2 .keys5))
-    (λ c. rw (c .before .before .found .given .1, c .match2 .keys6))
-    (λ c. rw (c .before .before .found .given .1, c .match2 .keys7))
-    (λ c. rw (c .before .before .found .given .1, c .match2 .keys8))
-    (λ c. rw (c .before .before .found .given .1, c .match2 .keys9))
-    (λ c. rw (c .before .before .found .given .1, c .match2 .keys10))
-    (λ c. rw (c .before .before .found .given .1, c .match2 .keys11))
-    (λ c. rw (c .before .before .found .given .1, c .match2 .keys12))
-    (λ c. rw (c .before .before .found .given .1, c .match2 .keys13))
-    (λ c. rw (c .before .before .found .given .1, c .match2 .keys14))
-    (λ c. rw (c .before .before .found .given .1, c .match2 .keys15))
-    past)
+    (λ c. rw (c .match .keys1))
+    (λ c. rw (c .match .keys2))
+    (λ c. rw (c .match .keys3))
+    (λ c. rw (c .match .keys4))
+    (λ c. rw (c .match .keys5))
+    (λ c. rw (c .match .keys6))
+    (λ c. rw (c .match .keys7))
+    (λ c. rw (c .match .keys8))
+    (λ c. rw (c .match .keys9))
+    (λ c. rw (c .match .keys10))
+    (λ c. rw (c .match .keys11))
+    (λ c. rw (c .match .keys12))
+    (λ c. rw (c .match .keys13))
+    (λ c. rw (c .match .keys14))
+    last)

@@ -1,24 +1,46 @@
 -- The list in the code has the table's words, by computing both, so the place found stands for the meaning.
-use mathlib.Core.Path.{ap, _∙_}
+use mathlib.Core.Path.{_≡_, refl, sym, ap, _∙_}
+use mathlib.Core.List.{List}
+use borrow.Author.Needs.{needs}
 use denote.Ref.{now}
 use Rattle.laws.specs.Bytes.{isBlank}
+use Rattle.laws.specs.Said.{says}
 use Rattle.words.specs.Words.{words, grown, ontoWord}
 use Rattle.name_table.specs.Places.{namesOf}
+use Rattle.name_table.specs.declared.NameList.the-variants.{ModelTypes}
+use Rattle.records.specs.Flaws.{toldIn}
 use Rattle.line_rules.specs.Tables.{modelTypes}
 use Rattle.named_lines.specs.Views.{typeRead}
-use Rattle.named_lines.proofs.TableLaws.{word-found}
+use Rattle.named_lines.proofs.TableLaws.{line-fault, line-within, line-means}
 use Rattle.named_lines.proofs.lookups.type_of.Statement.{statement}
 use Rattle.named_lines.proofs.lookups.type_of.Tie as tie
 
-word-in-requires : tie.Need-word-in-requires
-word-in-requires c κs = tt
+listed-word-requires : tie.Need-listed-word-requires
+listed-word-requires c κs = tt
+
+enum-known-k : tie.Need-enum-known-k
+enum-known-k c = search needs
 
 type-at-requires : tie.Need-type-at-requires
-type-at-requires c κs = tt
+unfolding words grown ontoWord isBlank namesOf modelTypes
+type-at-requires c κs =
+    line-within modelTypes ModelTypes refl (now (c .before .before .before .before .before .args .w)) (c .before .before .before .listed-word .ensures) (c .before .k .given .1)
+
+enum-known-fault : tie.Need-enum-known-fault
+enum-known-fault c = search needs
 
 returns : tie.Need-returns
 unfolding words grown ontoWord isBlank namesOf modelTypes
-returns c = c .type-at .ensures ∙ ap typeRead (word-found modelTypes (now (c .before .before .before .args .w)) _ (c .before .word-in .ensures))
+returns c =
+    let w = now (c .before .before .before .before .before .before .args .w) in
+    sym (ap (λ x. typeRead (toldIn w x)) (line-means modelTypes ModelTypes refl w (c .before .before .before .before .listed-word .ensures) (c .before .before .k .given .1) (c .type-at .ensures)))
+
+returns-2 : tie.Need-returns-2
+unfolding words grown ontoWord isBlank namesOf modelTypes
+returns-2 c =
+    sym (ap typeRead (line-fault modelTypes ModelTypes refl (now (c .before .before .before .before .before .args .w)) (c .before .before .before .listed-word .ensures) (c .before .fault .given .1)))
 
 pub type-of-spec : {M : Type 1} → statement M
-type-of-spec = tie.close (tie.spec word-in-requires type-at-requires returns)
+type-of-spec =
+    tie.close
+    (tie.spec listed-word-requires enum-known-k type-at-requires enum-known-fault returns returns-2)

@@ -4,7 +4,6 @@ use mathlib.Core.Path.{refl}
 use native.Mathlib.Omega.{arith}
 use denote.Ref.{now}
 use Rattle.laws.specs.Said.{orElse}
-use Rattle.words.specs.Words.{words}
 use Rattle.keywords.specs.declared.Keyword.the-variants.{InModel}
 use Rattle.keywords.specs.declared.ModelPart.the-variants.{VoltageRange, TemperatureRange, Ramp}
 use Rattle.cut_lines.specs.Cursors.{rest}
@@ -65,7 +64,7 @@ returns c =
     let w = now (a .argument) in
     rw (c .no-tables .ensures, c .before .before .before .before .before .enum-told .given .1)
     (none-filled (now (a .src)) b (now (a .argument)) (a .c) (InModel VoltageRange) (now (a .model)) (now (a .waveforms)) (now (a .rows)) refl refl (c .before .before .before .before .before .before .before .before .before .before .before .before .pre .0 .0) (record { row = omega (arith, i, c .before .before .before .before .before .before .before .before .before .before .before .before .pre .0 .1); waveforms = omega (arith, l) }) (c .before .before .before .fill-voltage .last .0) _ (c .before .before .before .fill-voltage .ensures)
-    (voltage-turns b (orElse noCells (threeCells (words w))) w (under (rest (now (a .src)) (a .c))) 0 (now (a .model))))
+    (voltage-turns b (orElse noCells (threeCells w)) w (under (rest (now (a .src)) (a .c))) 0 (now (a .model))))
 
 same-length-2 : tie.Need-same-length-2
 same-length-2 c = search needs
@@ -77,7 +76,7 @@ returns-2 c =
     let w = now (a .argument) in
     rw (c .no-tables2 .ensures, c .before .before .before .before .before .enum-told2 .given .1)
     (none-filled (now (a .src)) b (now (a .argument)) (a .c) (InModel TemperatureRange) (now (a .model)) (now (a .waveforms)) (now (a .rows)) refl refl (c .before .before .before .before .before .before .before .before .before .before .before .before .pre .0 .0) (record { row = omega (arith, i, c .before .before .before .before .before .before .before .before .before .before .before .before .pre .0 .1); waveforms = omega (arith, l) }) (c .before .before .before .fill-temperature .last .0) _ (c .before .before .before .fill-temperature .ensures)
-    (temperature-turns b (orElse noCells (threeCells (words w))) w (under (rest (now (a .src)) (a .c))) 0 (now (a .model))))
+    (temperature-turns b (orElse noCells (threeCells w)) w (under (rest (now (a .src)) (a .c))) 0 (now (a .model))))
 
 same-length-3 : tie.Need-same-length-3
 same-length-3 c = search needs
@@ -99,7 +98,7 @@ returns-4 c =
     let h = c .before .before .before .fill-ramp .ensures .1 in
     rw (c .no-tables3 .ensures, c .before .before .before .before .before .enum-told3 .given .1)
     (lines-filled (now (a .src)) b (now (a .argument)) (a .c) (InModel Ramp) (now (a .model)) (now (a .waveforms)) (now (a .rows)) refl refl h (record { row = omega (arith, i, h .rises, c .before .before .before .before .before .before .before .before .before .before .before .before .pre .0 .1); waveforms = omega (arith, l, h .rises) }) (c .before .before .before .fill-ramp .last .0) _ (c .before .before .before .fill-ramp .ensures .0)
-    (ramp-turns b (orElse noCells (threeCells (words w))) w (under (rest (now (a .src)) (a .c))) 0 (now (a .model))))
+    (ramp-turns b (orElse noCells (threeCells w)) w (under (rest (now (a .src)) (a .c))) 0 (now (a .model))))
 
 same-length-6 : tie.Need-same-length-6
 same-length-6 c = search needs

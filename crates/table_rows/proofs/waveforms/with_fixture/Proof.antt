@@ -2,9 +2,11 @@
 use mathlib.Core.Path.{sym, ap, _∙_}
 use borrow.Author.Needs.{needs}
 use denote.Ref.{now}
-use Rattle.decimal.specs.Answers.{cellSays}
-use Rattle.decimal.proofs.Answers.{cell-said}
+use Rattle.records.specs.Flaws.{toldIn}
+use Rattle.line_rules.specs.Answers.{lineCellSays}
+use Rattle.line_rules.proofs.Answers.{line-cell-said}
 use Rattle.line_rules.specs.Fields.{numberLine}
+use Rattle.lines_under.proofs.Told.{told-says}
 use Rattle.table_rows.proofs.WaveformLaws.{fixture-named, fixture-bad, fixture-nothing}
 use Rattle.table_rows.proofs.waveforms.with_fixture.Statement.{statement}
 use Rattle.table_rows.proofs.waveforms.with_fixture.Tie as tie
@@ -35,12 +37,12 @@ returns c =
     let w = now (c .before .before .before .before .before .before .before .before .before .before .args .w) in
     c .fixture-at .ensures
     ∙ fixture-named (c .before .before .before .before .before .before .before .before .before .before .args .x) w _ _ (sym (c .before .before .before .before .before .before .before .before .fixture-line .ensures) ∙ c .before .before .before .before .before .before .n .given .1)
-    (sym (cell-said _ (numberLine w) (c .before .before .before .before .number-line .ensures)) ∙ ap cellSays (c .before .before .number .given .1))
+    (told-says w (numberLine w) (sym (line-cell-said _ (toldIn w (numberLine w)) (c .before .before .before .before .number-line .ensures)) ∙ ap lineCellSays (c .before .before .number .given .1)))
 
 returns-2 : tie.Need-returns-2
 returns-2 c =
     let w = now (c .before .before .before .before .before .before .before .before .args .w) in
-    fixture-bad (c .before .before .before .before .before .before .before .before .args .x) w _ (sym (cell-said _ (numberLine w) (c .before .before .number-line .ensures)) ∙ ap cellSays (c .enum-told .given .1))
+    fixture-bad (c .before .before .before .before .before .before .before .before .args .x) w (sym (line-cell-said _ (toldIn w (numberLine w)) (c .before .before .number-line .ensures)) ∙ ap lineCellSays (c .enum-told .given .1))
 
 returns-3 : tie.Need-returns-3
 returns-3 c = fixture-nothing (c .before .before .before .before .args .x) (now (c .before .before .before .before .args .w)) (sym (c .before .before .fixture-line .ensures) ∙ c .enum-told2 .given .1)

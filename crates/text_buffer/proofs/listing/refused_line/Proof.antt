@@ -20,6 +20,9 @@ put-count-requires c κs = tt
 put-count-requires-2 : tie.Need-put-count-requires-2
 put-count-requires-2 c κs = tt
 
+put-count-requires-3 : tie.Need-put-count-requires-3
+put-count-requires-3 c κs = tt
+
 put-byte-requires : tie.Need-put-byte-requires
 put-byte-requires c κs = tt
 
@@ -29,11 +32,12 @@ returns c =
     let a = c .before .before in
     let b = a .before .before .before .before in
     let d = b .before .before .before .before in
-    let e = d .before .before .before .before .before in
-    put-then (put-then (put-then (e .put-bytes .ensures) (d .put-count .ensures)) (b .put-count2 .ensures)) (a .put-byte .ensures)
+    let e = d .before .before .before .before in
+    let f = e .before .before .before .before .before in
+    put-then (put-then (put-then (put-then (f .put-bytes .ensures) (e .put-count .ensures)) (d .put-count2 .ensures)) (b .put-count3 .ensures)) (a .put-byte .ensures)
 
 same-length : tie.Need-same-length
 same-length c = put-kept (returns c)
 
 pub refused-line-spec : {M : Type 1} → statement M
-refused-line-spec = tie.close (tie.spec slice-aggregate-put-bytes put-bytes-requires cast-put-count put-count-requires put-count-requires-2 put-byte-requires same-length returns)
+refused-line-spec = tie.close (tie.spec slice-aggregate-put-bytes put-bytes-requires cast-put-count put-count-requires put-count-requires-2 put-count-requires-3 put-byte-requires same-length returns)

@@ -1,0 +1,4 @@
+-- Laws behind the proofs.
+pub mod HintLaws
+pub mod Laws
+pub mod TextLaws

@@ -1,0 +1,2 @@
+-- Whether the word at fault is one too many.
+pub mod Surplus
