@@ -1,0 +1,2 @@
+-- How many rows a file has room for.
+pub mod Rows
