@@ -14,8 +14,8 @@ from records import Record, answers
 
 ROOT = Path(__file__).resolve().parent.parent
 CASES = Path(os.environ.get('CASES', ROOT.parent / 'shared' / 'cases'))
-LANDED = ['after-02', 'after-01', 'after-03', 'after-06']
-BOUNDS = (8, 512, 32, 256, 64, 1024, 1000)
+LANDED = ['after-02', 'after-01', 'after-03', 'after-06', 'after-08']
+BOUNDS = (8, 512, 32, 256, 64, 1024, 8192)
 
 
 def expected():

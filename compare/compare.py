@@ -16,7 +16,7 @@ MEANINGS = {
     5: 'keyword badly formed', 6: 'keyword of the hierarchy, not carried', 7: 'out of place', 8: 'given twice', 9: 'required part missing',
     10: 'wrong word, name or count of words', 11: 'not a number', 12: 'number out of range', 13: 'rows or divisor',
     14: 'name already used', 15: 'model name not found', 16: 'model or selector not listed', 17: 'bound passed',
-    18: 'lent rows too few', 19: 'no [End]', 20: 'Vinl not below Vinh', 21: 'keyword outside the hierarchy',
+    19: 'no [End]', 20: 'Vinl not below Vinh', 21: 'keyword outside the hierarchy', 25: 'fewer than 8,192 rows lent',
 }
 
 

@@ -12,7 +12,7 @@ from records import Record, answers, opening, verdict
 
 CHUNK = 500
 LONGEST = 118  # a line's 120 characters without the brackets
-LENGTHS = (8, 512, 32, 256, 64, 1024, 1000)
+LENGTHS = (8, 512, 32, 256, 64, 1024, 8192)
 FORMED = re.compile(r'[^ _\t]+([ _][^ _\t]+)*')
 
 

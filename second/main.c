@@ -3,14 +3,14 @@
 
 #include <string.h>
 
-enum { BATCH_BYTES = 131072, BATCH_ROWS = 8192, FILE_ROWS = 1000, RECORD_NUMBERS = 8 };
+enum { BATCH_BYTES = 131072, RECORD_NUMBERS = 8 };
 
 static uint8_t bytes[BATCH_BYTES];
-static struct row rows[BATCH_ROWS];
+static struct row rows[MAX_ROWS];
 static struct file file = { .rows = rows };
 
 static const struct lengths at_their_bounds = {
-    MAX_COMPONENTS, MAX_PINS, MAX_SELECTORS, MAX_CHOICES, MAX_MODELS, MAX_WAVEFORMS, FILE_ROWS,
+    MAX_COMPONENTS, MAX_PINS, MAX_SELECTORS, MAX_CHOICES, MAX_MODELS, MAX_WAVEFORMS, MAX_ROWS,
 };
 
 static int read_one(const char *path, void (*write)(FILE *, int, const struct file *))
@@ -59,7 +59,7 @@ static int read_batch(void)
             break;
         struct lengths lent = {
             numbers[0], numbers[1], numbers[2], numbers[3], numbers[4], numbers[5],
-            numbers[6] < BATCH_ROWS ? numbers[6] : BATCH_ROWS,
+            numbers[6] < MAX_ROWS ? numbers[6] : MAX_ROWS,
         };
         write_dump(stdout, second_read(bytes, length, &lent, &file), &file);
         fflush(stdout);                                     /* for a caller that waits for each answer */

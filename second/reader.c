@@ -78,7 +78,7 @@ static const struct name model_names[LEVEL_LINES + LEVELS] = {
 
 struct reader {
     struct file *file;
-    struct lengths lent;
+    struct lengths lent;                        /* each up to its bound */
     uint32_t line;                              /* the number of the line at hand */
     uint8_t comment;                            /* the comment character in force */
     bool long_heading;                          /* of the open [Pin] */
@@ -294,19 +294,24 @@ static struct flaw read_choice(struct reader *reader, struct text line)
     return no_flaw;
 }
 
-/* "the first column rises strictly"; a row's own faults come before the want of room. */
+/* A number, three cells, a blank between each two, and a line end. */
+enum { LEAST_ROW_BYTES = 1 + CORNERS + CORNERS + 1 };
+_Static_assert(MAX_BYTES / LEAST_ROW_BYTES <= MAX_ROWS, "no file has more rows than are lent");
+
+/*
+ * "the first column rises strictly". Every row that is met has room: each one before it took LEAST_ROW_BYTES or more of
+ * at most MAX_BYTES, and [IBIS Ver] took some too, so they are fewer than MAX_ROWS.
+ */
 static struct flaw read_row(struct reader *reader, struct text line)
 {
     struct file *file = reader->file;
     struct table *table = reader->table;
-    struct row spare, *row = file->row_count < reader->lent.rows ? &file->rows[file->row_count] : &spare;
+    struct row *row = &file->rows[file->row_count];
     struct flaw flaw = read_cells(line, 1 + CORNERS, false, row->cells);
     if (flaw.fault != NO_FAULT)
         return flaw;
     if (table->count > 0 && compare(&file->rows[file->row_count - 1].cells[0], &row->cells[0]) >= 0)
         return flaw_of_line(WRONG_ROWS);
-    if (row == &spare)
-        return flaw_of_line(ROWS_TOO_FEW);
     file->row_count++;
     table->count++;
     return no_flaw;
@@ -929,7 +934,7 @@ static void begin(struct reader *reader, const struct lengths *lent, struct file
     reader->lent.choices = least(lent->choices, MAX_CHOICES);
     reader->lent.models = least(lent->models, MAX_MODELS);
     reader->lent.waveforms = least(lent->waveforms, MAX_WAVEFORMS);
-    reader->lent.rows = lent->rows;
+    reader->lent.rows = least(lent->rows, MAX_ROWS);
     reader->line = 0;
     reader->comment = '|';
     reader->place = BEFORE_VERSION;
@@ -943,6 +948,8 @@ int second_read(const uint8_t *bytes, size_t length, const struct lengths *lent,
 {
     struct reader reader;
     begin(&reader, lent, file);
+    if (reader.lent.rows < MAX_ROWS)
+        return ROWS_NOT_LENT;
     if (length > MAX_BYTES)
         return FILE_TOO_LONG;
     enum fault fault = length == 0 ? tell(&reader, NO_END, 1) : read_lines(&reader, bytes, bytes + length);

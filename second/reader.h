@@ -6,7 +6,10 @@
 #include <stddef.h>
 #include <stdint.h>
 
-/* The bounds of a file. Rows have none but the rows lent. */
+/*
+ * The bounds of a file. MAX_ROWS is what a caller has to lend; no file has as many, as "a row takes at least eight bytes
+ * of file, its line end counted" (document 02, section 8).
+ */
 enum {
     MAX_BYTES = 65536,
     MAX_LINE = 120,
@@ -17,6 +20,7 @@ enum {
     MAX_MODELS = 64,
     MAX_MODEL_WAVEFORMS = 16,
     MAX_WAVEFORMS = 1024,
+    MAX_ROWS = 8192,
     MAX_SECTIONS = MAX_COMPONENTS + MAX_SELECTORS + MAX_MODELS
 };
 
@@ -40,13 +44,13 @@ enum fault {
     MODEL_NOT_FOUND = 15,
     NOT_LISTED = 16,
     BOUND_PASSED = 17,
-    ROWS_TOO_FEW = 18,
     NO_END = 19,
     THRESHOLDS_CROSSED = 20,
-    OUTSIDE_HIERARCHY = 21                      /* stands where 6 stands */
+    OUTSIDE_HIERARCHY = 21,                     /* stands where 6 stands */
+    ROWS_NOT_LENT = 25                          /* "before fault 1": fewer than MAX_ROWS are lent */
 };
 
-/* How many records of each kind are lent; all but the rows count up to their bound. */
+/* How many records of each kind are lent; they count up to their bound. */
 struct lengths {
     size_t components, pins, selectors, choices, models, waveforms, rows;
 };
