@@ -6,17 +6,16 @@ import sys
 import making.damages_of_lines
 import making.damages_of_places
 import making.damages_of_words
-from making.damages_of_bytes import LONGEST_RECORD
+from making.damages_of_bytes import LARGEST_FILE, LEAST_ROWS, LONGEST_RECORD
+from making.damages_of_rows import crowd_rows, some_count
 from making.damages_of_tables import BOUNDS, crowd
 from making.dice import Dice
 from making.draft import DAMAGES, KINDS, STAGES, Draft, NoPlace
-from making.pen import Pen
 from making.remarks import around
-from making.valid import build
 from records import PARTS, Record, packed
 
-# What a caller lends who wants no bound but document 01's; no file of 65,536 bytes has 10,000 rows.
-FULL = {'components': 8, 'pins': 512, 'selectors': 32, 'choices': 256, 'models': 64, 'waveforms': 1024, 'rows': 10000}
+# What a caller lends who wants no bound but document 01's, and as many rows as loading asks for; no file has so many.
+FULL = {'components': 8, 'pins': 512, 'selectors': 32, 'choices': 256, 'models': 64, 'waveforms': 1024, 'rows': LEAST_ROWS}
 
 
 def make(dice):
@@ -46,8 +45,7 @@ def inflict(draft, stage):
 def prepare(draft, stage):
     """Brings the draft to the stage at which its damages work."""
     if stage == 'lines':
-        draft.pen = Pen(draft.dice, draft.plan.terse)
-        draft.lines = build(draft.pen, draft.plan)
+        draft.write()
     elif stage == 'written':
         draft.lines = around(draft.pen, draft.lines)
     elif stage == 'bytes':
@@ -59,19 +57,19 @@ def prepare(draft, stage):
 
 
 def lend(dice, needs):
-    """Lengths that suffice: the bounds, more than the bounds, or just what the file needs."""
+    """Lengths that suffice: the bounds, more than the bounds, or just what the file needs; of rows what loading asks for, or a little more."""
     kind = dice.weighted([(5, 'full'), (2, 'more'), (2, 'need')])
     if kind == 'full':
         return dict(FULL)
     if kind == 'more':
         return {part: bound + dice.pick([0, 1, 7]) for part, bound in FULL.items()}
-    return {part: need + dice.pick([0, 0, 1, 3]) for part, need in needs.items()}
+    return {part: need + dice.pick([0, 0, 1, 3]) for part, need in {**needs, 'rows': LEAST_ROWS}.items()}
 
 
 def enlarge(draft):
-    """Makes a few of the valid files large: at a bound, with long tables, or as full of waveforms as a file can be."""
+    """Makes a few of the valid files large: at a bound, with long tables, or as full of waveforms or rows as a file can be."""
     dice, plan = draft.dice, draft.plan
-    kind = dice.weighted([(180, 'no'), (10, 'bound'), (3, 'tables'), (2, 'waveform'), (1, 'waveforms')])
+    kind = dice.weighted([(180, 'no'), (10, 'bound'), (3, 'tables'), (2, 'waveform'), (1, 'waveforms'), (6, 'rows')])
     if kind == 'bound':
         crowd(draft, dice.pick(list(BOUNDS)), 0)
     elif kind == 'tables':
@@ -82,6 +80,8 @@ def enlarge(draft):
     elif kind == 'waveforms':
         crowd(draft, 'models', 0)
         plan.waveforms = (16, 16)
+    elif kind == 'rows':
+        crowd_rows(draft, LARGEST_FILE - dice.pick([0, 0, 0, 1, dice.below(9)]), some_count(dice))
 
 
 def records(seed, count):

@@ -6,6 +6,7 @@ from making.remarks import MARKS
 
 LARGEST_FILE = 65536
 LONGEST_RECORD = 131072
+LEAST_ROWS = 8192  # what loading asks for
 FORBIDDEN = '\x00\x01\x07\x08\x0b\x0c\x0e\x1b\x1f\x7f\x80\x85\xa0\xe9\xff'
 BORDER = '\t\x1f\x20\x7e\x7f\r'
 CHANGES = [
@@ -19,6 +20,7 @@ CHANGES = [
 CHANGE_KEYWORDS = ['[Comment Char]', '[comment_char]', '[COMMENT CHAR]', '[Comment  Char]', '[Comment Char', '[ Comment Char]',
                    '[Comment_Char_]', '[CommentChar]', '[Comment\tChar]', '(Comment Char]', '[Comment Chars]']
 NO_MARKS = '+-./=[]_09azAZ'
+BOUNDED = [part for part in KINDS if part != 'rows']
 TINY = [b'', b'', b'\n', b'\r\n', b'\r', b'\n\n', b' ', b' \n', b'x\n', b'|\n', b'[\n', b'[End]\n', b'[IBIS Ver] 5.0\n',
         b'[IBIS Ver] 5.0', b'[IBIS Ver] 5.0\n[End]\n', b'[IBIS Ver] 5.0\n[Component] x\n[End]\n']
 
@@ -146,9 +148,9 @@ def any_bytes(draft):
 
 @damage('lent', 12)
 def lent_short(draft):
-    """One table or more lent with exactly what the file needs, one less, far less, or nothing."""
+    """One table or more, the rows aside, lent with exactly what the file needs, one less, far less, or nothing."""
     dice, lengths = draft.dice, draft.lengths
-    for part in dice.shuffled(lengths)[:dice.pick([1, 1, 1, 2, 7])]:
+    for part in dice.shuffled(BOUNDED)[:dice.pick([1, 1, 1, 2, len(BOUNDED)])]:
         need = draft.needs[part]
         lengths[part] = max(0, dice.pick([need, need - 1, need - 1, need // 2, 0]))
 
@@ -156,16 +158,21 @@ def lent_short(draft):
 @damage('lent', 30)
 def lent_to_damage(draft):
     """As much lent as the parts before the last damaged line need, so that a bound is passed on that very line."""
-    parts = [part for part, kind in KINDS.items() if draft.last in draft.lines and draft.last.kind == kind]
+    parts = [part for part in BOUNDED if draft.last in draft.lines and draft.last.kind == KINDS[part]]
     if not parts:
         raise NoPlace
     before = draft.lines[:draft.lines.index(draft.last)]
     draft.lengths[parts[0]] = sum(line.kind == draft.last.kind for line in before)
 
 
-@damage('lent', 20)
-def lent_rows_short(draft):
-    need = draft.needs['rows']
-    if need == 0:
-        raise NoPlace
-    draft.lengths['rows'] = max(0, need - draft.dice.pick([0, 1, 1, 1, 2, need, draft.dice.below(need + 1)]))
+@damage('lent', 48)
+def lent_rows_few(draft):
+    """Fewer rows lent than loading asks for, whatever the file is, now and then hardly one or one past the largest size."""
+    dice, need = draft.dice, draft.needs['rows']
+    kind = dice.weighted([(8, 'as it is'), (1, 'tiny'), (1, 'past the largest')])
+    if kind == 'tiny':
+        draft.data = dice.pick(TINY)
+    elif kind == 'past the largest':
+        draft.data += b'\n' * (LARGEST_FILE + 1 - len(draft.data))
+    rows = dice.pick([LEAST_ROWS - 1, LEAST_ROWS - 1, LEAST_ROWS - 1, 0, 1, 1000, need, need, dice.below(LEAST_ROWS)])
+    draft.lengths['rows'] = min(rows, LEAST_ROWS - 1)

@@ -1,10 +1,14 @@
 """Numbers as a whole number times a power of ten: values up to every limit, and the spellings of each."""
 
+import re
 import string
+from functools import cache
+from itertools import product
 
 LOWEST, HIGHEST = -40, 24
 SCALES = {'T': 12, 'G': 9, 'M': 6, 'k': 3, 'm': -3, 'u': -6, 'n': -9, 'p': -12, 'f': -15}
 IDLE_LETTERS = [letter for letter in string.ascii_letters if letter not in SCALES]
+SHORT = re.compile(r'(?=-?\.?\d)(-?\d*)\.?(\d*)([%s]?)' % ''.join(SCALES))
 UNITS = ['F', 'Ohm', 'V', 'H', 's', 'e', 'E', 'K', 'NA', 'eV', 'Exp', 'Tk', 'gM']
 
 NOT_NUMBERS = [
@@ -88,6 +92,23 @@ def rising(dice, count):
         number = some_number(dice) if dice.chance(50) else normal(dice.between(-9999, 9999), dice.between(-6, 3))
         values[exact(number)] = number
     return [values[key] for key in sorted(values)]
+
+
+@cache
+def short_spellings():
+    """Numbers and a spelling of each in at most three characters, the shortest spellings first."""
+    found = {}
+    for length in (1, 2, 3):
+        for text in map(''.join, product(string.digits + '-.' + ''.join(SCALES), repeat=length)):
+            if parts := SHORT.fullmatch(text):
+                before, behind, letter = parts.groups()
+                found.setdefault(normal(int(before + behind), SCALES.get(letter, 0) - len(behind)), text)
+    return list(found.items())
+
+
+def shortest_rising(count):
+    """So many numbers, each above the one before, in the fewest characters that they can be spelled with."""
+    return [text for _, text in sorted(short_spellings()[:count], key=lambda pair: exact(pair[0]))]
 
 
 def spell(dice, number, room=26):

@@ -2,7 +2,8 @@
 
 import re
 
-from making.valid import Line, Plan
+from making.pen import Pen
+from making.valid import Line, Plan, build
 
 SECTIONS = ('component', 'selector', 'model')
 # The kinds of a model's first lines; C_comp and the capacitances by structure are one of their own.
@@ -34,6 +35,11 @@ class Draft:
         self.dice, self.plan, self.pen = dice, Plan(dice), None
         self.lines, self.needs, self.data, self.lengths = [], {}, b'', {}
         self.last = None
+
+    def write(self):
+        """Writes the lines that are planned."""
+        self.pen = Pen(self.dice, self.plan.terse, self.plan.ending)
+        self.lines = build(self.pen, self.plan)
 
     def choose(self, places):
         """One of these line places: often the one next to the last damage, so that faults meet on a line; else one of a

@@ -8,7 +8,7 @@ LONGEST_LINE = 120
 class Pen:
     """Writes the parts of valid lines. A terse pen writes the shortest form of everything, for files at the bounds."""
 
-    def __init__(self, dice, terse=False):
+    def __init__(self, dice, terse=False, ending='\n'):
         self.dice, self.terse = dice, terse
         self.odd_names = self.habit([0, 10, 40])
         self.odd_blanks = self.habit([0, 5, 40])
@@ -16,7 +16,7 @@ class Pen:
         self.odd_numbers = self.habit([0, 50, 100])
         self.remarks = self.habit([0, 3, 25])
         self.changes = self.habit([0, 2, 15])
-        self.ending = '\n' if terse else dice.pick(['\n', '\n', '\r\n', ''])
+        self.ending = ending if terse else dice.pick(['\n', '\n', '\r\n', ''])
 
     def habit(self, percents):
         return 0 if self.terse else self.dice.pick(percents)

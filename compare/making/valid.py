@@ -1,6 +1,6 @@
 """Valid files as lists of lines, each line knowing what it is, so that a damage finds its place."""
 
-from making.decimals import digits_of, exact, normal, rising, some_number
+from making.decimals import digits_of, exact, normal, rising, shortest_rising, some_number
 from making.names import NEEDLESS, Names, file_name, is_model_name, phrase, word
 
 TEXTS = ['Date', 'Source', 'Notes', 'Disclaimer', 'Copyright']
@@ -19,6 +19,7 @@ FREE_NUMBERS = ['Vmeas', 'Cref', 'Rref', 'Vref']
 FIXTURES = ['V_fixture_min', 'V_fixture_max', 'C_fixture', 'L_fixture', 'R_dut', 'L_dut', 'C_dut']
 SHORT_HEADING = ['signal_name', 'model_name']
 LONG_HEADING = SHORT_HEADING + ['R_pin', 'L_pin', 'C_pin']
+FEWEST_ROWS, MOST_CURRENT_ROWS, MOST_WAVEFORM_ROWS, MOST_WAVEFORMS = 2, 100, 1000, 16
 
 
 class Line:
@@ -36,7 +37,8 @@ class Plan:
     """How many of each part a file has."""
 
     def __init__(self, dice):
-        self.terse = False
+        self.terse, self.ending = False, '\n'  # the line end of a terse file
+        self.size = 0  # the bytes of a file that is filled up with rows
         self.components = dice.weighted([(8, 1), (2, 2), (1, 3)])
         self.models = dice.weighted([(1, 0), (6, 1), (4, 2), (2, 3), (1, 5)])
         self.selectors = dice.weighted([(3, 0), (3, 1), (1, 2), (1, 3)]) if self.models else 0
@@ -63,7 +65,8 @@ def build(pen, plan):
     sections += [model(pen, plan, name) for name in models]
     if dice.chance(50):
         sections = dice.shuffled(sections)
-    return header(pen) + [line for lines in sections for line in lines] + [Line('end', pen.keyword('End'))]
+    lines = header(pen) + [line for lines in sections for line in lines] + [Line('end', pen.keyword('End'))]
+    return filled(pen, plan, lines) if plan.size else lines
 
 
 def shares(dice, total, count, limit):
@@ -181,18 +184,17 @@ def thresholds(pen, kind, share):
     return [pen.equation(name, pen.spelled(normal(*values[name]), 100)) for name in given]
 
 
-def rows_of(pen, plan):
-    count = pen.dice.between(*plan.rows)
-    numbers = [(place, 0) for place in range(count)] if pen.terse else rising(pen.dice, count)
+def rows_of(pen, count):
+    numbers = shortest_rising(count) if pen.terse else [pen.spelled(normal(*number)) for number in rising(pen.dice, count)]
     lines = []
     for place, number in enumerate(numbers):
         typ = pen.number() if place in (0, count - 1) else pen.cell()
-        lines.append(Line('row', pen.line([pen.spelled(normal(*number)), typ, pen.cell(), pen.cell()])))
+        lines.append(Line('row', pen.line([number, typ, pen.cell(), pen.cell()])))
     return lines
 
 
 def table(pen, plan, keyword):
-    return [Line('table', pen.keyword(keyword))] + rows_of(pen, plan)
+    return [Line('table', pen.keyword(keyword))] + rows_of(pen, min(pen.dice.between(*plan.rows), MOST_CURRENT_ROWS))
 
 
 def waveform(pen, plan):
@@ -200,7 +202,7 @@ def waveform(pen, plan):
     names = ['R_fixture', 'V_fixture'] + dice.some(FIXTURES, 0 if pen.terse else 20)
     lines = [Line('waveform', pen.keyword(dice.pick(['Rising Waveform', 'Falling Waveform'])))]
     lines += [Line('fixture', pen.equation(name, pen.number(90))) for name in dice.shuffled(names)]
-    return lines + rows_of(pen, plan)
+    return lines + rows_of(pen, pen.dice.between(*plan.rows))
 
 
 def slope(pen):
@@ -219,3 +221,42 @@ def ramp(pen):
     if dice.chance(50):
         lines.append(Line('load', pen.equation('R_load', pen.number(90))))
     return [Line('ramp', pen.keyword('Ramp'))] + dice.shuffled(lines)
+
+
+def bytes_of(pen, lines):
+    return sum(len(line.text) + len(pen.ending) for line in lines)
+
+
+def fitting(pen, lines, room):
+    """A table with as many of its rows as so many bytes have room for; nothing where those are too few for a table."""
+    kept = []
+    for line in lines:
+        room -= bytes_of(pen, [line])
+        if room < 0:
+            break
+        kept.append(line)
+    return kept if sum(line.kind == 'row' for line in kept) >= FEWEST_ROWS else []
+
+
+def some_tables(pen, plan, room):
+    """The current tables and waveforms of a model, in any order, as long as so many bytes have room for them."""
+    lines = []
+    for keyword in pen.dice.shuffled(TABLES + [''] * MOST_WAVEFORMS):
+        part = fitting(pen, table(pen, plan, keyword) if keyword else waveform(pen, plan), room - bytes_of(pen, lines))
+        if not part:
+            break
+        lines += part
+    return lines
+
+
+def filled(pen, plan, lines):
+    """The lines with tables in each model until the file has its planned size, the rest of it as blanks behind [End]."""
+    result, room = [], plan.size - bytes_of(pen, lines)
+    for line in lines:
+        result.append(line)
+        if line.kind == 'voltage range':
+            tables = some_tables(pen, plan, room)
+            room -= bytes_of(pen, tables)
+            result += tables
+    result[-1].text += ' ' * room
+    return result
