@@ -1,6 +1,7 @@
 /*
- * agree FILE..: every field that the static library and the second reader give of each file is the same, or the fault is;
- * and the library uses at most 32 KiB of stack.
+ * agree FILE..: every field that the static library and the second reader give of each file is the same, or the fault is; the
+ * library's check answers as its reading does; with fewer rows lent than it asks for, it answers 25; and it uses at most 32 KiB
+ * of stack.
  */
 #define _GNU_SOURCE
 #include "stack.h"
@@ -13,10 +14,10 @@
 static uint8_t bytes[2 * MAX_BYTES];
 static size_t length;
 static struct tables tables, before;
-static struct row rows[ROWS];
+static struct row rows[MAX_ROWS];
 static struct file file = { .rows = rows };
 static const struct lengths lent = {
-    MAX_COMPONENTS, MAX_PINS, MAX_SELECTORS, MAX_CHOICES, MAX_MODELS, MAX_WAVEFORMS, ROWS,
+    MAX_COMPONENTS, MAX_PINS, MAX_SELECTORS, MAX_CHOICES, MAX_MODELS, MAX_WAVEFORMS, MAX_ROWS,
 };
 
 /* ---- values; the second reader's on the right */
@@ -179,13 +180,13 @@ static bool records(void)
 
 /* ---- one file */
 
-static uint64_t line, column;
+static struct olhovest_answer answer;           /* of the check; that of the reading stands among the tables */
 static uint8_t checked, filled;
 static size_t check_stack, fill_stack;
 
 static void check(void)
 {
-    checked = check_only(bytes, length, &line, &column);
+    checked = check_only(bytes, length, &answer);
 }
 
 static void fill(void)
@@ -198,19 +199,48 @@ static size_t larger(size_t a, size_t b)
     return a < b ? b : a;
 }
 
+/* Refused at this place, with nothing told of the file, and every table as it was. */
+static bool refused(uint64_t line, uint64_t column)
+{
+    before.answer = (struct olhovest_answer){ .line = line, .column = column };
+    return memcmp(&before, &tables, sizeof tables) == 0;
+}
+
+#define KEPT(table) \
+    (memcmp(tables.table + a->table, before.table + a->table, sizeof tables.table - a->table * sizeof *tables.table) == 0)
+
+/* "After acceptance, records and rows past those used keep their content." */
+static bool accepted(void)
+{
+    const struct olhovest_answer *a = &tables.answer;
+    return a->line == 0 && a->column == 0 && records() && KEPT(components) && KEPT(pins) && KEPT(selectors)
+           && KEPT(choices) && KEPT(models) && KEPT(waveforms) && KEPT(rows);
+}
+
+/* 25 "exactly if fewer than 8,192 rows are lent": none, a row less, or a word less. */
+static bool asks_for_rows(void)
+{
+    static const size_t too_few[] = { 0, OLHOVEST_ROW_STORE_WORDS - OLHOVEST_ROW_WORDS, OLHOVEST_ROW_STORE_WORDS - 1 };
+    for (size_t i = 0; i < sizeof too_few / sizeof *too_few; i++)
+        if (read_with_rows(&tables, bytes, length, too_few[i]) != ROWS_NOT_LENT || !refused(0, 0))
+            return false;
+    return true;
+}
+
 static bool agree(void)
 {
     int fault = second_read(bytes, length, &lent, &file);
+    memset(&answer, 0xa5, sizeof answer);
     memset(&tables, 0x5a, sizeof tables);
     before = tables;
+    if (!asks_for_rows())
+        return false;
+    memset(&tables.answer, 0x5a, sizeof tables.answer);
     check_stack = larger(check_stack, stack_of(check));
     fill_stack = larger(fill_stack, stack_of(fill));
-    if (filled != fault || checked != fault || line != tables.answer.line || column != tables.answer.column)
+    if (filled != fault || checked != fault || memcmp(&answer, &tables.answer, sizeof answer) != 0)
         return false;
-    if (fault == NO_FAULT)
-        return line == 0 && column == 0 && records();
-    before.answer = tables.answer;
-    return line == file.line && column == file.column && tables.answer.pins == 0 && memcmp(&before, &tables, sizeof tables) == 0;
+    return fault == NO_FAULT ? accepted() : refused(file.line, file.column);
 }
 
 int main(int count, char **paths)

@@ -17,10 +17,10 @@ static uint8_t bytes[MAX_BYTES + 1];
 static size_t length;
 
 static struct tables tables;
-static struct row second_rows[ROWS];
+static struct row second_rows[MAX_ROWS];
 static struct file second_file = { .rows = second_rows };
 static const struct lengths second_lent = {
-    MAX_COMPONENTS, MAX_PINS, MAX_SELECTORS, MAX_CHOICES, MAX_MODELS, MAX_WAVEFORMS, ROWS,
+    MAX_COMPONENTS, MAX_PINS, MAX_SELECTORS, MAX_CHOICES, MAX_MODELS, MAX_WAVEFORMS, MAX_ROWS,
 };
 
 /* ---- what is measured: each answers something of the file, so that nothing is left out */
@@ -37,8 +37,8 @@ static uint64_t pass(void)
 
 static uint64_t check(void)
 {
-    uint64_t line, column;
-    return check_only(bytes, length, &line, &column);
+    struct olhovest_answer answer;
+    return check_only(bytes, length, &answer);
 }
 
 static uint64_t fill(void)

@@ -7,10 +7,10 @@
 
 static uint8_t bytes[MAX_BYTES + 1];
 static struct tables tables;
-static struct row second_rows[ROWS];
+static struct row second_rows[MAX_ROWS];
 static struct file second_file = { .rows = second_rows };
 static const struct lengths second_lent = {
-    MAX_COMPONENTS, MAX_PINS, MAX_SELECTORS, MAX_CHOICES, MAX_MODELS, MAX_WAVEFORMS, ROWS,
+    MAX_COMPONENTS, MAX_PINS, MAX_SELECTORS, MAX_CHOICES, MAX_MODELS, MAX_WAVEFORMS, MAX_ROWS,
 };
 
 int main(int count, char **words)
@@ -21,9 +21,8 @@ int main(int count, char **words)
         return 2;
     }
     size_t length = fread(bytes, 1, sizeof bytes, file);
-    uint64_t line, column;
     if (strcmp(words[1], "check") == 0)
-        return check_only(bytes, length, &line, &column);
+        return check_only(bytes, length, &tables.answer);
     if (strcmp(words[1], "fill") == 0)
         return read_into(&tables, bytes, length);
     if (strcmp(words[1], "second") == 0)

@@ -4,8 +4,6 @@
 #include <stdio.h>
 #include <string.h>
 
-enum { ROWS = 1000 };
-
 static uint8_t bytes[OLHOVEST_BYTES + 1];
 static struct olhovest_component components[OLHOVEST_COMPONENTS];
 static struct olhovest_pin pins[OLHOVEST_PINS];
@@ -13,7 +11,7 @@ static struct olhovest_selector selectors[OLHOVEST_SELECTORS];
 static struct olhovest_choice choices[OLHOVEST_CHOICES];
 static struct olhovest_model models[OLHOVEST_MODELS];
 static struct olhovest_waveform waveforms[OLHOVEST_WAVEFORMS];
-static struct olhovest_row rows[ROWS];
+static struct olhovest_row rows[OLHOVEST_ROWS];
 static struct olhovest_answer answer;
 
 int main(void)

@@ -13,15 +13,16 @@
 #include <stdint.h>
 
 /*
- * The version of the records, which moves when one of them does. A function over records that moved is linked under a name
- * with the version that moved them, so a program that was compiled against another header does not link: compile it anew.
- * A program that meets its library as it runs compares olhovest_version() with OLHOVEST_VERSION.
+ * The version of what is handed over, which moves when a record does or what a function takes. Such a function is linked
+ * under a name with the version that moved it, so a program that was compiled against another header does not link: compile
+ * it anew. A program that meets its library as it runs compares olhovest_version() with OLHOVEST_VERSION.
  *
  *    2  a model has its capacitance by structure
  *    3  a fault tells its column
+ *    4  a check takes no number of rows and tells the whole answer
  */
-#define OLHOVEST_VERSION 3
-#define olhovest_check olhovest_check_3
+#define OLHOVEST_VERSION 4
+#define olhovest_check olhovest_check_4
 #define olhovest_read olhovest_read_3
 #define olhovest_find_model olhovest_find_model_2
 #define olhovest_model_of_pin olhovest_model_of_pin_2
@@ -35,10 +36,10 @@
  *    4 last line not ended               15 model name not found
  *    5 keyword badly formed              16 model or selector not listed
  *    6 keyword not carried here          17 a bound passed
- *    7 out of place                      18 lent rows too few
- *    8 given twice                       19 no [End] (last line plus 1)
- *    9 required part missing             20 Vinl not below Vinh
- *   10 wrong word, name or word count    21 keyword that the standard does not have
+ *    7 out of place                      19 no [End] (last line plus 1)
+ *    8 given twice                       20 Vinl not below Vinh
+ *    9 required part missing             21 keyword that the standard does not have
+ *   10 wrong word, name or word count    25 fewer rows lent than OLHOVEST_ROWS (line 0)
  *
  * 10, 11 and 12 tell the column, counted in bytes from 1, of the first character of the leftmost word at fault; where a word is
  * missing, the column after the last character before comment and blanks. All others tell column 0.
@@ -56,7 +57,12 @@ enum {
     OLHOVEST_ANSWER_WORDS = 41
 };
 
-/* The bounds of a file. A table that is lent longer is used up to its bound; a shorter one has its length as the bound. */
+/*
+ * The bounds of a file. A table that is lent longer is used up to its bound; a shorter one has its length as the bound.
+ *
+ * Rows are lent otherwise: a file never has more than OLHOVEST_ROWS, and olhovest_read asks for that many, whatever the file:
+ * OLHOVEST_ROW_STORE_WORDS words of rows. Fewer are answered by 25, before the file is looked at.
+ */
 enum {
     OLHOVEST_BYTES = 65536,
     OLHOVEST_COMPONENTS = 8,
@@ -64,7 +70,9 @@ enum {
     OLHOVEST_SELECTORS = 32,
     OLHOVEST_CHOICES = 256,
     OLHOVEST_MODELS = 64,
-    OLHOVEST_WAVEFORMS = 1024
+    OLHOVEST_WAVEFORMS = 1024,
+    OLHOVEST_ROWS = 8192,
+    OLHOVEST_ROW_STORE_WORDS = OLHOVEST_ROWS * OLHOVEST_ROW_WORDS
 };
 
 /*
@@ -179,20 +187,21 @@ OLHOVEST_SIZED(olhovest_answer, OLHOVEST_ANSWER_WORDS);
 /* How many words `count` records of a type take. */
 #define OLHOVEST_WORDS(count, type) ((count) * (sizeof(type) / sizeof(uint64_t)))
 
-/* The version of the library's records. */
+/* The version that the library has. */
 uint64_t olhovest_version(void);
 
 /*
- * Whether a file of `length` bytes would be accepted, if tables of so many records (and rows) were lent. Answers the
- * fault, and writes its line to `line` and its column to `column`: all 0 if the file is accepted. Writes nothing else.
+ * Whether a file of `length` bytes would be accepted, if tables of so many records were lent. Answers the fault and writes
+ * all of `answer`, both exactly as olhovest_read does with such tables and OLHOVEST_ROWS rows: the counts are those of the
+ * file, its rows too. It keeps no rows and is lent none, so it never answers 25. Writes nothing but `answer`.
  */
 uint8_t olhovest_check(const uint8_t *bytes, size_t length, size_t components, size_t pins, size_t selectors,
-                       size_t choices, size_t models, size_t waveforms, size_t rows, uint64_t *line,
-                       uint64_t *column);
+                       size_t choices, size_t models, size_t waveforms, struct olhovest_answer *answer);
 
 /*
  * Reads a file of `length` bytes into the lent tables. Behind each table stands how many words of eight bytes it has:
- * OLHOVEST_WORDS(count, type) for `count` records; words behind the last whole record are left alone.
+ * OLHOVEST_WORDS(count, type) for `count` records; words behind the last whole record are left alone. Of rows it asks for
+ * OLHOVEST_ROW_STORE_WORDS words or more: with fewer it answers 25 and line 0, and does not look at the file.
  *
  * Answers the fault, and writes all of `answer`. Accepted (0): the tables hold the file's records from the front,
  * answer->components, .. say how many, and what lies behind those is as it was. Refused: answer->line and answer->column

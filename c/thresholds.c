@@ -3,8 +3,6 @@
 
 #include <stdio.h>
 
-enum { ROWS = 8192 };
-
 static uint8_t bytes[OLHOVEST_BYTES + 1];
 static struct olhovest_component components[OLHOVEST_COMPONENTS];
 static struct olhovest_pin pins[OLHOVEST_PINS];
@@ -12,7 +10,7 @@ static struct olhovest_selector selectors[OLHOVEST_SELECTORS];
 static struct olhovest_choice choices[OLHOVEST_CHOICES];
 static struct olhovest_model models[OLHOVEST_MODELS];
 static struct olhovest_waveform waveforms[OLHOVEST_WAVEFORMS];
-static struct olhovest_row rows[ROWS];
+static struct olhovest_row rows[OLHOVEST_ROWS];
 static struct olhovest_answer answer;
 
 static void print_cell(olhovest_cell c)

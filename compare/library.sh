@@ -1,6 +1,6 @@
 #!/usr/bin/env bash
-# The static library, by its header: its version and sizes; the examples; every field against the second reader's, on the bench's files, made ones, whole and
-# damaged, and the shared cases; and its questions against plain loops, under the sanitizers, on those files' tables and on any words.
+# The static library, by its header: its version, sizes and rows; the examples; its check against its reading and every field against the second reader's, on the
+# bench's files, made ones, whole and damaged, and the shared cases; and its questions against plain loops, under the sanitizers, on those files' tables and on any words.
 set -u
 cd "$(dirname "$0")/.." || exit 2
 . bench/build.sh
@@ -20,7 +20,7 @@ for i, record in enumerate(maker.records(1, 500)):
     open(f"{sys.argv[1]}/{i}.ibs", "wb").write(record.data)
 END
 files=("$out"/files/*.ibs "$out"/made/*.ibs crates/listing/stdin)
-[ ! -d "$cases" ] || files+=("$cases"/{,after-02/,after-01/,after-03/,after-06/}*.ibs)
+[ ! -d "$cases" ] || files+=("$cases"/{,after-02/,after-01/,after-03/,after-06/,after-08/}*.ibs)
 
 # hold WHAT WANTED FOUND: one comparison
 hold() {
@@ -32,7 +32,7 @@ hold() {
     fi
 }
 
-# links NAME: whether a program links that calls a function by the name that it had in the first version's header
+# links NAME: whether a program links that calls a function by a name, as one does that was compiled against an older header
 links() {
     printf 'unsigned char %s(void);\nint main(void) { return %s(); }\n' "$1" "$1" >"$out/older.c"
     build "$out/older" "$out/older.c" >"$out/older.out" 2>&1 && echo links && return
@@ -52,12 +52,14 @@ counted() {
     failed=$((failed + $(sed -E 's/.* ([0-9]+) failed$/\1/' <<<"${line:-none: 1 failed}")))
 }
 
-for name in olhovest_check olhovest_read olhovest_find_model olhovest_model_of_pin; do
-    hold "a program for other records that calls $name" "undefined reference to \`$name'" "$(links "$name")"
+for name in olhovest_check olhovest_check_3 olhovest_read olhovest_find_model olhovest_model_of_pin; do
+    hold "a program for an older version that calls $name" "undefined reference to \`$name'" "$(links "$name")"
 done
 hold 'a program that calls what has not moved' links "$(links olhovest_find_pin)"
 hold 'the sizes in the header' "$(sizes crates/record_words/specs/Records.antt '^([a-z]+)Size = ([0-9]+)$')" \
     "$(sizes c/olhovest.h '^    OLHOVEST_([A-Z]+)_WORDS = ([0-9]+),?$' | grep -v ^answer)"
+hold 'the rows in the header' "$(grep -x 'mostRows = [0-9]*' crates/records/specs/Bounds.antt)" \
+    "mostRows = $(sed -nE 's/^    OLHOVEST_ROWS = ([0-9]+),?$/\1/p' c/olhovest.h)"
 printf '#include <stdint.h>\nuint64_t other_version(void);\nuint64_t other_version(void) { return 1; }\n' >"$out/other.c"
 flags=-Dolhovest_version=other_version build "$out/apart" c/example.c "$out/other.c" || exit 2
 hold 'what the example says of another version' 'the library is of version 1: compile this program with its header' \
