@@ -125,11 +125,10 @@ damage middle 's/DOOR/DO\rOR/'
 sed 's/./&\x00/g' "$example" >"$folder/utf16.ibs"
 : >"$folder/empty.ibs"
 
-# more rows than listing and dump lend: a summary lends all that a file can have, so fault 18 is never told to a person
+# more rows than a waveform may have
 rows=$(printf '\\n%s 1 1 1' {1..501})
-many=$folder/many.rows
-sed "/End/i $waveform$rows\\n${waveform/Rising/Falling}$rows" "$example" >"$many"
-hold "dump of $many" 'NO 18' "$(programs/run dump <"$many" | cut -d ' ' -f 1,2)"
+many=$folder/many.ibs
+damage many "/End/i $waveform$rows\\n${waveform/Rising/Falling}$rows"
 hold "rows of $many" 'table rows: 1002' "$(programs/run explain "$many" <"$many" | grep -o 'table rows: [0-9]*')"
 
 # ---- faults that tell a column: what is told of each, written by hand
@@ -327,7 +326,7 @@ compare "$example"
 for file in "$folder"/*.ibs; do
     compare "$file"
 done
-for number in {1..17} {19..21}; do
+for number in {1..17} {19..21}; do # 25 is no fault of a file: enough rows are lent here
     hold "fault $number" met "$([[ $met == *" $number "* ]] && echo met || echo 'not met')"
 done
 echo "explain: $passed passed, $failed failed"

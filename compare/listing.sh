@@ -1,8 +1,10 @@
 #!/usr/bin/env bash
-# Document 01's listing: its file and the three variants, its examples of numbers, each as the package's resistance in that file, and lines at fault with their columns.
+# Document 01's listing: its file and the three variants, files of many rows, its examples of numbers, each as the package's resistance in that file, and lines at
+# fault with their columns.
 set -u
 cd "$(dirname "$0")/.." || exit 2
 file=crates/listing/stdin
+pins=$'P 1 DOOR in1 8e-1 2e0\nP 2 VSS GND NA NA'
 passed=0
 failed=0
 
@@ -18,11 +20,26 @@ expect() {
     fi
 }
 
-expect "the file" $'OK 1 2 0 1 0\nP 1 DOOR in1 8e-1 2e0\nP 2 VSS GND NA NA' listing <"$file"
+# waveforms COUNT ROWS: the file with so many waveforms of so many rows each
+waveforms() {
+    awk -v count="$1" -v rows="$2" '
+        $0 == "[End]" {
+            while (count-- > 0) {
+                print "[Rising Waveform]\nR_fixture = 50\nV_fixture = 0"
+                for (row = 0; row < rows; row++) print row, "0 0 0"
+            }
+        }
+        1' "$file"
+}
+
+expect "the file" $'OK 1 2 0 1 0\n'"$pins" listing <"$file"
 expect "line 14 as an output" "NO 9 13 0" listing < <(sed '14s/Input/Output/' "$file")
 expect "line 12 with GNDX" "NO 15 12 0" listing < <(sed '12s/GND/GNDX/' "$file")
 expect "line 11 with GND" "NO 16 13 0" listing < <(sed '11s/in1/GND/' "$file")
 expect "an empty file" "NO 19 1 0" listing </dev/null
+expect "two waveforms of 501 rows" $'OK 1 2 0 1 1002\n'"$pins" listing < <(waveforms 2 501)
+expect "six waveforms of 1,000 rows" $'OK 1 2 0 1 6000\n'"$pins" listing < <(waveforms 6 1000)
+expect "a waveform of 1,001 rows" "NO 13 17 0" listing < <(waveforms 1 1001)
 
 # a number of the paper's, and how it is written, or its fault
 while read -r word wanted; do
