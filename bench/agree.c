@@ -221,9 +221,11 @@ static bool accepted(void)
 static bool asks_for_rows(void)
 {
     static const size_t too_few[] = { 0, OLHOVEST_ROW_STORE_WORDS - OLHOVEST_ROW_WORDS, OLHOVEST_ROW_STORE_WORDS - 1 };
-    for (size_t i = 0; i < sizeof too_few / sizeof *too_few; i++)
+    for (size_t i = 0; i < sizeof too_few / sizeof *too_few; i++) {
+        memset(&tables.answer, 0x5a, sizeof tables.answer);
         if (read_with_rows(&tables, bytes, length, too_few[i]) != ROWS_NOT_LENT || !refused(0, 0))
             return false;
+    }
     return true;
 }
 
