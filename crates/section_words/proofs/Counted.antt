@@ -1,10 +1,9 @@
 -- A model's record from its first lines to the end of its keywords, where its waveforms are counted.
-use Prim.Native.Nat.{ℕ, _+_, _*_, _/_, _≤_}
+use Prim.Native.Nat.{ℕ, _+_, _*_, _/_}
 use mathlib.Core.Path.{_≡_, refl, sym, ap, _∙_}
 use mathlib.Core.List.{List, [], _∷_, _++_, flatMap}
 use native.Mathlib.Omega.{arith}
 use lib.ListN.{length, drop, set, length-append}
-use lib.Seq.{sets}
 use Rattle.laws.specs.Lists.{front}
 use Rattle.cut_lines.specs.Texts.{Text}
 use Rattle.cut_lines.specs.Cursors.{rest}
@@ -23,8 +22,9 @@ use Rattle.model_record.specs.declared.FirstLines.{FirstLines}
 use Rattle.model_record.proofs.BodyLaws.{model-is}
 use Rattle.section_words.specs.Parts.{waveformsFrom}
 use Rattle.section_words.specs.Models.{uncounted, modelBehind, BodyFills}
+use Rattle.section_words.specs.Listed.{listedBehind}
 use Rattle.section_words.specs.declared.Used.{Used}
-use Rattle.section_words.proofs.Laws.{sets-front}
+use Rattle.section_words.proofs.Listed.{listed-bare}
 use Rattle.section_words.proofs.Walks.{body-ahead}
 
 -- so many words a waveform
@@ -39,7 +39,7 @@ count-is : (row : ℕ) (ts : List Text) → bodyOn (bareBody row) ts .waveforms 
 unfolding bodyOn
 count-is row ts = omega arith
 
-module _ (s : List ℕ) (c : Cursor) (section row start : ℕ) (name model : List ℕ) (room : modelSize ≤ length model) where
+module _ (s : List ℕ) (c : Cursor) (section row start : ℕ) (name model : List ℕ) where
   -- its first lines stop at n
   abbrev lines : FirstLines
   lines = defaulted (firstsOn bareLines (under (rest s c)))
@@ -47,11 +47,11 @@ module _ (s : List ℕ) (c : Cursor) (section row start : ℕ) (name model : Lis
   abbrev with-body : Body → Model
   with-body b = modelOver section start (nameLaid name) lines b
 
-  bare-lies : (m : List ℕ) → m ≡ sets model 0 (modelWords (with-body (bareBody row))) → m ≡ modelWords (with-body (uncounted (bareBody row))) ++ drop modelSize model
+  bare-lies : (m : List ℕ) → m ≡ over model (modelWords (listedBehind section start name (rest s c))) → m ≡ modelWords (with-body (uncounted (bareBody row))) ++ drop modelSize model
   unfolding over
-  bare-lies m e = e ∙ sets-front model (modelWords (with-body (bareBody row))) room
+  bare-lies m e = e ∙ ap (λ (x : Model). modelWords x ++ drop modelSize model) (sym (listed-bare section start name (rest s c) 0))
 
-  pub counted-lies : {n : Cursor} → StopsAt s c n → (m m' : List ℕ) {waves waves' store store' : List ℕ} {used : Used} → m ≡ sets model 0 (modelWords (with-body (bareBody row)))
+  pub counted-lies : {n : Cursor} → StopsAt s c n → (m m' : List ℕ) {waves waves' store store' : List ℕ} {used : Used} → m ≡ over model (modelWords (listedBehind section start name (rest s c)))
       → BodyFills (rest s n) row m m' waves waves' store store' used
       → set m' (waveformsFrom + 1) (used .waveforms / waveformSize) ≡ over model (modelWords (modelBehind section row start name (rest s c)))
   unfolding over

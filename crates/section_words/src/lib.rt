@@ -7,6 +7,7 @@ pub mod keys; // keys.rt: what stands under one keyword of a model
 pub mod models; // models.rt: a whole model
 
 pub use models::fill_model;
+pub use models::list_model;
 pub use puts::put;
 
 // How many words of the tables of waveforms and of rows are taken.

@@ -1,11 +1,14 @@
-// A whole model: its record as its first lines leave it; then its keywords one after another, each into that record and the rest of two tables.
+// A whole model: its record as its first lines leave it, which is all that a listing takes; then its keywords one after another, each into that
+// record and the rest of two tables.
 ghost use mathlib.Core.Path.{_≡_};
 ghost use Prim.Native.Nat.{_^_, _≤_, _<_};
 ghost use lib.ListN.{length};
 ghost use Rattle.cut_lines.specs.Cursors.{rest, Placed};
+ghost use Rattle.lines_under.specs.Under.{StopsAt};
 ghost use Rattle.records.specs.Stored.{over};
 ghost use Rattle.record_words.specs.Records.{modelWords, modelSize};
 ghost use Rattle.section_words.specs.Models.{modelBehind, waveformsBehind, rowsBehind, BodyFills};
+ghost use Rattle.section_words.specs.Listed.{listedBehind};
 use crate::Used;
 use crate::keys::fill_key;
 use crate::puts::put_model;
@@ -76,6 +79,43 @@ fn fill_body(
     }
 }
 
+// Writes a model's record with what its first lines say, and answers where the next keyword line stands.
+fn put_firsts(
+    model: &mut [u64],
+    src: &[u8],
+    c: Cursor,
+    name: &[u8],
+    section: usize,
+    start: usize,
+) -> Cursor
+    requires { ⌜ Placed (now src) c × (modelSize ≤ length (now model)) ⌝ }
+    ensures { λ r. ⌜ now (model .exit) ≡ over (now (model .entry)) (modelWords (listedBehind section start (now (name .entry)) (rest (now (src .entry)) c))) ⌝ }
+    ensures { λ r. ⌜ StopsAt (now (src .entry)) c r ⌝ }
+{
+    let first = first_lines(src, c);
+    let lines = first.lines;
+    let next = first.next;
+    let bare = model_over(section, start, records::name_of(name), lines, bare_body(0));
+    put_model(model, 0, bare);
+    next
+}
+
+// Writes the record, with what its first lines say and no more, of the model whose name was read and behind whose keyword line a cursor stands;
+// start is the place where its waveforms would begin.
+pub fn list_model(
+    model: &mut [u64],
+    src: &[u8],
+    c: Cursor,
+    name: &[u8],
+    section: usize,
+    start: usize,
+)
+    requires { ⌜ Placed (now src) c × (modelSize ≤ length (now model)) ⌝ }
+    ensures { λ _. ⌜ now (model .exit) ≡ over (now (model .entry)) (modelWords (listedBehind section start (now (name .entry)) (rest (now (src .entry)) c))) ⌝ }
+{
+    put_firsts(model, src, c, name, section, start);
+}
+
 // Writes the model whose name was read and behind whose keyword line a cursor stands: its record, its waveforms' records and its rows;
 // row and start are the places of its first row and waveform.
 pub fn fill_model(
@@ -98,17 +138,7 @@ pub fn fill_model(
     ensures { λ _. ⌜ now (rows .exit) ≡ over (now (rows .entry)) (rowsBehind (rest (now (src .entry)) c)) ⌝ }
     ensures { λ r. ⌜ r ≡ record { waveforms = length (waveformsBehind row (rest (now (src .entry)) c)); rows = length (rowsBehind (rest (now (src .entry)) c)) } ⌝ }
 {
-    let first = first_lines(src, c);
-    let lines = first.lines;
-    let next = first.next;
-    let bare = model_over(
-        section,
-        start,
-        records::name_of(name),
-        lines,
-        bare_body(row),
-    );
-    put_model(model, 0, bare);
+    let next = put_firsts(model, src, c, name, section, start);
     let used = fill_body(model, waveforms, rows, src, next, row);
     model[MODEL_WORDS - 1] = (used.waveforms / WAVEFORM_WORDS) as u64;
     used
