@@ -31,6 +31,8 @@ MADE_UP = (
     ("Read (now (x .entry)) r (now (y .exit))", {"result", "y"}),
     ("wordTables (now (x .exit)) (now (y .exit)) ≡ h r", set()),
     ("wordTables (now (x .exit)) (now (y .exit)) ≡ h", {"x", "y"}),
+    ("listTables (now (x .exit)) (now (y .exit)) ≡ h", {"x", "y"}),
+    ("otherTables (now (x .exit)) (now (y .exit)) ≡ h", set()),
     ("r ≡ r", set()),
     ("r ≡ g ⊎ Unit", set()),
     ("r ≡ g → Unit", set()),
@@ -138,7 +140,7 @@ def left(term):
     """The lent names that a term is the content at exit of, and nothing else: one, or several side by side."""
     if len(term) == 2 and term[0] == "now" and isinstance(term[1], list) and len(term[1]) == 2 and term[1][1] == ".exit":
         return exits(term)
-    if term and term[0] == "wordTables" and all(left(part) for part in term[1:]):
+    if term and term[0] in ("wordTables", "listTables") and all(left(part) for part in term[1:]):
         return exits(term)
     return set()
 

@@ -11,16 +11,17 @@ use Rattle.rules.specs.Reading.{TableIs}
 use Rattle.layout.specs.Laid.{rowsOf, waveformsLaid}
 use Rattle.records.specs.Stored.{stored, over}
 use Rattle.records.specs.declared.Kind.the-variants.{OfModel}
-use Rattle.note_words.specs.Store.{liesAt, sectionAt}
+use Rattle.note_words.specs.Store.{liesAt, sectionAt, nameOf}
+use Rattle.note_words.specs.declared.SectionNote.{SectionNote}
 use Rattle.layout_by_notes.specs.Lies.{waveformsNoted, rowsNoted}
 use Rattle.table_rows.specs.Rows.{Lies}
 use Rattle.table_rows.proofs.Stores.{over-none, over-length, over-rest, stored-append}
-use Rattle.from_notes.specs.Made.{joinedTo, noteBy, rowsAt, StandsBehind}
+use Rattle.from_notes.specs.Made.{joinedTo, noteBy, modelAt, rowsAt, StandsBehind}
 use Rattle.from_notes.proofs.Joined.{joined-more, joined-rise}
-use Rattle.from_notes.proofs.Sections.{tables-noted}
+use Rattle.from_notes.proofs.Sections.{model-noted, tables-noted}
 use Rattle.record_words.specs.Records.{waveformWords, modelSize}
-use Rattle.section_words.specs.Models.{waveformsBehind, rowsBehind}
-use Rattle.table_words.specs.Packed.{modelWordsAt, waveformWordsAt, rowWordsAt}
+use Rattle.section_words.specs.Models.{modelBehind, waveformsBehind, rowsBehind}
+use Rattle.table_words.specs.Packed.{waveformWordsAt, rowWordsAt}
 use Rattle.table_words.proofs.Laws.{words-length}
 
 -- ---- words of f, one after the other
@@ -52,30 +53,38 @@ module _ (f : ℕ → List ℕ) where
 
 -- ---- the records, each of modelSize words
 
-module _ (s ns : List ℕ) where
-  pub models-room : (n : ℕ) → length (joinedTo (modelWordsAt s ns) n) ≡ modelSize * n
-  models-room n = words-length (modelWordsAt s ns) modelSize (λ k. refl) n
+module _ (f : ℕ → List ℕ) (each : (k : ℕ) → length (f k) ≡ modelSize) where
+  models-room : (n : ℕ) → length (joinedTo f n) ≡ modelSize * n
+  models-room n = words-length f modelSize each n
 
-  module _ {before now : List ℕ} {i : ℕ} (p : Lies before now (modelSize * i) (joinedTo (modelWordsAt s ns) i)) (n : ℕ) (h : modelSize * n ≤ length before) where
+  module _ {before now : List ℕ} {i : ℕ} (p : Lies before now (modelSize * i) (joinedTo f i)) (n : ℕ) (h : modelSize * n ≤ length before) where
     pub models-length : i ≤ n → length now ≡ length before
-    models-length q = to-length (modelWordsAt s ns) p n (omega (arith, h, models-room n)) q
+    models-length q = to-length f p n (omega (arith, h, models-room n)) q
 
     pub models-fit : i < n → modelSize * i + modelSize ≤ length now
-    models-fit q = to-fit (modelWordsAt s ns) p n (omega (arith, h, models-room n)) q
+    models-fit q = omega (arith, to-fit f p n (omega (arith, h, models-room n)) q, each i)
 
-    pub models-turn : i < n → {part part' : List ℕ} → part ≡ midOf (modelSize * i) (length now - modelSize * i) now → part' ≡ over part (modelWordsAt s ns i)
-        → Lies before (putMid (modelSize * i) (length now - modelSize * i) now part') (modelSize * (i + 1)) (joinedTo (modelWordsAt s ns) (i + 1))
+    pub models-turn : i < n → {part part' : List ℕ} → part ≡ midOf (modelSize * i) (length now - modelSize * i) now → part' ≡ over part (f i)
+        → Lies before (putMid (modelSize * i) (length now - modelSize * i) now part') (modelSize * (i + 1)) (joinedTo f (i + 1))
     models-turn q {part} {part'} e is =
         let k : modelSize * i + modelSize ≡ modelSize * (i + 1) = omega arith in
-        subst (λ (m : ℕ). Lies before (putMid (modelSize * i) (length now - modelSize * i) now part') m (joinedTo (modelWordsAt s ns) (i + 1))) k
-        (to-turn (modelWordsAt s ns) p n (omega (arith, h, models-room n)) q e (record { used = refl; store = is }))
+        subst (λ (m : ℕ). Lies before (putMid (modelSize * i) (length now - modelSize * i) now part') m (joinedTo f (i + 1))) k
+        (to-turn f p n (omega (arith, h, models-room n)) q e (record { used = sym (each i); store = is }))
 
 -- ---- a model behind whose keyword line a cursor stands
 
 module _ (s ns : List ℕ) (i : ℕ) {c : Cursor} (h : StandsBehind s ns (liesAt OfModel i) c) where
-  pub waveforms-noted : waveformsBehind (sectionAt ns (liesAt OfModel i) .row) (rest s c) ≡ waveformWordsAt s ns i
+  abbrev x : SectionNote
+  x = sectionAt ns (liesAt OfModel i)
+
+  pub model-behind : {section row start : ℕ} {name : List ℕ} → section ≡ x .section → row ≡ x .row → start ≡ x .start → name ≡ nameOf s ns (liesAt OfModel i)
+      → modelBehind section row start name (rest s c) ≡ modelAt s ns i
+  unfolding modelAt
+  model-behind d e f g = rw (d, e, f, g) (model-noted s ns (liesAt OfModel i) h)
+
+  pub waveforms-noted : waveformsBehind (x .row) (rest s c) ≡ waveformWordsAt s ns i
   unfolding waveformsNoted
-  waveforms-noted = ap (λ (ts : List TableIs). flatMap waveformWords (waveformsLaid ts (sectionAt ns (liesAt OfModel i) .row))) (tables-noted s ns (liesAt OfModel i) h)
+  waveforms-noted = ap (λ (ts : List TableIs). flatMap waveformWords (waveformsLaid ts (x .row))) (tables-noted s ns (liesAt OfModel i) h)
 
   pub rows-noted : rowsBehind (rest s c) ≡ rowWordsAt s ns i
   unfolding rowsNoted

@@ -11,11 +11,16 @@ use Rattle.records.specs.declared.Verdict.{Verdict}
 use Rattle.records.specs.declared.Verdict.the-variants.{Accepted, Refused}
 use Rattle.records.specs.declared.Answer.{Answer}
 use Rattle.record_words.specs.Records.{textWords, componentWords, pinWords, selectorWords, choiceWords, modelWords, waveformWords, componentSize, pinSize, selectorSize, choiceSize, modelSize}
+use Rattle.section_words.specs.Listed.{listedWords}
 
 -- ---- a noted model: the words of its record, of its waveforms' records and of its rows; k is its place among the noted models
 
 abbrev pub modelWordsAt : List ℕ → List ℕ → ℕ → List ℕ
 modelWordsAt s ns k = modelWords (modelAt s ns k)
+
+-- in a listing
+abbrev pub listedWordsAt : List ℕ → List ℕ → ℕ → List ℕ
+listedWordsAt s ns k = listedWords (modelAt s ns k)
 
 abbrev pub waveformWordsAt : List ℕ → List ℕ → ℕ → List ℕ
 waveformWordsAt s ns k = flatMap waveformWords (waveformsNoted (noteBy s ns OfModel k))
@@ -80,4 +85,30 @@ filled s ns o t =
       models = over (t .models) (joinedTo (modelWordsAt s ns) (o .models));
       waveforms = over (t .waveforms) (joinedTo (waveformWordsAt s ns) (o .models));
       rows = over (t .rows) (stored (rowsAt s ns (o .models)));
+    }
+
+-- ---- for a listing: four of the tables, and no store of rows
+
+pub record ListTables : Type 0 where
+  pub pins : List ℕ
+  pub selectors : List ℕ
+  pub choices : List ℕ
+  pub models : List ℕ
+
+abbrev pub listTables : List ℕ → List ℕ → List ℕ → List ℕ → ListTables
+listTables ps ss hs ms = record { pins = ps; selectors = ss; choices = hs; models = ms }
+
+pub record ListRoom (o : Counts) (t : ListTables) : Type 0 where
+  pub pins : pinSize * o .pins ≤ length (t .pins)
+  pub selectors : selectorSize * o .selectors ≤ length (t .selectors)
+  pub choices : choiceSize * o .choices ≤ length (t .choices)
+  pub models : modelSize * o .models ≤ length (t .models)
+
+abbrev pub listed : List ℕ → List ℕ → Counts → ListTables → ListTables
+listed s ns o t =
+    record {
+      pins = over (t .pins) (joinedTo (λ k. pinWords (pinAt s ns k)) (o .pins));
+      selectors = over (t .selectors) (joinedTo (λ k. selectorWords (selectorAt s ns k)) (o .selectors));
+      choices = over (t .choices) (joinedTo (λ k. choiceWords (choiceAt s ns k)) (o .choices));
+      models = over (t .models) (joinedTo (listedWordsAt s ns) (o .models));
     }

@@ -9,6 +9,9 @@ use records::Counts;
 use records::Verdict;
 
 pub mod fills; // fills.rt: tables as words
+pub mod lists; // lists.rt: those of a listing
+
+pub use lists::list_tables;
 
 // Where the words of the revision begin, behind those of the counts and the file's name.
 const REVISION_FROM: usize = COUNT_WORDS + TEXT_WORDS;

@@ -1,4 +1,4 @@
--- What stands behind the noted keyword line is what is noted: `model-noted`, `waveforms-noted`, `rows-noted`; a row's place is a word.
+-- What stands behind the noted keyword line is what is noted: `model-behind`, `waveforms-noted`, `rows-noted`; a row's place is a word.
 use Prim.Native.Nat.{ℕ}
 use mathlib.Core.Path.{_≡_, ap, _∙_}
 use native.Mathlib.Omega.{arith}
@@ -6,15 +6,11 @@ use lib.ListN.{length}
 use denote.Ref.{now}
 use Rattle.cut_lines.specs.Cursors.{rest}
 use Rattle.records.specs.Stored.{over}
-use Rattle.records.specs.declared.Kind.the-variants.{OfModel}
 use Rattle.records.specs.declared.Model.{Model}
-use Rattle.note_words.specs.Store.{liesAt}
 use Rattle.record_words.specs.Records.{modelWords}
-use Rattle.from_notes.specs.Made.{modelAt}
-use Rattle.from_notes.proofs.Sections.{model-noted}
-use Rattle.section_words.specs.Models.{modelBehind, waveformsBehind}
+use Rattle.section_words.specs.Models.{waveformsBehind}
 use Rattle.table_words.specs.Packed.{waveformWordsAt}
-use Rattle.table_words.proofs.Models.{waveforms-noted, rows-noted}
+use Rattle.table_words.proofs.Models.{model-behind, waveforms-noted, rows-noted}
 use borrow.Author.Needs.{needs}
 use Rattle.table_words.proofs.fills.fill_model.Statement.{statement}
 use Rattle.table_words.proofs.fills.fill_model.Tie as tie
@@ -56,7 +52,6 @@ same-length-3 : tie.Need-same-length-3
 same-length-3 c = search needs
 
 returns : tie.Need-returns
-unfolding modelAt
 returns c =
     let a = c .before .before .before .before .before .before .before .before .before .before .before .before .before .before .before .before .before .before .before .before .args in
     let s = now (a .src) in
@@ -68,9 +63,7 @@ returns c =
     let row = c .before .before .before .before .before .before .before .before .before .before .before .before .before .section-word in
     let section = c .before .before .before .before .before .before .before .before .before .before .before .before .before .before .place-noted in
     let name = c .before .before .before .before .before .before .before .name-noted in
-    let is : modelBehind (section .result) (row .result) (start .result) (now (name .result)) texts ≡ modelAt s ns (a .i) =
-    rw (name .ensures, start .ensures .0, row .ensures .0, section .ensures) (model-noted s ns (liesAt OfModel (a .i)) h)
-    in
+    let is = model-behind s ns (a .i) h (section .ensures) (row .ensures .0) (start .ensures .0) (name .ensures) in
     let w : waveformsBehind (row .result) texts ≡ waveformWordsAt s ns (a .i) = ap (λ (r : ℕ). waveformsBehind r texts) (row .ensures .0) ∙ waveforms-noted s ns (a .i) h in
     let v = rows-noted s ns (a .i) h in
     (f .0 ∙ ap (λ (m : Model). over (now (a .model)) (modelWords m)) is, (f .1 .0 ∙ ap (over (now (a .waveforms))) w, (f .1 .1 .0 ∙ ap (over (now (a .rows))) v, f .1 .1 .1 ∙ (λ k. record { waveforms = length (w k); rows = length (v k) }))))

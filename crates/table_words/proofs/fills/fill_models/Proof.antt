@@ -28,22 +28,20 @@ loop-holds c =
 mul-fill-model : tie.Need-mul-fill-model Inv-loop μ-loop
 mul-fill-model c =
     let a = c .before .before .before .before .before .before .before .args in
-    omega (arith, models-fit (now (a .src)) (now (a .notes)) (c .before .loop .inv .1) (a .n) (c .before .before .before .before .before .before .before .pre .0) (c .loop-test .taken), models-length (now (a .src)) (now (a .notes)) (c .before .loop .inv .1) (a .n) (c .before .before .before .before .before .before .before .pre .0) (c .before .loop .inv .0), c .before .before .before .before .before .before .before .good)
+    omega (arith, models-fit (modelWordsAt (now (a .src)) (now (a .notes))) (λ k. refl) (c .before .loop .inv .1) (a .n) (c .before .before .before .before .before .before .before .pre .0) (c .loop-test .taken))
 
 mul-fill-model-2 : tie.Need-mul-fill-model-2 Inv-loop μ-loop
-mul-fill-model-2 c =
-    let a = c .before .before .before .before .before .before .before .args in
-    omega (arith, models-fit (now (a .src)) (now (a .notes)) (c .before .loop .inv .1) (a .n) (c .before .before .before .before .before .before .before .pre .0) (c .loop-test .taken), models-length (now (a .src)) (now (a .notes)) (c .before .loop .inv .1) (a .n) (c .before .before .before .before .before .before .before .pre .0) (c .before .loop .inv .0), c .before .before .before .before .before .before .before .good)
+mul-fill-model-2 c = search needs
 
 sub-fill-model : tie.Need-sub-fill-model Inv-loop μ-loop
 sub-fill-model c =
     let a = c .before .before .before .before .before .before .before .args in
-    omega (arith, models-fit (now (a .src)) (now (a .notes)) (c .before .loop .inv .1) (a .n) (c .before .before .before .before .before .before .before .pre .0) (c .loop-test .taken), models-length (now (a .src)) (now (a .notes)) (c .before .loop .inv .1) (a .n) (c .before .before .before .before .before .before .before .pre .0) (c .before .loop .inv .0), c .before .before .before .before .before .before .before .good)
+    omega (arith, models-fit (modelWordsAt (now (a .src)) (now (a .notes))) (λ k. refl) (c .before .loop .inv .1) (a .n) (c .before .before .before .before .before .before .before .pre .0) (c .loop-test .taken))
 
 part-fill-model-start : tie.Need-part-fill-model-start Inv-loop μ-loop
 part-fill-model-start c =
     let a = c .before .before .before .before .before .before .before .args in
-    omega (arith, models-fit (now (a .src)) (now (a .notes)) (c .before .loop .inv .1) (a .n) (c .before .before .before .before .before .before .before .pre .0) (c .loop-test .taken), models-length (now (a .src)) (now (a .notes)) (c .before .loop .inv .1) (a .n) (c .before .before .before .before .before .before .before .pre .0) (c .before .loop .inv .0), c .before .before .before .before .before .before .before .good)
+    omega (arith, models-fit (modelWordsAt (now (a .src)) (now (a .notes))) (λ k. refl) (c .before .loop .inv .1) (a .n) (c .before .before .before .before .before .before .before .pre .0) (c .loop-test .taken))
 
 part-fill-model-end : tie.Need-part-fill-model-end Inv-loop μ-loop
 part-fill-model-end c = search needs
@@ -58,13 +56,13 @@ sub-fill-model-2 : tie.Need-sub-fill-model-2 Inv-loop μ-loop
 sub-fill-model-2 c =
     let a = c .before .before .before .before .before .before .before .before .args in
     let f = waveformWordsAt (now (a .src)) (now (a .notes)) in
-    omega (arith, to-fit f (c .before .before .loop .inv .2) (a .n) (c .before .before .before .before .before .before .before .before .pre .1 .0) (c .before .loop-test .taken), to-length f (c .before .before .loop .inv .2) (a .n) (c .before .before .before .before .before .before .before .before .pre .1 .0) (c .before .before .loop .inv .0), c .before .before .before .before .before .before .before .before .good)
+    omega (arith, to-fit f (c .before .before .loop .inv .2) (a .n) (c .before .before .before .before .before .before .before .before .pre .1 .0) (c .before .loop-test .taken))
 
 part-fill-model-start-2 : tie.Need-part-fill-model-start-2 Inv-loop μ-loop
 part-fill-model-start-2 c =
     let a = c .before .before .before .before .before .before .before .before .args in
     let f = waveformWordsAt (now (a .src)) (now (a .notes)) in
-    omega (arith, to-fit f (c .before .before .loop .inv .2) (a .n) (c .before .before .before .before .before .before .before .before .pre .1 .0) (c .before .loop-test .taken), to-length f (c .before .before .loop .inv .2) (a .n) (c .before .before .before .before .before .before .before .before .pre .1 .0) (c .before .before .loop .inv .0), c .before .before .before .before .before .before .before .before .good)
+    omega (arith, to-fit f (c .before .before .loop .inv .2) (a .n) (c .before .before .before .before .before .before .before .before .pre .1 .0) (c .before .loop-test .taken))
 
 part-fill-model-end-2 : tie.Need-part-fill-model-end-2 Inv-loop μ-loop
 part-fill-model-end-2 c = search needs
@@ -79,13 +77,13 @@ sub-fill-model-3 : tie.Need-sub-fill-model-3 Inv-loop μ-loop
 sub-fill-model-3 c =
     let a = c .before .before .before .before .before .before .before .before .before .args in
     let f = rowWordsAt (now (a .src)) (now (a .notes)) in
-    omega (arith, to-fit f (c .before .before .before .loop .inv .3) (a .n) (c .before .before .before .before .before .before .before .before .before .pre .1 .1) (c .before .before .loop-test .taken), to-length f (c .before .before .before .loop .inv .3) (a .n) (c .before .before .before .before .before .before .before .before .before .pre .1 .1) (c .before .before .before .loop .inv .0), c .before .before .before .before .before .before .before .before .before .good)
+    omega (arith, to-fit f (c .before .before .before .loop .inv .3) (a .n) (c .before .before .before .before .before .before .before .before .before .pre .1 .1) (c .before .before .loop-test .taken))
 
 part-fill-model-start-3 : tie.Need-part-fill-model-start-3 Inv-loop μ-loop
 part-fill-model-start-3 c =
     let a = c .before .before .before .before .before .before .before .before .before .args in
     let f = rowWordsAt (now (a .src)) (now (a .notes)) in
-    omega (arith, to-fit f (c .before .before .before .loop .inv .3) (a .n) (c .before .before .before .before .before .before .before .before .before .pre .1 .1) (c .before .before .loop-test .taken), to-length f (c .before .before .before .loop .inv .3) (a .n) (c .before .before .before .before .before .before .before .before .before .pre .1 .1) (c .before .before .before .loop .inv .0), c .before .before .before .before .before .before .before .before .before .good)
+    omega (arith, to-fit f (c .before .before .before .loop .inv .3) (a .n) (c .before .before .before .before .before .before .before .before .before .pre .1 .1) (c .before .before .loop-test .taken))
 
 part-fill-model-end-3 : tie.Need-part-fill-model-end-3 Inv-loop μ-loop
 part-fill-model-end-3 c = search needs
@@ -94,7 +92,7 @@ fill-model-requires : tie.Need-fill-model-requires Inv-loop μ-loop
 fill-model-requires c κs =
     let a = c .before .before .before .before .before .before .before .before .before .before .args in
     let l = c .before .before .before .before .loop in (
-      rest-room (l .models) (modelSize * l .i) modelSize (models-fit (now (a .src)) (now (a .notes)) (l .inv .1) (a .n) (c .before .before .before .before .before .before .before .before .before .before .pre .0) (c .before .before .before .loop-test .taken)),
+      rest-room (l .models) (modelSize * l .i) modelSize (models-fit (modelWordsAt (now (a .src)) (now (a .notes))) (λ k. refl) (l .inv .1) (a .n) (c .before .before .before .before .before .before .before .before .before .before .pre .0) (c .before .before .before .loop-test .taken)),
       (
         rest-room (l .waveforms) (l .waves) _ (to-fit (waveformWordsAt (now (a .src)) (now (a .notes))) (l .inv .2) (a .n) (c .before .before .before .before .before .before .before .before .before .before .pre .1 .0) (c .before .before .before .loop-test .taken)),
         rest-room (l .rows) (l .words) _ (to-fit (rowWordsAt (now (a .src)) (now (a .notes))) (l .inv .3) (a .n) (c .before .before .before .before .before .before .before .before .before .before .pre .1 .1) (c .before .before .before .loop-test .taken)),
@@ -125,13 +123,13 @@ loop-again c =
     let q = c .before .before .before .before .before .before .before .before .before .before .before .before .loop-test .taken in
     let r = c .before .before .before .before .before .before .before .before .fill-model .ensures in (
       omega (arith, q),
-      models-turn (now (a .src)) (now (a .notes)) (c .before .before .before .before .before .before .before .before .before .before .before .before .before .loop .inv .1) (a .n) (c .before .before .before .before .before .before .before .before .before .before .before .before .before .before .before .before .before .before .before .pre .0) q refl (r .0),
+      models-turn (modelWordsAt (now (a .src)) (now (a .notes))) (λ k. refl) (c .before .before .before .before .before .before .before .before .before .before .before .before .before .loop .inv .1) (a .n) (c .before .before .before .before .before .before .before .before .before .before .before .before .before .before .before .before .before .before .before .pre .0) q refl (r .0),
       to-turn (waveformWordsAt (now (a .src)) (now (a .notes))) (c .before .before .before .before .before .before .before .before .before .before .before .before .before .loop .inv .2) (a .n) (c .before .before .before .before .before .before .before .before .before .before .before .before .before .before .before .before .before .before .before .pre .1 .0) q refl (record { used = ap (λ (u : Used). u .waveforms) (r .1 .1 .1); store = r .1 .0 }),
       to-turn (rowWordsAt (now (a .src)) (now (a .notes))) (c .before .before .before .before .before .before .before .before .before .before .before .before .before .loop .inv .3) (a .n) (c .before .before .before .before .before .before .before .before .before .before .before .before .before .before .before .before .before .before .before .pre .1 .1) q refl (record { used = ap (λ (u : Used). u .rows) (r .1 .1 .1); store = r .1 .1 .0 }),
     )
 
 same-length : tie.Need-same-length Inv-loop μ-loop
-same-length c = models-length (now (c .before .before .before .before .before .before .before .args .src)) (now (c .before .before .before .before .before .before .before .args .notes)) (c .before .loop .inv .1) (c .before .before .before .before .before .before .before .args .n) (c .before .before .before .before .before .before .before .pre .0) (c .before .loop .inv .0)
+same-length c = models-length (modelWordsAt (now (c .before .before .before .before .before .before .before .args .src)) (now (c .before .before .before .before .before .before .before .args .notes))) (λ k. refl) (c .before .loop .inv .1) (c .before .before .before .before .before .before .before .args .n) (c .before .before .before .before .before .before .before .pre .0) (c .before .loop .inv .0)
 
 same-length-2 : tie.Need-same-length-2 Inv-loop μ-loop
 same-length-2 c = to-length (waveformWordsAt (now (c .before .before .before .before .before .before .before .args .src)) (now (c .before .before .before .before .before .before .before .args .notes))) (c .before .loop .inv .2) (c .before .before .before .before .before .before .before .args .n) (c .before .before .before .before .before .before .before .pre .1 .0) (c .before .loop .inv .0)
