@@ -112,7 +112,7 @@ SectionPasses l (model w ts) = (k : ℕ) × Continues l (InModel (newModel k)) t
 pub entry-admitted : (l : Lengths) (h : Held) (e : Entry) (g : Held) → admitEntry l h e ≡ says g → (isUsed (e .kind) (e .name) (h .entries) ≡ false) × (g .entries ≡ e ∷ h .entries)
 unfolding admitEntry
 entry-admitted l h e g q =
-    let kept : Result LineFault Held = says (record { entries = e ∷ h .entries; waveforms = h .waveforms; rows = h .rows }) in
+    let kept : Result LineFault Held = says (record { entries = e ∷ h .entries; waveforms = h .waveforms }) in
     let full : Bool = leb (bound l (e .kind)) (count (is (e .kind)) (h .entries)) in
     by-test (isUsed (e .kind) (e .name) (h .entries))
     (λ t. let z : fault (bare 14) ≡ says g = sym (cond-yes _ _ t) ∙ q in impossible (cc))
@@ -121,7 +121,7 @@ entry-admitted l h e g q =
     (λ u. let z : fault (bare 17) ≡ says g = sym (cond-yes _ _ u) ∙ sym (cond-no _ _ t) ∙ q in impossible (cc))
     (λ u.
     let z : kept ≡ says g = sym (cond-no _ _ u) ∙ sym (cond-no _ _ t) ∙ q in
-    let same : record { entries = e ∷ h .entries; waveforms = h .waveforms; rows = h .rows } ≡ g = cc in
+    let same : record { entries = e ∷ h .entries; waveforms = h .waveforms } ≡ g = cc in
     (t, ap (λ (x : Held). x .entries) (sym same))))
 
 module _ (l : Lengths) (h g : Held) (k : ℕ) (w : List ℕ) (u : Stage) (ts : List Text) (r : Runs l g u ts) where

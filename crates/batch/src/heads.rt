@@ -1,5 +1,6 @@
 // Records of standard input: a head of eight numbers, four bytes each, lowest first, and a file.
 ghost use Prim.Native.Nat.{_≤_, _<_};
+use records::Lending;
 use records::Lengths;
 
 // The length of the next file, or none.
@@ -29,14 +30,16 @@ fn number_at(head: &[u8], at: usize) -> usize
         + 16777216 * byte_at(head, at + 3)
 }
 
-pub(crate) fn lengths_in(head: &[u8]) -> Lengths {
-    Lengths {
-        components: number_at(head, 0),
-        pins: number_at(head, 4),
-        selectors: number_at(head, 8),
-        choices: number_at(head, 12),
-        models: number_at(head, 16),
-        waveforms: number_at(head, 20),
+pub(crate) fn lending_in(head: &[u8]) -> Lending {
+    Lending {
+        tables: Lengths {
+            components: number_at(head, 0),
+            pins: number_at(head, 4),
+            selectors: number_at(head, 8),
+            choices: number_at(head, 12),
+            models: number_at(head, 16),
+            waveforms: number_at(head, 20),
+        },
         rows: number_at(head, 24),
     }
 }

@@ -2,7 +2,7 @@
 // Each file's dump is printed. A record that is cut off ends the run. The tables hold a pattern where nothing is read: a word that a reading
 // changes beyond what it uses is told, by a line of its own that no dump has.
 use heads::Next;
-use heads::lengths_in;
+use heads::lending_in;
 use heads::next_file;
 use patterns::PATTERN;
 use patterns::is_plain;
@@ -12,6 +12,7 @@ use program_output::tables::CHOICE_TABLE;
 use program_output::tables::COMPONENT_TABLE;
 use program_output::tables::MODEL_TABLE;
 use program_output::tables::PIN_TABLE;
+use program_output::tables::ROW_TABLE;
 use program_output::tables::SELECTOR_TABLE;
 use program_output::tables::WAVEFORM_TABLE;
 use program_output::tables::words_in;
@@ -23,12 +24,10 @@ use record_words::ROW_WORDS;
 use record_words::SELECTOR_WORDS;
 use record_words::WAVEFORM_WORDS;
 use records::Counts;
-use records::Lengths;
+use records::Lending;
 
 mod heads; // heads.rt: records of standard input
 mod patterns; // patterns.rt: tables that hold a pattern where nothing is read
-
-const ROW_TABLE: usize = 8192 * ROW_WORDS;
 
 fn tell_changed() {
     put_out(b"CHANGED\n", 8);
@@ -37,7 +36,7 @@ fn tell_changed() {
 // Prints a file's dump. Of each table so many records are lent, and no more than it has.
 fn print_lent(
     src: &[u8],
-    l: Lengths,
+    l: Lending,
     components: &mut [u64],
     pins: &mut [u64],
     selectors: &mut [u64],
@@ -46,12 +45,13 @@ fn print_lent(
     waveforms: &mut [u64],
     rows: &mut [u64],
 ) -> Counts {
-    let c = words_in(components.len(), COMPONENT_WORDS, l.components);
-    let p = words_in(pins.len(), PIN_WORDS, l.pins);
-    let s = words_in(selectors.len(), SELECTOR_WORDS, l.selectors);
-    let h = words_in(choices.len(), CHOICE_WORDS, l.choices);
-    let m = words_in(models.len(), MODEL_WORDS, l.models);
-    let w = words_in(waveforms.len(), WAVEFORM_WORDS, l.waveforms);
+    let t = l.tables;
+    let c = words_in(components.len(), COMPONENT_WORDS, t.components);
+    let p = words_in(pins.len(), PIN_WORDS, t.pins);
+    let s = words_in(selectors.len(), SELECTOR_WORDS, t.selectors);
+    let h = words_in(choices.len(), CHOICE_WORDS, t.choices);
+    let m = words_in(models.len(), MODEL_WORDS, t.models);
+    let w = words_in(waveforms.len(), WAVEFORM_WORDS, t.waveforms);
     let r = words_in(rows.len(), ROW_WORDS, l.rows);
     let answer = dump_output::print_file(
         src,
@@ -97,7 +97,7 @@ fn front(src: &[u8], n: usize) -> &[u8] {
 
 fn print_next(
     src: &[u8],
-    l: Lengths,
+    l: Lending,
     components: &mut [u64; COMPONENT_TABLE],
     pins: &mut [u64; PIN_TABLE],
     selectors: &mut [u64; SELECTOR_TABLE],
@@ -171,7 +171,7 @@ fn main() {
         };
         print_next(
             front(&src, n),
-            lengths_in(&head),
+            lending_in(&head),
             &mut components,
             &mut pins,
             &mut selectors,

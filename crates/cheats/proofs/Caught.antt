@@ -5,19 +5,18 @@ use mathlib.Core.List.{List, _++_}
 use lib.ListN.{length, drop}
 use native.Mathlib.Omega.{arith}
 use Rattle.laws.proofs.Tests.{impossible}
-use Rattle.rules.specs.Whole.{passed, outcome}
+use Rattle.rules.specs.Whole.{passed, loading}
 use Rattle.layout.specs.Laid.{countsOf}
 use Rattle.records.specs.declared.Fault.{Fault}
 use Rattle.records.specs.declared.Counts.{Counts}
 use Rattle.records.specs.declared.Answer.{Answer}
 use Rattle.records.specs.declared.Verdict.{Verdict}
 use Rattle.records.specs.declared.Verdict.the-variants.{Accepted, Refused}
-use Rattle.reader.specs.Promise.{Lent, lengthsIn, Reads}
+use Rattle.reader.specs.Promise.{Lent, lendingIn, Reads}
 use Rattle.reader.proofs.Strength as strength
-use Rattle.examples.specs.Starred.{atBounds}
 use Rattle.demand_three.specs.Demand.{AcceptedFile}
 use Rattle.cheats.specs.Files.{listed, misnamed, altered, clamped}
-use Rattle.cheats.specs.Cheats.{AtBounds, nameLength, Refuses, AcceptsEmpty, WritesNothing, SkipsModels, Pretends, clampRows, MakesUpRows, ofFile, ofTable}
+use Rattle.cheats.specs.Cheats.{allLent, AtBounds, nameLength, Refuses, AcceptsEmpty, WritesNothing, SkipsModels, Pretends, clampRows, MakesUpRows, ofFile, ofTable}
 use Rattle.cheats.proofs.Computed.{compDigits, laidOf, listed-passes, misnamed-fails, altered-passes, clamped-passes, listed-counts, clamped-rows, listed-name, listed-comp, altered-comp, clamped-clamp}
 
 -- no verdict is both
@@ -26,12 +25,12 @@ apart v f taken denied = impossible (cc)
 
 -- whatever the tables hold
 module _ (t : Lent) (long : AtBounds t) (r : Answer) (u : Lent) where
-  at : (s : List ℕ) → outcome (lengthsIn t) s ≡ outcome atBounds s
-  at s = ap (λ l. outcome l s) long
+  at : (s : List ℕ) → loading (lendingIn t) s ≡ loading allLent s
+  at s = ap (λ l. loading l s) long
 
   -- ---- what the promise says of a file that is accepted
-  module _ (s : List ℕ) (fine : AcceptedFile atBounds s) (reads : Reads s t r u) where
-    passes : outcome (lengthsIn t) s ≡ passed (fine .held)
+  module _ (s : List ℕ) (fine : AcceptedFile allLent s) (reads : Reads s t r u) where
+    passes : loading (lendingIn t) s ≡ passed (fine .held)
     passes = at s ∙ fine .passes
 
     pub accepted : r .verdict ≡ Accepted

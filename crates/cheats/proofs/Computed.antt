@@ -8,15 +8,15 @@ use Rattle.decimal.specs.declared.Cell.{Cell}
 use Rattle.decimal.specs.declared.Cell.the-variants.{Number, Missing}
 use Rattle.records.specs.declared.Model.{Model}
 use Rattle.lines.specs.Lines.{linesOf}
-use Rattle.rules.specs.Whole.{refused, outcome, textsOf}
+use Rattle.rules.specs.Whole.{refused, loading, textsOf}
 use Rattle.rules.specs.Reading.{fileIn}
 use Rattle.layout.specs.Laid.{Laid, laid, countsOf}
 use Rattle.examples.specs.Computing.{computing}
-use Rattle.examples.specs.Starred.{atBounds, firstSection}
+use Rattle.examples.specs.Starred.{firstSection}
 use Rattle.demand_three.specs.Lines.{textOn, charAfterLine, charAfterLines, sectionsOn, beginsAnother}
 use Rattle.demand_three.specs.Demand.{AcceptedFile}
 use Rattle.cheats.specs.Files.{listed, misnamed, altered, clamped}
-use Rattle.cheats.specs.Cheats.{nameLength, clampRows, SameFirst}
+use Rattle.cheats.specs.Cheats.{allLent, nameLength, clampRows, SameFirst}
 
 -- ---- the digits of the first model's C_comp typ
 
@@ -30,19 +30,19 @@ compDigits (m ∷ ms) = digitsOf (m .comp .typ)
 
 -- ---- the files
 
-pub listed-passes : AcceptedFile atBounds listed
+pub listed-passes : AcceptedFile allLent listed
 unfolding computing
 listed-passes = record { held = _; passes = refl }
 
-pub misnamed-fails : outcome atBounds misnamed ≡ refused 15 12 0
+pub misnamed-fails : loading allLent misnamed ≡ refused 15 12 0
 unfolding computing
 misnamed-fails = refl
 
-pub altered-passes : AcceptedFile atBounds altered
+pub altered-passes : AcceptedFile allLent altered
 unfolding computing
 altered-passes = record { held = _; passes = refl }
 
-pub clamped-passes : AcceptedFile atBounds clamped
+pub clamped-passes : AcceptedFile allLent clamped
 unfolding computing
 clamped-passes = record { held = _; passes = refl }
 

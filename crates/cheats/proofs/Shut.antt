@@ -5,15 +5,14 @@ use mathlib.Core.List.{List}
 use lib.ListN.{length, replicate}
 use native.Mathlib.Omega.{arith}
 use Rattle.reader.specs.Promise.{Lent, Reads}
-use Rattle.examples.specs.Starred.{atBounds}
 use Rattle.blank_records.specs.Blank.{blankComponents, blankPins, blankSelectors, blankChoices, blankModels, blankWaveforms}
 use Rattle.cheats.specs.Files.{listed, misnamed, altered, clamped}
 use Rattle.demand_three.specs.Demand.{AcceptedFile}
-use Rattle.cheats.specs.Cheats.{Reader, KeepsPromise, AtBounds, nameLength, MakesUpAllRows, ShutsOut}
+use Rattle.cheats.specs.Cheats.{Reader, KeepsPromise, allLent, AtBounds, nameLength, MakesUpAllRows, ShutsOut}
 use Rattle.cheats.proofs.Computed.{laidOf, listed-passes, clamped-passes, listed-rows, clamped-rows, same-first}
 use Rattle.cheats.proofs.Caught as caught
 
--- tables at document 01's bounds, and 1,000 rows of four words
+-- tables at document 01's bounds, and 8,192 rows of four words
 unfoldable blank : Lent
 blank =
     record {
@@ -23,7 +22,7 @@ blank =
       choices = blankChoices;
       models = blankModels;
       waveforms = blankWaveforms;
-      rows = replicate 4000 0;
+      rows = replicate 32768 0;
     }
 
 long : AtBounds blank
@@ -36,7 +35,7 @@ nameless e = omega (arith, e)
 
 module _ (p : Reader) (keeps : KeepsPromise p) where
   -- a number that is told of each accepted file is the number of its rows
-  number-is : (does : MakesUpAllRows p) (s : List ℕ) → AcceptedFile atBounds s → does .number blank ≡ length (laidOf s .rows)
+  number-is : (does : MakesUpAllRows p) (s : List ℕ) → AcceptedFile allLent s → does .number blank ≡ length (laidOf s .rows)
   number-is does s fine =
       sym (does .told s blank (caught.accepted blank long _ _ s fine (keeps s blank))) ∙ caught.rows blank long _ _ s fine (keeps s blank)
 

@@ -10,9 +10,11 @@ use Rattle.demand_three.specs.Lines.{charAfterLines, sectionsOn, beginsAnother}
 use Rattle.notes.specs.Noted.{nothingUsed}
 use Rattle.records.specs.declared.Fault.{Fault}
 use Rattle.records.specs.declared.Verdict.the-variants.{Accepted, Refused}
+use Rattle.records.specs.Bounds.{mostRows}
 use Rattle.records.specs.declared.Answer.{Answer}
+use Rattle.records.specs.declared.Lending.{Lending}
 use Rattle.records.specs.declared.Model.{Model}
-use Rattle.reader.specs.Promise.{Lent, lengthsIn, Reads}
+use Rattle.reader.specs.Promise.{Lent, lendingIn, Reads}
 use Rattle.examples.specs.Starred.{atBounds}
 
 -- ---- a reader, and what it promises
@@ -26,10 +28,13 @@ pub record Reader : Type 0 where
 abbrev pub KeepsPromise : Reader → Type 0
 KeepsPromise p = (s : List ℕ) (t : Lent) → Reads s t (p .answers s t) (p .leaves s t)
 
--- ---- tables that are lent: as long as document 01's bounds, and 1,000 rows
+-- ---- tables that are lent: as long as document 01's bounds, and as many rows as a file can have
+
+abbrev pub allLent : Lending
+allLent = record { tables = atBounds; rows = mostRows }
 
 abbrev pub AtBounds : Lent → Type 0
-AtBounds t = lengthsIn t ≡ atBounds
+AtBounds t = lendingIn t ≡ allLent
 
 -- the length of the first model's name
 abbrev pub nameLength : List Model → ℕ

@@ -11,13 +11,14 @@ use lib.Dec.{lit<, lit≤}
 use native.Mathlib.Omega.{arith}
 use Rattle.laws.specs.Bytes.{bytes}
 use Rattle.lines.specs.Lines.{Physical, linesOf}
-use Rattle.rules.specs.Whole.{refused, outcome}
+use Rattle.rules.specs.Whole.{refused, loading}
 use Rattle.rules.specs.Reading.{under, noSplit, splitSays}
 use Rattle.rules.proofs.Same.{same-split}
-use Rattle.records.specs.declared.Lengths.{Lengths}
+use Rattle.records.specs.Bounds.{mostRows}
+use Rattle.records.specs.declared.Lending.{Lending}
 use Rattle.examples.specs.Computing.{computing}
 use Rattle.demand_three.specs.Lines.{textOn, charAfterLine, charAfterLines, beginsAnother, isModelSection}
-use Rattle.demand_three.specs.Demand.{Stands, AcceptedFile, SameIn, Excepted, outOfPlace, usedTwice, notListed, fullTable, fewRows, Spares}
+use Rattle.demand_three.specs.Demand.{Stands, AcceptedFile, SameIn, Excepted, outOfPlace, usedTwice, notListed, fullTable, Spares}
 use Rattle.demand_three.specs.Own.{OwnTold, SameFault}
 use Rattle.demand_three.proofs.Own.{same-faults}
 use Rattle.demand_three.proofs.Demand.{demand3}
@@ -25,8 +26,11 @@ use Rattle.demand_three.proofs.Demand.{demand3}
 -- ---- the accepted file: what stands before the section, the section, what stands behind it
 
 -- so many models and rows are lent
-abbrev lending : ℕ → ℕ → Lengths
-lending models rows = record { components = 8; pins = 512; selectors = 32; choices = 256; models = models; waveforms = 1024; rows = rows }
+abbrev lending : ℕ → ℕ → Lending
+lending models rows = record { tables = record { components = 8; pins = 512; selectors = 32; choices = 256; models = models; waveforms = 1024 }; rows = rows }
+
+abbrev enough : Lending
+enough = lending 64 mostRows
 
 -- up to the component's first pin, with its model's name
 abbrev head : String → String
@@ -49,12 +53,12 @@ section = linesOf (bytes shared)
 abbrev file : String → String → List ℕ
 file front back = bytes (front ++ˢ shared ++ˢ back)
 
-pub record Taken (c : ℕ) (section : List Physical) (l : Lengths) (s : List ℕ) : Type 0 where
+pub record Taken (c : ℕ) (section : List Physical) (l : Lending) (s : List ℕ) : Type 0 where
   pub isSection : isModelSection c section ≡ true
   pub stands : Stands c section s
   pub accepted : AcceptedFile l s
 
-pub taken : Taken (code "#") section (lending 64 2) (file before behind)
+pub taken : Taken (code "#") section enough (file before behind)
 unfolding computing isModelSection charAfterLines beginsAnother textOn charAfterLine
 taken =
     record {
@@ -71,7 +75,7 @@ beforeToo = head "in1" ++ˢ "2 LAMP off\n[Model] off\nModel_type Terminator\n[Co
 abbrev behindToo : String
 behindToo = "[Model Selector] lamps\noff none\n[Component] LK2\n[Manufacturer] House\n[Pin] signal_name model_name\nA lamp lamps\n[Package]\nR_pkg 1 NA NA\nL_pkg 1 NA NA\nC_pkg 1 NA NA\n[End]\n"
 
-pub takenToo : Taken (code "#") section (lending 64 2) (file beforeToo behindToo)
+pub takenToo : Taken (code "#") section enough (file beforeToo behindToo)
 unfolding computing isModelSection charAfterLines beginsAnother textOn charAfterLine
 takenToo =
     record {
@@ -88,65 +92,69 @@ same =
 pub same-parts : splitSays noSplit (under (same .says .texts)) ≡ splitSays noSplit (under (same .saysToo .texts))
 same-parts = same-split _ _ _ _ (same .says .same) ∙ sym (same-split _ _ _ _ (same .saysToo .same))
 
--- ---- changed files that are refused: tables of lengths m are lent, and fault n is told at line k, in column c
+-- ---- changed files that are refused: m is lent, and fault n is told at line k, in column c
 
-pub record Refusal (m : Lengths) (t : List ℕ) (n k c : ℕ) : Type 0 where
+pub record Refusal (m : Lending) (t : List ℕ) (n k c : ℕ) : Type 0 where
   pub stands : Stands (code "#") section t
-  pub told : outcome m t ≡ refused n k c
+  pub told : loading m t ≡ refused n k c
 
 -- where the section stands, and what is told: each is computed of a file
-abbrev refusal : {m : Lengths} {n k c : ℕ} (front back : String)
+abbrev refusal : {m : Lending} {n k c : ℕ} (front back : String)
     → linesOf (file front back) ≡ linesOf (bytes front) ++ section ++ linesOf (bytes back)
     → charAfterLines (code "|") (linesOf (bytes front)) ≡ code "#"
     → beginsAnother (charAfterLines (code "#") section) (linesOf (bytes back)) ≡ true
-    → outcome m (file front back) ≡ refused n k c
+    → loading m (file front back) ≡ refused n k c
     → Refusal m (file front back) n k c
 refusal front back lines char ends told =
     record { stands = record { before = linesOf (bytes front); after = linesOf (bytes back); lines = lines; char = char; ends = ends }; told = told }
 
-module _ (m : Lengths) (t : List ℕ) (n k c : ℕ) (r : Refusal m t n k c) where
+module _ (m : Lending) (t : List ℕ) (n k c : ℕ) (r : Refusal m t n k c) where
   spares : Spares (r .stands) n k
   spares = demand3 _ _ (taken .isSection) _ _ (taken .stands) (taken .accepted) m t (r .stands) .refusal n k c (r .told)
 
--- ---- three faults that stand elsewhere: a pin names no model, the type of another model is none, and a keyword there is one that nobody has
+-- ---- four faults that stand elsewhere: a pin names no model, the type of another model is none, a keyword there is one that nobody has, and a row
+-- too few is lent
 
 abbrev unknown : String
 unknown = head "in1" ++ˢ "2 LAMP lamp\n[Comment Char] #_char\n"
 
-pub at-pin : Refusal (lending 64 2) (file unknown behind) 15 12 0
+pub at-pin : Refusal enough (file unknown behind) 15 12 0
 unfolding computing charAfterLines beginsAnother textOn charAfterLine
 at-pin = refusal unknown behind refl refl refl refl
 
 abbrev wrongType : String
 wrongType = "[Model] off\nModel_type Terminal\nC_comp 3pF NA NA\n[Voltage Range] 5 NA NA\n[End]\n"
 
-pub at-type : Refusal (lending 64 2) (file before wrongType) 10 23 12
+pub at-type : Refusal enough (file before wrongType) 10 23 12
 unfolding computing charAfterLines beginsAnother textOn charAfterLine
 at-type = refusal before wrongType refl refl refl refl
 
 abbrev misspelled : String
 misspelled = "[Model] off\n[Diff Pni]\n[End]\n"
 
-pub at-slip : Refusal (lending 64 2) (file before misspelled) 21 23 0
+pub at-slip : Refusal enough (file before misspelled) 21 23 0
 unfolding computing charAfterLines beginsAnother textOn charAfterLine
 at-slip = refusal before misspelled refl refl refl refl
 
--- a fault that is none of the five
+pub at-loading : Refusal (lending 64 8191) (file before behind) 25 0 0
+unfolding computing charAfterLines beginsAnother textOn charAfterLine
+at-loading = refusal before behind refl refl refl refl
+
+-- a fault that is none of the four
 abbrev Other : ℕ → Type 0
-Other n = (n ≡ 7 → ⊥) × (n ≡ 14 → ⊥) × (n ≡ 16 → ⊥) × (n ≡ 17 → ⊥) × (n ≡ 18 → ⊥)
+Other n = (n ≡ 7 → ⊥) × (n ≡ 14 → ⊥) × (n ≡ 16 → ⊥) × (n ≡ 17 → ⊥)
 
 not-excepted : (keyword n k : ℕ) → Other n → Excepted keyword n k → ⊥
 not-excepted keyword n k other (outOfPlace e at) = other .0 e
 not-excepted keyword n k other (usedTwice e) = other .1 e
 not-excepted keyword n k other (notListed e) = other .2 e
 not-excepted keyword n k other (fullTable e) = other .3 e
-not-excepted keyword n k other (fewRows e) = other .4 e
 
 -- the line told is none of the section's
-abbrev Elsewhere : (m : Lengths) (t : List ℕ) (n k c : ℕ) → Refusal m t n k c → Type 0
+abbrev Elsewhere : (m : Lending) (t : List ℕ) (n k c : ℕ) → Refusal m t n k c → Type 0
 Elsewhere m t n k c r = length (r .stands .before) < k → k ≤ length (r .stands .before) + length section → ⊥
 
-elsewhere : (m : Lengths) (t : List ℕ) (n k c : ℕ) → Other n → (r : Refusal m t n k c) → Elsewhere m t n k c r
+elsewhere : (m : Lending) (t : List ℕ) (n k c : ℕ) → Other n → (r : Refusal m t n k c) → Elsewhere m t n k c r
 elsewhere m t n k c other r from to = not-excepted _ n k other (spares m t n k c r from to)
 
 pub pin-elsewhere : Elsewhere _ _ _ _ _ at-pin
@@ -158,15 +166,18 @@ type-elsewhere = elsewhere _ _ _ _ _ (omega arith) at-type
 pub slip-elsewhere : Elsewhere _ _ _ _ _ at-slip
 slip-elsewhere = elsewhere _ _ _ _ _ (omega arith) at-slip
 
--- ---- the five exceptions happen: each fault is told at a line of the section
+pub loading-elsewhere : Elsewhere _ _ _ _ _ at-loading
+loading-elsewhere = elsewhere _ _ _ _ _ (omega arith) at-loading
 
-pub record Within (m : Lengths) (t : List ℕ) (n k : ℕ) : Type 0 where
+-- ---- the four exceptions happen: each fault is told at a line of the section
+
+pub record Within (m : Lending) (t : List ℕ) (n k : ℕ) : Type 0 where
   pub refused : Refusal m t n k 0
   pub from : length (refused .stands .before) < k
   pub to : k ≤ length (refused .stands .before) + length section
 
 -- the section stands after [End]
-pub misplaced : Within (lending 64 2) (file (before ++ˢ behind) behind) 7 14
+pub misplaced : Within enough (file (before ++ˢ behind) behind) 7 14
 unfolding computing charAfterLines beginsAnother textOn charAfterLine
 misplaced = record { refused = refusal (before ++ˢ behind) behind refl refl refl refl; from = lit< tt; to = lit≤ tt }
 
@@ -174,7 +185,7 @@ misplaced = record { refused = refusal (before ++ˢ behind) behind refl refl ref
 abbrev namesake : String
 namesake = before ++ˢ "[Model] in1\nModel_type Input\nC_comp 3pF NA NA\n[Voltage Range] 5 NA NA\n"
 
-pub named-twice : Within (lending 64 2) (file namesake behind) 14 17
+pub named-twice : Within enough (file namesake behind) 14 17
 unfolding computing charAfterLines beginsAnother textOn charAfterLine
 named-twice = record { refused = refusal namesake behind refl refl refl refl; from = lit< tt; to = lit≤ tt }
 
@@ -182,26 +193,22 @@ named-twice = record { refused = refusal namesake behind refl refl refl refl; fr
 abbrev grounded : String
 grounded = head "GND" ++ˢ "[Comment Char] #_char\n"
 
-pub unlisted : Within (lending 64 2) (file grounded behind) 16 13
+pub unlisted : Within enough (file grounded behind) 16 13
 unfolding computing charAfterLines beginsAnother textOn charAfterLine
 unlisted = record { refused = refusal grounded behind refl refl refl refl; from = lit< tt; to = lit≤ tt }
 
--- no model is lent, or one row too few
-pub full : Within (lending 0 2) (file before behind) 17 13
+-- no model is lent
+pub full : Within (lending 0 mostRows) (file before behind) 17 13
 unfolding computing charAfterLines beginsAnother textOn charAfterLine
 full = record { refused = refusal before behind refl refl refl refl; from = lit< tt; to = lit≤ tt }
 
-pub scant : Within (lending 64 1) (file before behind) 18 21
-unfolding computing charAfterLines beginsAnother textOn charAfterLine
-scant = record { refused = refusal before behind refl refl refl refl; from = lit< tt; to = lit≤ tt }
-
-excepted : (m : Lengths) (t : List ℕ) (n k : ℕ) (w : Within m t n k) → Excepted (length (w .refused .stands .before) + 1) n k
+excepted : (m : Lending) (t : List ℕ) (n k : ℕ) (w : Within m t n k) → Excepted (length (w .refused .stands .before) + 1) n k
 excepted m t n k w = spares m t n k 0 (w .refused) (w .from) (w .to)
 
--- demand 3 says of each that it is one of the five; the first number is the line of the section's keyword
-pub all-excepted : Excepted 14 7 14 × Excepted 17 14 17 × Excepted 13 16 13 × Excepted 13 17 13 × Excepted 13 18 21
-unfolding computing misplaced named-twice unlisted full scant
-all-excepted = (excepted _ _ _ _ misplaced, excepted _ _ _ _ named-twice, excepted _ _ _ _ unlisted, excepted _ _ _ _ full, excepted _ _ _ _ scant)
+-- demand 3 says of each that it is one of the four; the first number is the line of the section's keyword
+pub all-excepted : Excepted 14 7 14 × Excepted 17 14 17 × Excepted 13 16 13 × Excepted 13 17 13
+unfolding computing misplaced named-twice unlisted full
+all-excepted = (excepted _ _ _ _ misplaced, excepted _ _ _ _ named-twice, excepted _ _ _ _ unlisted, excepted _ _ _ _ full)
 
 -- ---- a section with a fault of its own: two files tell the same number and column of it, each at its line
 
@@ -210,7 +217,7 @@ slipped = "[Model] in1 # the door\nModel_type Input\nVinl = O.8\n"
 
 pub record Slipped (t : List ℕ) (k : ℕ) : Type 0 where
   pub stands : Stands (code "#") (linesOf (bytes slipped)) t
-  pub tells : OwnTold (lending 64 2) t stands 11 k 8
+  pub tells : OwnTold enough t stands 11 k 8
 
 pub slip : Slipped (bytes (before ++ˢ slipped ++ˢ behind)) 15
 unfolding computing charAfterLines beginsAnother textOn charAfterLine

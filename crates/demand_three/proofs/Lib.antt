@@ -10,6 +10,7 @@ pub mod Texts
 pub mod Walks
 pub mod Bytes
 pub mod Split
+pub mod Loaded
 pub mod Sound
 pub mod Spared
 pub mod Refusal

@@ -15,7 +15,7 @@ use Rattle.keywords.specs.declared.Section.the-variants.{Model}
 use Rattle.cut_lines.specs.Texts.{Text, textsFrom}
 use Rattle.cut_lines.proofs.Renumbered.{textAt, texts-map}
 use Rattle.records.specs.declared.Fault.{Fault}
-use Rattle.records.specs.declared.Lengths.{Lengths}
+use Rattle.records.specs.declared.Lending.{Lending}
 use Rattle.rules.specs.Steps.{opened, onText}
 use Rattle.rules.specs.Model.{newModel}
 use Rattle.rules.specs.declared.Stage.{Stage}
@@ -88,7 +88,7 @@ same-faults c section h l s first n j x a m t second o k y b =
     let ownToo = own-told c section h m t second o k y b in
     same (ownFault c 0 section) (own-later c _ section ∙ own) (own-later c _ section ∙ ownToo)
   where
-    own-told : (c : ℕ) (section : List Physical) → isModelSection c section ≡ true → (m : Lengths) (t : List ℕ) (stands : Stands c section t) (n k column : ℕ)
+    own-told : (c : ℕ) (section : List Physical) → isModelSection c section ≡ true → (m : Lending) (t : List ℕ) (stands : Stands c section t) (n k column : ℕ)
         → OwnTold m t stands n k column → ownFault c (length (stands .before) + 1) section ≡ some (record { number = n; line = k; column = column })
     own-told c section h m t stands n k column a =
         ⊎-elim (λ e. absurd (a .own e)) (λ e. e) (told-by-its-lines c section h m t stands n k column (a .told) (a .from) (a .to))

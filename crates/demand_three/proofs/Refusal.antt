@@ -23,7 +23,7 @@ use Rattle.cut_lines.specs.Texts.{Text, plain, textsFrom}
 use Rattle.rules.specs.Going.{andThen}
 use Rattle.rules.specs.Model.{newModel}
 use Rattle.rules.specs.Reading.{isWithin}
-use Rattle.rules.specs.Whole.{Held, nothingHeld, Outcome, admit, afterStep, runs, concluded, textsOf, afterBytes, outcome}
+use Rattle.rules.specs.Whole.{Held, nothingHeld, Outcome, refused, admit, afterStep, runs, concluded, textsOf, afterBytes, outcome}
 use Rattle.rules.specs.Steps.{opened}
 use Rattle.records.specs.declared.Fault.{Fault}
 use Rattle.records.specs.declared.Lengths.{Lengths}
@@ -35,6 +35,7 @@ use Rattle.rules.specs.declared.Went.the-variants.{On, Stop}
 use Rattle.demand_three.specs.Lines.{charAfterLine, isModelSection}
 use Rattle.demand_three.specs.Demand.{Stands, outOfPlace}
 use Rattle.demand_three.specs.Own.{stopping, textsTell, ownFault, ToldByItsLines}
+use Rattle.demand_three.proofs.Loaded.{loaded-refuses}
 use Rattle.demand_three.proofs.Renumbered.{wentAt}
 use Rattle.demand_three.proofs.Closing.{close, close-at, alone, alone-at, alone-model, opened-either, Closer, misplaced, closes, closer, model-ends, model-key}
 use Rattle.demand_three.proofs.Bytes.{isClean, clean-file, clean-none, BytesSpare, bytes-spare}
@@ -176,4 +177,8 @@ unfolding isModelSection
 told-by-its-lines c [] h m t p n k column e a b = impossible (cc)
 told-by-its-lines c (first ∷ others) h m t p n k column e a b =
     let lo = length (p .before) in
-    subst (Safe lo (lo + suc (length others)) (OwnAt c first others h lo)) e (told c first others h m t p) a b
+    let safe : Outcome → Type 0 = Safe lo (lo + suc (length others)) (OwnAt c first others h lo) in
+    ⊎-elim
+    (λ is. let so : safe (refused n k column) = subst safe is (told c first others h (m .tables) t p) in so a b)
+    (λ z. absurd (omega (arith, z, a)))
+    (loaded-refuses m t n k column e)

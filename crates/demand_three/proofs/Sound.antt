@@ -20,6 +20,7 @@ use Rattle.rules.specs.Steps.{onPlain}
 use Rattle.rules.specs.Reading.{isKey, isWithin}
 use Rattle.rules.specs.Whole.{Held, nothingHeld, Outcome, passed, refused, runs, concluded, textsOf, afterBytes, outcome}
 use Rattle.records.specs.declared.Lengths.{Lengths}
+use Rattle.records.specs.declared.Lending.{Lending}
 use Rattle.rules.specs.declared.ModelState.{ModelState}
 use Rattle.rules.specs.declared.Stage.{Stage}
 use Rattle.rules.specs.declared.Stage.the-variants.{BeforeVersion, InModel}
@@ -30,6 +31,7 @@ use Rattle.rules.specs.declared.Went.the-variants.{On, Stop}
 use Rattle.keywords.specs.declared.Section.the-variants.{Model}
 use Rattle.demand_three.specs.Lines.{textOn, charAfterLine, isModelSection}
 use Rattle.demand_three.specs.Demand.{Stands, AcceptedFile}
+use Rattle.demand_three.proofs.Loaded.{loaded-passes}
 use Rattle.demand_three.proofs.Renumbered.{stageAt}
 use Rattle.cut_lines.proofs.Renumbered.{textAt, texts-map}
 use Rattle.demand_three.proofs.Closing.{close, close-at, alone, Closer, misplaced, closes, closer, model-ends, model-key, alone-anywhere}
@@ -53,10 +55,10 @@ bytes-passed : (go : Outcome) (b : Bytes) (z : Held) → afterBytes go b ≡ pas
 bytes-passed go Clean z q = (refl, q)
 bytes-passed go (Faulty x) z q = impossible (cc)
 
-pub passing : (l : Lengths) (s : List ℕ) → AcceptedFile l s → Passing l s
+pub passing : (l : Lending) (s : List ℕ) → AcceptedFile l s → Passing (l .tables) s
 unfolding outcome
 passing l s a =
-    let b = bytes-passed _ (bytesFault s) (a .held) (a .passes) in
+    let b = bytes-passed _ (bytesFault s) (a .held) (loaded-passes l s (a .held) (a .passes)) in
     let r = concluded-passed _ (a .held) (b .1) in
     record { clean = b .0; held = r .0; runsOn = r .1 }
 
@@ -163,13 +165,13 @@ module _ (c : ℕ) (first : Physical) (others : List Physical) (h : isModelSecti
         clean = q;
       }
 
-  pub sound : (l : Lengths) (s : List ℕ) → Stands c (first ∷ others) s → AcceptedFile l s → Sound c first others
+  pub sound : (l : Lending) (s : List ℕ) → Stands c (first ∷ others) s → AcceptedFile l s → Sound c first others
   sound l s p a =
       let k = length (p .before) + 1 in
       let past = length (linesOf s) + 1 in
       let r = passing l s a in
       let sp = split c first others s key-ends p in
-      let before = walked l past (textsFrom (code "|") 1 (p .before)) _ BeforeVersion nothingHeld (r .held) (rw (sp .texts) at (r .runsOn)) in
+      let before = walked (l .tables) past (textsFrom (code "|") 1 (p .before)) _ BeforeVersion nothingHeld (r .held) (rw (sp .texts) at (r .runsOn)) in
       sound-at k
-      (passed-section l past k _ (cut c (first .bytes)) (sp .next) _ (sp .rest) (before .0) (before .2 .0) (r .held) key-model (sp .ends) (before .2 .1))
+      (passed-section (l .tables) past k _ (cut c (first .bytes)) (sp .next) _ (sp .rest) (before .0) (before .2 .0) (r .held) key-model (sp .ends) (before .2 .1))
       (all-second isClean (p .before) (first ∷ others) (all-first isClean (p .before ++ (first ∷ others)) (p .after) (rw (p .lines) at (clean-file s (r .clean)))))

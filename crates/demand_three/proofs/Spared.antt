@@ -33,7 +33,7 @@ use Rattle.rules.specs.declared.Event.{Event}
 use Rattle.rules.specs.declared.Event.the-variants.{Quiet, Opened, PinRow, ChoiceRow, WaveformOpened, TableRow, Ended}
 use Rattle.rules.specs.declared.Went.{Went}
 use Rattle.rules.specs.declared.Went.the-variants.{On, Stop}
-use Rattle.demand_three.specs.Demand.{Excepted, usedTwice, notListed, fullTable, fewRows}
+use Rattle.demand_three.specs.Demand.{Excepted, usedTwice, notListed, fullTable}
 use Rattle.demand_three.specs.Own.{stopping, textsTell}
 use Rattle.demand_three.proofs.Renumbered.{stageAt, wentAt}
 use Rattle.cut_lines.proofs.Renumbered.{textAt}
@@ -114,7 +114,7 @@ module _ (lo hi : ℕ) where
     admits-within l h k w PinRow x y = impossible (cc)
     admits-within l h k w ChoiceRow x y = impossible (cc)
     admits-within l h k w WaveformOpened x y = cond-all (Admits k) (leb (min mostWaveforms (l .waveforms)) (h .waveforms)) _ _ (λ t a b. inl (fullTable refl)) (λ t. y)
-    admits-within l h k w TableRow x y = cond-all (Admits k) (leb (l .rows) (h .rows)) _ _ (λ t a b. inl (fewRows refl)) (λ t. y)
+    admits-within l h k w TableRow x y = y
     admits-within l h k w (Ended f) x y = impossible (cc)
 
     -- any line outside
@@ -129,7 +129,7 @@ module _ (lo hi : ℕ) where
     admits-outside l h k w PinRow x y = admits-entry k l h (rowEntry OfPin k 2 w) (λ a b. absurd (outside-only k x a b)) y
     admits-outside l h k w ChoiceRow x y = admits-entry k l h (rowEntry OfChoice k 0 w) (λ a b. absurd (outside-only k x a b)) y
     admits-outside l h k w WaveformOpened x y = cond-all (Admits k) (leb (min mostWaveforms (l .waveforms)) (h .waveforms)) _ _ (λ t. spare-outside 17 k 0 x) (λ t. y)
-    admits-outside l h k w TableRow x y = cond-all (Admits k) (leb (l .rows) (h .rows)) _ _ (λ t. spare-outside 18 k 0 x) (λ t. y)
+    admits-outside l h k w TableRow x y = y
     admits-outside l h k w (Ended f) x y =
         cond-all (Admits k) (eqb (count (is OfComponent) (h .entries)) 0) _ _
         (λ t. spare-outside 9 k 0 x)

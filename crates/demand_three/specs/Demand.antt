@@ -8,11 +8,11 @@ use mathlib.Core.Bool.{true}
 use lib.ListN.{length, drop}
 use Rattle.lines.specs.Lines.{Physical, linesOf}
 use Rattle.cut_lines.specs.Texts.{Text, textsFrom}
-use Rattle.rules.specs.Whole.{Held, passed, refused, textsOf, outcome}
+use Rattle.rules.specs.Whole.{Held, passed, refused, textsOf, loading}
 use Rattle.rules.specs.Reading.{SectionIs, model, sectionsIn, fileIn}
 use Rattle.rules.specs.Same.{SameModel}
 use Rattle.layout.specs.Laid.{Laid, withSection, laid}
-use Rattle.records.specs.declared.Lengths.{Lengths}
+use Rattle.records.specs.declared.Lending.{Lending}
 use Rattle.demand_three.specs.Lines.{charAfterLines, sectionsOn, beginsAnother, isModelSection}
 
 -- ---- the premises
@@ -26,10 +26,10 @@ pub record Stands (c : ℕ) (section : List Physical) (s : List ℕ) : Type 0 wh
   pub char : charAfterLines (code "|") before ≡ c
   pub ends : beginsAnother (charAfterLines c section) after ≡ true
 
--- the file is accepted if tables of these lengths are lent
-pub record AcceptedFile (l : Lengths) (s : List ℕ) : Type 0 where
+-- the file is accepted if this is lent
+pub record AcceptedFile (l : Lending) (s : List ℕ) : Type 0 where
   pub held : Held
-  pub passes : outcome l s ≡ passed held
+  pub passes : loading l s ≡ passed held
 
 -- ---- the conclusion, if the changed file is accepted
 
@@ -64,27 +64,27 @@ pub record SameIn {c : ℕ} {section : List Physical} (s t : List ℕ) (first : 
 
 -- ---- the conclusion, if it is refused
 
--- "unless it is one of these": fault n told at line k, the section's keyword being at line keyword
+-- "unless it is one of these": fault n told at line k, the section's keyword being at line keyword. "Too few rows" is none (document 02, §8): that
+-- is told at line 0, before the file is looked at
 pub data Excepted (keyword n k : ℕ) : Type 0 where
   outOfPlace : n ≡ 7 → k ≡ keyword → Excepted keyword n k
   usedTwice : n ≡ 14 → Excepted keyword n k
   notListed : n ≡ 16 → Excepted keyword n k
   fullTable : n ≡ 17 → Excepted keyword n k
-  fewRows : n ≡ 18 → Excepted keyword n k
 
 -- "the fault names no line of the section": its lines are those after `before`, as many as it has
 abbrev pub Spares : {c : ℕ} {section : List Physical} {s : List ℕ} → Stands c section s → ℕ → ℕ → Type 0
 Spares {section = section} stands n k =
     length (stands .before) < k → k ≤ length (stands .before) + length section → Excepted (length (stands .before) + 1) n k
 
--- ---- demand 3: s is the accepted file with tables of lengths l, t the changed one with tables of lengths m
+-- ---- demand 3: s is the accepted file, loaded into what l lends, t the changed one, loaded into what m lends
 
-pub record Keeps {c : ℕ} {section : List Physical} (s t : List ℕ) (first : Stands c section s) (second : Stands c section t) (m : Lengths) : Type 0 where
+pub record Keeps {c : ℕ} {section : List Physical} (s t : List ℕ) (first : Stands c section s) (second : Stands c section t) (m : Lending) : Type 0 where
   pub accepted : AcceptedFile m t → SameIn s t first second
-  pub refusal : (n k column : ℕ) → outcome m t ≡ refused n k column → Spares second n k
+  pub refusal : (n k column : ℕ) → loading m t ≡ refused n k column → Spares second n k
 
 abbrev pub Demand3 : Type 0
 Demand3 =
     (c : ℕ) (section : List Physical) → isModelSection c section ≡ true
-    → (l : Lengths) (s : List ℕ) (first : Stands c section s) → AcceptedFile l s
-    → (m : Lengths) (t : List ℕ) (second : Stands c section t) → Keeps s t first second m
+    → (l : Lending) (s : List ℕ) (first : Stands c section s) → AcceptedFile l s
+    → (m : Lending) (t : List ℕ) (second : Stands c section t) → Keeps s t first second m

@@ -12,10 +12,10 @@ use Rattle.lines.specs.declared.Bytes.the-variants.{Clean, Faulty}
 use Rattle.keywords.specs.declared.Section.the-variants.{Model}
 use Rattle.cut_lines.specs.Texts.{Text, textsFrom}
 use Rattle.records.specs.declared.Fault.{Fault}
-use Rattle.records.specs.declared.Lengths.{Lengths}
+use Rattle.records.specs.declared.Lending.{Lending}
 use Rattle.rules.specs.Going.{andThen}
 use Rattle.rules.specs.Steps.{shut, done, opened, onText}
-use Rattle.rules.specs.Whole.{refused, outcome}
+use Rattle.rules.specs.Whole.{refused, loading}
 use Rattle.rules.specs.declared.Stage.{Stage}
 use Rattle.rules.specs.declared.Went.{Went}
 use Rattle.rules.specs.declared.Went.the-variants.{On, Stop}
@@ -49,14 +49,14 @@ ownFault c k (first ∷ others) =
 abbrev pub ToldByItsLines : Type 0
 ToldByItsLines =
     (c : ℕ) (section : List Physical) → isModelSection c section ≡ true
-    → (m : Lengths) (t : List ℕ) (stands : Stands c section t) (n k column : ℕ) → outcome m t ≡ refused n k column
+    → (m : Lending) (t : List ℕ) (stands : Stands c section t) (n k column : ℕ) → loading m t ≡ refused n k column
     → length (stands .before) < k → k ≤ length (stands .before) + length section
     → Excepted (length (stands .before) + 1) n k ⊎ (ownFault c (length (stands .before) + 1) section ≡ some (record { number = n; line = k; column = column }))
 
 -- ---- two files in which the section stands, each with a fault at a line of it that is none of the exceptions
 
-pub record OwnTold {c : ℕ} {section : List Physical} (m : Lengths) (t : List ℕ) (stands : Stands c section t) (n k column : ℕ) : Type 0 where
-  pub told : outcome m t ≡ refused n k column
+pub record OwnTold {c : ℕ} {section : List Physical} (m : Lending) (t : List ℕ) (stands : Stands c section t) (n k column : ℕ) : Type 0 where
+  pub told : loading m t ≡ refused n k column
   pub from : length (stands .before) < k
   pub to : k ≤ length (stands .before) + length section
   pub own : Excepted (length (stands .before) + 1) n k → ⊥
@@ -70,6 +70,6 @@ pub record SameFault {c : ℕ} {section : List Physical} {s t : List ℕ} (first
 abbrev pub SameFaults : Type 0
 SameFaults =
     (c : ℕ) (section : List Physical) → isModelSection c section ≡ true
-    → (l : Lengths) (s : List ℕ) (first : Stands c section s) (n j x : ℕ) → OwnTold l s first n j x
-    → (m : Lengths) (t : List ℕ) (second : Stands c section t) (o k y : ℕ) → OwnTold m t second o k y
+    → (l : Lending) (s : List ℕ) (first : Stands c section s) (n j x : ℕ) → OwnTold l s first n j x
+    → (m : Lending) (t : List ℕ) (second : Stands c section t) (o k y : ℕ) → OwnTold m t second o k y
     → SameFault first second n j x o k y

@@ -1,8 +1,9 @@
-// Standard input is read into tables at document 01's bounds with 1,000 rows lent, and all that they keep is printed.
+// Standard input is read into tables at document 01's bounds and 8,192 rows, and all that they keep is printed.
 use program_output::tables::CHOICE_TABLE;
 use program_output::tables::COMPONENT_TABLE;
 use program_output::tables::MODEL_TABLE;
 use program_output::tables::PIN_TABLE;
+use program_output::tables::ROW_TABLE;
 use program_output::tables::SELECTOR_TABLE;
 use program_output::tables::WAVEFORM_TABLE;
 
@@ -15,7 +16,7 @@ fn main() {
     let mut choices = [0u64; CHOICE_TABLE];
     let mut models = [0u64; MODEL_TABLE];
     let mut waveforms = [0u64; WAVEFORM_TABLE];
-    let mut rows = [0u64; 4000];
+    let mut rows = [0u64; ROW_TABLE];
     dump_output::print_file(
         &src[..n],
         &mut components,

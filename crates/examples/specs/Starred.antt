@@ -31,7 +31,7 @@ verdict (passed h) = Accepted
 verdict (refused n k c) = Refused (record { number = n; line = k; column = c })
 
 abbrev pub atBounds : Lengths
-atBounds = record { components = 8; pins = 512; selectors = 32; choices = 256; models = 64; waveforms = 1024; rows = 1000 }
+atBounds = record { components = 8; pins = 512; selectors = 32; choices = 256; models = 64; waveforms = 1024 }
 
 -- the listing's file up to the end of its first section, with its line 11 and 12; and the whole, with its line 14 too
 abbrev pub firstSection : String → String → String
@@ -49,7 +49,7 @@ pub data Example : Type 0 where
   cell : String → Said Cell → Example
   -- a file of one line, with so many characters before its LF
   line : ℕ → Bytes → Example
-  -- a file, read with tables at their bounds and 1,000 rows
+  -- a file, checked for tables at their bounds
   file : String → Verdict → Example
 
 unfoldable pub answered : Example → Example

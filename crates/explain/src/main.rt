@@ -5,6 +5,7 @@ use program_output::tables::CHOICE_TABLE;
 use program_output::tables::COMPONENT_TABLE;
 use program_output::tables::MODEL_TABLE;
 use program_output::tables::PIN_TABLE;
+use program_output::tables::ROW_TABLE;
 use program_output::tables::SELECTOR_TABLE;
 use program_output::tables::WAVEFORM_TABLE;
 
@@ -15,7 +16,7 @@ fn print_file(name: &[u8], src: &[u8]) {
     let mut choices = [0u64; CHOICE_TABLE];
     let mut models = [0u64; MODEL_TABLE];
     let mut waveforms = [0u64; WAVEFORM_TABLE];
-    let mut rows = [0u64; 32768];
+    let mut rows = [0u64; ROW_TABLE];
     let answer = table_reader::read(
         src,
         &mut components,

@@ -26,7 +26,6 @@ fn is_surplus(src: &[u8], fault: Fault) -> bool {
         choices: MOST_CHOICES,
         models: MOST_MODELS,
         waveforms: MOST_WAVEFORMS,
-        rows: 8192,
     };
     let mut copy = program_output::file_buffer();
     let n = put_bytes(&mut copy, 0, src);

@@ -1,13 +1,16 @@
--- The sentence for each fault of document 01.
+-- The sentence for each fault of document 01, and of document 02.
 use Prim.Native.Nat.{ℕ}
 use mathlib.Core.List.{List, [], _∷_}
 use Rattle.laws.specs.Bytes.{bytes}
 use Rattle.fault_texts.specs.Texts.{textFor}
 
--- by the fault's number; the first is for every number that no fault has
+abbrev pub noSentence : List ℕ
+noSentence = bytes "No fault has this number."
+
+-- by the fault's number; the first is for every number that no fault has, and stands for those between too
 unfoldable pub sentences : List (List ℕ)
 sentences =
-    bytes "No fault has this number."
+    noSentence
     ∷ bytes "The file has more than 65,536 bytes."
     ∷ bytes "The line has a forbidden byte."
     ∷ bytes "The line is longer than 120 characters."
@@ -25,10 +28,14 @@ sentences =
     ∷ bytes "The model name is not found."
     ∷ bytes "The model or selector is not listed."
     ∷ bytes "A bound is passed."
-    ∷ bytes "The lent rows are too few."
+    ∷ noSentence
     ∷ bytes "There is no [End]."
     ∷ bytes "Vinl is not below Vinh."
     ∷ bytes "No keyword has this name."
+    ∷ noSentence
+    ∷ noSentence
+    ∷ noSentence
+    ∷ bytes "Fewer than 8,192 rows are lent."
     ∷ []
 
 unfoldable pub sentenceOf : ℕ → List ℕ

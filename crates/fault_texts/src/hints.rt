@@ -26,10 +26,14 @@ pub fn put_hint(out: &mut [u8], at: usize, number: u8) -> usize
         No model or selector is called so. Letter case counts. A selector's row names a model.\n\
         A model is named by a pin or a selector, a selector by a pin: name it there, or take the section out.\n\
         At most 8 components, 512 pins, 32 selectors, 256 selector rows, 64 models, 16 waveforms a model, 1,024 in all.\n\
-        The program lends a number of rows for all tables: lend more, or thin the tables out.\n\
+        Look at the line and at the keyword above it.\n\
         The file is cut off, or its last keyword is missing.\n\
         Look at Vinl and Vinh of this model. Where one is absent, Vinl is 0.8 and Vinh 2.0; in Input_ECL and I/O_ECL, Vinl is -1.475 and Vinh -1.165.\n\
         Look at the spelling: the standard has no such keyword.\n\
+        Look at the line and at the keyword above it.\n\
+        Look at the line and at the keyword above it.\n\
+        Look at the line and at the keyword above it.\n\
+        Lend 32,768 words of rows: no file has more rows than that.\n\
         ";
     put_text(out, at, hints, number)
 }

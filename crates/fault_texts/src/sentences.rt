@@ -1,4 +1,4 @@
-// The sentence for each fault, after document 01's list of faults.
+// The sentence for each fault, after document 01's list of faults and those of document 02.
 ghost use Rattle.text_buffer.specs.Put.{Put};
 ghost use Rattle.fault_texts.specs.Sentences.{sentenceOf};
 use crate::texts::put_text;
@@ -26,10 +26,14 @@ pub fn put_sentence(out: &mut [u8], at: usize, number: u8) -> usize
         The model name is not found.\n\
         The model or selector is not listed.\n\
         A bound is passed.\n\
-        The lent rows are too few.\n\
+        No fault has this number.\n\
         There is no [End].\n\
         Vinl is not below Vinh.\n\
         No keyword has this name.\n\
+        No fault has this number.\n\
+        No fault has this number.\n\
+        No fault has this number.\n\
+        Fewer than 8,192 rows are lent.\n\
         ";
     put_text(out, at, sentences, number)
 }

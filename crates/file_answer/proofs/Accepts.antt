@@ -1,20 +1,24 @@
 -- When a file is refused or accepted: what is then answered, and what the store then holds.
-use Prim.Native.Nat.{ℕ, zero-le}
+use Prim.Native.Nat.{ℕ, _≤_, _<_, zero-le}
 use mathlib.Core.Path.{_≡_, refl, sym, ap, _∙_, subst}
 use mathlib.Core.List.{List, map, reverse}
 use mathlib.Core.Option.{none, some}
 use native.Mathlib.Omega.{arith}
+use borrow.Author.Tests.{le-leb, lt-leb}
+use Rattle.laws.proofs.Tests.{cond-yes, cond-no}
 use Rattle.cut_lines.specs.Texts.{Text}
 use Rattle.cut_lines.specs.Cursors.{rest, past, firstCursor, Placed}
 use Rattle.cut_lines.specs.declared.Cursor.{Cursor}
-use Rattle.rules.specs.Reading.{FileIs, fileIn}
+use Rattle.rules.specs.Reading.{fileIn}
 use Rattle.layout.specs.Laid.{laid, countsOf}
 use Rattle.rules.specs.Outline.{is}
-use Rattle.rules.specs.Whole.{Held, Outcome, passed, refused, outcome, textsOf, lastChecks}
+use Rattle.rules.specs.Whole.{Held, Outcome, passed, refused, outcome, loading, textsOf, lastChecks}
 use Rattle.lines.specs.Lines.{bytesFault}
 use Rattle.records.specs.declared.Fault.{Fault}
 use Rattle.lines.specs.declared.Bytes.the-variants.{Clean}
+use Rattle.records.specs.Bounds.{mostRows}
 use Rattle.records.specs.declared.Lengths.{Lengths}
+use Rattle.records.specs.declared.Lending.{Lending}
 use Rattle.rules.specs.declared.Stage.the-variants.{BeforeVersion}
 use Rattle.notes.specs.Noted.{entryOf, heldOf, runLog, emptyLog, whole, clash}
 use Rattle.note_words.specs.Store.{notesTo, logIn}
@@ -27,8 +31,8 @@ use Rattle.file_answer.specs.declared.Scanned.{Scanned}
 use Rattle.file_answer.specs.declared.Ending.{Ending}
 use Rattle.file_answer.specs.declared.Ending.the-variants.{Whole, Broken}
 use Rattle.component_records.specs.Views.{headerLaid}
-use Rattle.file_answer.specs.Answered.{refusal, answerOf, answerFor, verdictOf}
-use Rattle.file_answer.specs.Sorted.{Sorted, SortedFor, Outlines, ReadWhole}
+use Rattle.file_answer.specs.Answered.{refusal, answerOf, answerIn, answerFor}
+use Rattle.file_answer.specs.Sorted.{Sorted, SortedFor, Outlines, LoadedFor, Loads, ReadWhole}
 use Rattle.records.specs.declared.Answer.{Answer}
 use Rattle.records.specs.declared.Verdict.the-variants.{Accepted}
 use Rattle.file_answer.proofs.Laws.{all-texts, used-twice, broken-off, read-through}
@@ -60,6 +64,7 @@ module _ (l : Lengths) (s xs : List ℕ) (t : Tally) (read : ReadWhole l s xs t)
   unfolding logIn noted
   sorted =
       record {
+        clean = read .clean;
         past = past s firstCursor;
         log = logOf s xs t;
         run = run;
@@ -102,12 +107,22 @@ module _ (l : Lengths) (s xs : List ℕ) (z : Scanned) (clean : bytesFault s ≡
         filed = kept .1;
       }
 
--- ---- the verdict of an answer
+-- ---- a file that is loaded
 
-verdict-for : (f : FileIs) (o : Outcome) → answerFor f o .verdict ≡ verdictOf o
-verdict-for f (passed h) = refl
-verdict-for f (refused n k c) = refl
+module _ (l : Lending) (s xs : List ℕ) (r : Answer) where
+  loads-as : (o : Outcome) → loading l s ≡ o → r ≡ answerFor (fileIn (textsOf s)) o → LoadedFor l s xs o → Loads l s r xs
+  unfolding answerIn
+  loads-as o is e kept = record { answer = e ∙ sym (ap (answerFor (fileIn (textsOf s))) is); sorted = subst (LoadedFor l s xs) (sym is) kept }
 
-pub verdict-is : (l : Lengths) (s : List ℕ) → answerOf l s .verdict ≡ verdictOf (outcome l s)
-unfolding answerOf
-verdict-is l s = verdict-for (fileIn (textsOf s)) (outcome l s)
+  pub too-few : l .rows < mostRows → r ≡ refusal (record { number = 25; line = 0; column = 0 }) → Loads l s r xs
+  unfolding loading
+  too-few few e = loads-as (refused 25 0 0) (cond-no _ _ (lt-leb mostRows (l .rows) few)) e tt
+
+  with-rows : mostRows ≤ l .rows → (o : Outcome) → SortedFor (l .tables) s xs o → LoadedFor l s xs o
+  with-rows enough (passed h) sorted = (sorted, enough)
+  with-rows enough (refused n k c) u = tt
+
+  pub loads : mostRows ≤ l .rows → Outlines (l .tables) s r xs → Loads l s r xs
+  unfolding loading answerOf
+  loads enough said =
+      loads-as (outcome (l .tables) s) (cond-yes _ _ (le-leb mostRows (l .rows) enough)) (said .answer) (with-rows enough (outcome (l .tables) s) (said .sorted))

@@ -6,8 +6,10 @@ use native.Mathlib.Omega.{arith}
 use lib.ListN.{length, length-map}
 use Rattle.rules.specs.Reading.{fileIn}
 use Rattle.layout.specs.Laid.{Laid, laid, countsOf}
+use Rattle.records.specs.Bounds.{mostRows}
 use Rattle.records.specs.Stored.{stored}
 use Rattle.rules.specs.Whole.{textsOf}
+use Rattle.room_for_rows.proofs.Laid.{laid-fit}
 use Rattle.records.specs.declared.Lengths.{Lengths}
 use Rattle.records.specs.declared.Kind.the-variants.{OfComponent, OfPin, OfSelector, OfChoice, OfModel}
 use Rattle.notes.specs.Noted.{Note}
@@ -83,5 +85,5 @@ module _ (l : Lengths) (s ns : List ℕ) (sorted : Sorted l s ns) where
   pub rows-made : file .rows ≡ rowsAt s ns (length (file .models))
   rows-made = lie .rows ∙ by-models rowsNoted
 
-  pub rows-fit : (rs : List ℕ) → l .rows ≡ length rs / 4 → length (stored (rowsAt s ns (length (file .models)))) ≤ length rs
-  rows-fit rs e = rw (sym rows-made) (omega (arith, stored-length (file .rows), fit .rows, e, whole-rows (length rs)))
+  pub rows-fit : (rs : List ℕ) → mostRows ≤ length rs / 4 → length (stored (rowsAt s ns (length (file .models)))) ≤ length rs
+  rows-fit rs e = rw (sym rows-made) (omega (arith, stored-length (file .rows), laid-fit s (sorted .clean), e, whole-rows (length rs)))

@@ -1,11 +1,10 @@
 -- A row's line in an open table changes the rows that were seen and the file's count of rows, and nothing else of where the reading stands.
-use Prim.Native.Nat.{ℕ, _+_, _<_, min}
+use Prim.Native.Nat.{ℕ, _+_, min}
 use mathlib.Core.Path.{_≡_, refl, sym, ap, ap₂, _∙_, subst}
 use mathlib.Core.List.{List, _∷_}
 use mathlib.Core.Bool.{Bool, cond}
 use native.Mathlib.Omega.{arith}
 use lib.Dec.{ltb, eqb}
-use borrow.Author.Tests.{lt-leb}
 use Rattle.laws.specs.Said.{says, fault}
 use Rattle.laws.specs.Lists.{part}
 use Rattle.laws.proofs.Tests.{by-test, cond-no, impossible}
@@ -73,24 +72,24 @@ module _ (m : ModelState) (table : RowsSeen → ModelList) (holds : HoldsRows ta
       ∙ row-line table (withModelList m (table r)) r k (says (y .0))
       ∙ ap (rowWent table (withModelList m (table r)) k) (ap (λ (x : Reads line.Row). rowStep r (toldIn w x)) (sym (y .1)) ∙ row .row)
 
-  row-runs : (l : Lengths) (s xs : List ℕ) (t : Tally) (p k c : ℕ) (ts : List Text) → c < l .rows
+  row-runs : (l : Lengths) (s xs : List ℕ) (t : Tally) (p k c : ℕ) (ts : List Text)
       → runLog l p (InModel (withModelList m (table r))) (logOf s xs (withRows t c)) (plain k w ∷ ts) ≡ runLog l p (InModel (withModelList m (table more))) (logOf s xs (withRows t (c + 1))) ts
   unfolding runLog logIn
-  row-runs l s xs t p k c ts h = rw (row-on k) rw (lt-leb (l .rows) c h) refl
+  row-runs l s xs t p k c ts = rw (row-on k) refl
 
 -- ---- rows of a table, passed one after another
 
-module _ (l : Lengths) (s : List ℕ) (c : Cursor) (r : RowsSeen) (n : ℕ) where
-  pub passed-none : Placed s c → PassedIs l s c r n (record { cursor = c; rows = r; count = n })
-  passed-none h = record { says = λ xs m table t holds. refl; placed = h; reached = λ k. k; from = omega arith; counted = omega arith }
+module _ (s : List ℕ) (c : Cursor) (r : RowsSeen) (n : ℕ) where
+  pub passed-none : Placed s c → PassedIs s c r n (record { cursor = c; rows = r; count = n })
+  passed-none h = record { says = λ l xs m table t holds. refl; placed = h; reached = λ k. k; from = omega arith; counted = omega arith }
 
-  pub passed-more : (d : Cursor) (rows more : RowsSeen) (count k a e : ℕ) (next : Cursor) → count < l .rows → TextIs s d k a e next → RowIs (part a e s) rows more
-      → PassedIs l s c r n (record { cursor = d; rows = rows; count = count }) → PassedIs l s c r n (record { cursor = next; rows = more; count = count + 1 })
-  passed-more d rows more count k a e next h b row p =
+  pub passed-more : (d : Cursor) (rows more : RowsSeen) (count k a e : ℕ) (next : Cursor) → TextIs s d k a e next → RowIs (part a e s) rows more
+      → PassedIs s c r n (record { cursor = d; rows = rows; count = count }) → PassedIs s c r n (record { cursor = next; rows = more; count = count + 1 })
+  passed-more d rows more count k a e next b row p =
       record {
-        says = λ xs m table t holds.
-            p .says xs m table t holds
-            ∙ (rw (b .more) (row-runs m table holds (part a e s) rows more row l s xs t (past s d) k count (rest s next) h))
+        says = λ l xs m table t holds.
+            p .says l xs m table t holds
+            ∙ (rw (b .more) (row-runs m table holds (part a e s) rows more row l s xs t (past s d) k count (rest s next)))
             ∙ ap (λ (f : ℕ). runLog l f (InModel (withModelList m (table more))) (logOf s xs (withRows t (count + 1))) (rest s next)) (b .goes .ends);
         placed = b .goes .placed;
         reached = λ k. reached-on s d next (b .goes) (p .reached k);
@@ -110,28 +109,28 @@ row-goes w count last x row z head tail number typ first more d e f g =
 
 -- ---- where the reading stands
 
-steady-behind : (l : Lengths) (s : List ℕ) (x : Standing) (m : ModelState) (list : ModelList) (r : RowsSeen) (p : Passed) → Steady s x → PassedIs l s (x .cursor) r (x .tally .counts .rows) p
+steady-behind : (s : List ℕ) (x : Standing) (m : ModelState) (list : ModelList) (r : RowsSeen) (p : Passed) → Steady s x → PassedIs s (x .cursor) r (x .tally .counts .rows) p
     → Steady s (standingAt m list (x .tally) p)
-steady-behind l s x m list r p h q =
+steady-behind s x m list r p h q =
     record {
       placed = q .placed;
       within = record { names = h .within .names; components = h .within .components; pins = h .within .pins; selectors = h .within .selectors; choices = h .within .choices; models = h .within .models; waveforms = h .within .waveforms };
       rows = omega (arith, q .counted, h .rows);
     }
 
-pub passes-table : (l : Lengths) (s : List ℕ) (x y : Standing) (m : ModelState) (table : RowsSeen → ModelList) (r : RowsSeen) (p : Passed) → HoldsRows table → x .stage ≡ InModel m → m .list ≡ table r
-    → Steady s x → PassedIs l s (x .cursor) r (x .tally .counts .rows) p → y ≡ standingAt m (table (p .rows)) (x .tally) p → PassesOn l s x y
-passes-table l s x y m table r p holds stage list h q e =
+pub passes-table : (s : List ℕ) (x y : Standing) (m : ModelState) (table : RowsSeen → ModelList) (r : RowsSeen) (p : Passed) → HoldsRows table → x .stage ≡ InModel m → m .list ≡ table r
+    → Steady s x → PassedIs s (x .cursor) r (x .tally .counts .rows) p → y ≡ standingAt m (table (p .rows)) (x .tally) p → PassesOn s x y
+passes-table s x y m table r p holds stage list h q e =
     let here : x ≡ inTable m table (x .tally) (record { cursor = x .cursor; rows = r; count = x .tally .counts .rows }) =
     (rw (sym list) rw (sym stage) refl) in
-    subst (PassesOn l s x) (sym e)
+    subst (PassesOn s x) (sym e)
     (record {
-      says = λ xs. ap (runFrom l s xs) here ∙ q .says xs m table (x .tally) holds;
-      steady = steady-behind l s x m (table (p .rows)) r p h q;
+      says = λ l xs. ap (runFrom l s xs) here ∙ q .says l xs m table (x .tally) holds;
+      steady = steady-behind s x m (table (p .rows)) r p h q;
       filed = λ xs f. filed-other xs (x .tally .names) (x .tally .counts) (x .tally .counts .waveforms) (p .count) f;
       reached = q .reached;
       from = q .from;
     })
 
-pub passes-none : (l : Lengths) (s : List ℕ) (x : Standing) → Steady s x → PassesOn l s x x
-passes-none l s x h = record { says = λ xs. refl; steady = h; filed = λ xs f. f; reached = λ k. k; from = omega arith }
+pub passes-none : (s : List ℕ) (x : Standing) → Steady s x → PassesOn s x x
+passes-none s x h = record { says = λ l xs. refl; steady = h; filed = λ xs f. f; reached = λ k. k; from = omega arith }

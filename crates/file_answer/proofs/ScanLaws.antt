@@ -82,7 +82,7 @@ numbered l g t ts (event.Opened o) = numbered-note l g _
 numbered l g t ts event.PinRow = numbered-note l g _
 numbered l g t ts event.ChoiceRow = numbered-note l g _
 numbered l g t ts event.WaveformOpened = numbered-cond (leb (min mostWaveforms (l .waveforms)) (g .counts .waveforms)) _ _ refl refl
-numbered l g t ts event.TableRow = numbered-cond (leb (l .rows) (g .counts .rows)) _ _ refl refl
+numbered l g t ts event.TableRow = refl
 numbered l g t ts (event.Ended f) = numbered-cond (eqb (g .counts .components) 0) _ _ refl (numbered-end _ g f)
 
 pub full-told : (l : Lengths) (s xs ys : List ℕ) (t : Tally) (p : Spot) (e : Event) (f : LineFault) (v : Tally) → loggedAt l s xs t p e ≡ toldIs s ys (p .line) (Full f v)

@@ -4,17 +4,14 @@ use mathlib.Core.List.{List, []}
 use Rattle.rules.specs.Reading.{FileIs, fileIn}
 use Rattle.layout.specs.Laid.{laid, countsOf}
 use Rattle.records.specs.Stored.{wordsLaid}
-use Rattle.rules.specs.Whole.{Outcome, passed, refused, outcome, textsOf}
+use Rattle.rules.specs.Whole.{Outcome, passed, refused, outcome, loading, textsOf}
 use Rattle.records.specs.declared.Fault.{Fault}
 use Rattle.records.specs.declared.Lengths.{Lengths}
+use Rattle.records.specs.declared.Lending.{Lending}
 use Rattle.notes.specs.Noted.{nothingUsed}
 use Rattle.records.specs.declared.Verdict.{Verdict}
 use Rattle.records.specs.declared.Verdict.the-variants.{Accepted, Refused}
 use Rattle.records.specs.declared.Answer.{Answer}
-
-abbrev pub verdictOf : Outcome → Verdict
-verdictOf (passed h) = Accepted
-verdictOf (refused n k c) = Refused (record { number = n; line = k; column = c })
 
 -- of a refused file nothing is told but the fault
 abbrev pub refusal : Fault → Answer
@@ -27,6 +24,10 @@ abbrev pub answerFor : FileIs → Outcome → Answer
 answerFor f (passed h) = acceptance f
 answerFor f (refused n k c) = refusal (record { number = n; line = k; column = c })
 
--- l are the lengths of the lent tables
+-- to a file that is checked; l are the lengths of the tables that would be lent
 unfoldable pub answerOf : Lengths → List ℕ → Answer
 answerOf l s = answerFor (fileIn (textsOf s)) (outcome l s)
+
+-- to a file that is loaded into what is lent
+unfoldable pub answerIn : Lending → List ℕ → Answer
+answerIn l s = answerFor (fileIn (textsOf s)) (loading l s)

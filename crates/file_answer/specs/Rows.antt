@@ -60,9 +60,9 @@ standingAt m list t p = record { stage = InModel (withModelList m list); cursor 
 abbrev pub inTable : ModelState → (RowsSeen → ModelList) → Tally → Passed → Standing
 inTable m table t p = standingAt m (table (p .rows)) t p
 
--- from behind the rows the lines say what they say from before them, in whatever table; every row has a byte
-pub record PassedIs (l : Lengths) (s : List ℕ) (c : Cursor) (r : RowsSeen) (n : ℕ) (p : Passed) : Type 0 where
-  pub says : (xs : List ℕ) (m : ModelState) (table : RowsSeen → ModelList) (t : Tally) → HoldsRows table
+-- from behind the rows the lines say what they say from before them, in whatever table and whatever is lent; every row has a byte
+pub record PassedIs (s : List ℕ) (c : Cursor) (r : RowsSeen) (n : ℕ) (p : Passed) : Type 0 where
+  pub says : (l : Lengths) (xs : List ℕ) (m : ModelState) (table : RowsSeen → ModelList) (t : Tally) → HoldsRows table
       → runFrom l s xs (inTable m table t (record { cursor = c; rows = r; count = n })) ≡ runFrom l s xs (inTable m table t p)
   pub placed : Placed s (p .cursor)
   pub reached : Reached s c → Reached s (p .cursor)
@@ -76,8 +76,8 @@ pub record Steady (s : List ℕ) (x : Standing) : Type 0 where
   pub within : Within (x .tally)
   pub rows : x .tally .counts .rows ≤ x .cursor .at
 
-pub record PassesOn (l : Lengths) (s : List ℕ) (x y : Standing) : Type 0 where
-  pub says : (xs : List ℕ) → runFrom l s xs x ≡ runFrom l s xs y
+pub record PassesOn (s : List ℕ) (x y : Standing) : Type 0 where
+  pub says : (l : Lengths) (xs : List ℕ) → runFrom l s xs x ≡ runFrom l s xs y
   pub steady : Steady s y
   pub filed : (xs : List ℕ) → FiledBy xs (x .tally) → FiledBy xs (y .tally)
   pub reached : Reached s (x .cursor) → Reached s (y .cursor)

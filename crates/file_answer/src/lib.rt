@@ -12,6 +12,7 @@ pub mod reading; // reading.rt: line after line, up to the first fault
 pub mod settling; // settling.rt: bytes, lines, names, last checks, one after the other
 
 pub use settling::check;
+pub use settling::loaded;
 pub use settling::outlined;
 
 // Behind rows of the open table: where the reading stands, and how many rows the file has up to there.

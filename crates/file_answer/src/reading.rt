@@ -125,7 +125,7 @@ fn behind_list(notes: &mut [u16], src: &[u8], l: Lengths, x: Standing) -> Standi
 {
     let stage = x.stage;
     if let Stage::InModel(_) = stage {
-        return behind_rows(src, l, x);
+        return behind_rows(src, x);
     }
     behind_pins(notes, src, l, x)
 }

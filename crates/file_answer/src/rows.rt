@@ -1,6 +1,7 @@
 // The rows of an open table, in a loop of their own: a row changes how many there are, the last number, and the first and the last typ, and nothing
-// else of where the reading stands. What is no row, or has no room, is left to the line's own step.
+// else of where the reading stands. What is no row is left to the line's own step.
 ghost use mathlib.Core.Path.{_≡_};
+ghost use Prim.Native.Nat.{_≤_};
 ghost use Rattle.cut_lines.specs.Cursors.{Placed};
 ghost use Rattle.file_answer.specs.Rows.{seenRows, RowIn, PassedIs, standingAt, Steady, PassesOn};
 use crate::Passed;
@@ -10,7 +11,6 @@ use cut_lines::Next;
 use decimal::Decimal;
 use line_cells::RowWords;
 use noted_events::Tally;
-use records::Lengths;
 use rules::ModelList;
 use rules::ModelState;
 use rules::RowsSeen;
@@ -50,11 +50,11 @@ fn passed(cursor: Cursor, seen: u64, last: Decimal, head: bool, tail: bool, coun
     }
 }
 
-// Passes the rows from a cursor on, as long as there is room; the file has n rows before it. What is seen of them stands in variables of its own:
-// one record of it all would be copied at every row.
-fn pass_rows(src: &[u8], l: Lengths, c: Cursor, r: RowsSeen, n: usize) -> Passed
-    requires { ⌜ Placed (now src) c ⌝ }
-    ensures { λ p. ⌜ PassedIs l (now (src .entry)) c r n p ⌝ }
+// Passes the rows from a cursor on; the file has n rows before it. What is seen of them stands in variables of its own: one record of it all would
+// be copied at every row.
+fn pass_rows(src: &[u8], c: Cursor, r: RowsSeen, n: usize) -> Passed
+    requires { ⌜ Placed (now src) c × (n ≤ c .at) ⌝ }
+    ensures { λ p. ⌜ PassedIs (now (src .entry)) c r n p ⌝ }
 {
     let mut d = c;
     let mut seen = r.count;
@@ -62,7 +62,7 @@ fn pass_rows(src: &[u8], l: Lengths, c: Cursor, r: RowsSeen, n: usize) -> Passed
     let mut head = r.head;
     let mut tail = r.tail;
     let mut count = n;
-    while count < l.rows {
+    loop {
         match cut_lines::next_text(src, d) {
             Next::Text {
                 line,
@@ -85,7 +85,6 @@ fn pass_rows(src: &[u8], l: Lengths, c: Cursor, r: RowsSeen, n: usize) -> Passed
             Next::Out { line } => return passed(d, seen, last, head, tail, count),
         }
     }
-    passed(d, seen, last, head, tail, count)
 }
 
 // The model's list is another, and rows of it are passed.
@@ -106,9 +105,9 @@ fn stands_behind(t: Tally, m: ModelState, list: ModelList, p: Passed) -> Standin
 }
 
 // Behind the rows of the table that is open; where none is, all stays.
-pub(crate) fn behind_rows(src: &[u8], l: Lengths, x: Standing) -> Standing
+pub(crate) fn behind_rows(src: &[u8], x: Standing) -> Standing
     requires { ⌜ Steady (now src) x ⌝ }
-    ensures { λ y. ⌜ PassesOn l (now (src .entry)) x y ⌝ }
+    ensures { λ y. ⌜ PassesOn (now (src .entry)) x y ⌝ }
 {
     let stage = x.stage;
     let Stage::InModel(m) = stage else {
@@ -120,7 +119,7 @@ pub(crate) fn behind_rows(src: &[u8], l: Lengths, x: Standing) -> Standing
     let list = m.list;
     match list {
         ModelList::CurrentRows { line, rows } => {
-            let p = pass_rows(src, l, cursor, rows, n);
+            let p = pass_rows(src, cursor, rows, n);
             let passed = p.rows;
             let behind = ModelList::CurrentRows {
                 line: line,
@@ -129,7 +128,7 @@ pub(crate) fn behind_rows(src: &[u8], l: Lengths, x: Standing) -> Standing
             stands_behind(tally, m, behind, p)
         }
         ModelList::WaveformRows { line, given, rows } => {
-            let p = pass_rows(src, l, cursor, rows, n);
+            let p = pass_rows(src, cursor, rows, n);
             let passed = p.rows;
             let behind = ModelList::WaveformRows {
                 line: line,

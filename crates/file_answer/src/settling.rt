@@ -5,11 +5,10 @@ ghost use lib.ListN.{length};
 ghost use Rattle.lines.specs.Lines.{bytesFault};
 ghost use Rattle.lines.specs.declared.Bytes.the-variants.{Clean};
 ghost use Rattle.cut_lines.specs.Cursors.{rest, firstCursor};
-ghost use Rattle.rules.specs.Whole.{outcome};
 ghost use Rattle.note_words.specs.Store.{storeLength};
 ghost use Rattle.component_records.specs.Views.{headerLaid};
-ghost use Rattle.file_answer.specs.Answered.{refusal, verdictOf};
-ghost use Rattle.file_answer.specs.Sorted.{Outlines, ReadWhole};
+ghost use Rattle.file_answer.specs.Answered.{refusal, answerOf};
+ghost use Rattle.file_answer.specs.Sorted.{Outlines, Loads, ReadWhole};
 ghost use Rattle.records.specs.declared.Verdict.the-variants.{Accepted};
 use crate::Ending;
 use crate::reading::scan;
@@ -23,7 +22,9 @@ use records::Answer;
 use records::Counts;
 use records::Fault;
 use records::Header;
+use records::Lending;
 use records::Lengths;
+use records::MOST_ROWS;
 use records::Verdict;
 
 fn refused(f: Fault) -> Answer
@@ -100,11 +101,25 @@ pub fn outlined(src: &[u8], l: Lengths, notes: &mut [u16]) -> Answer
     }
 }
 
-// Whether a file would be accepted, if tables of these lengths were lent; nothing is written.
-pub fn check(src: &[u8], l: Lengths) -> Verdict
-    ensures { λ r. ⌜ r ≡ verdictOf (outcome l (now (src .entry))) ⌝ }
+// The same for a file that is loaded: before it is looked at, as many rows must be lent as a file can have.
+pub fn loaded(src: &[u8], l: Lending, notes: &mut [u16]) -> Answer
+    requires { ⌜ storeLength ≤ length (now notes) ⌝ }
+    ensures { λ r. ⌜ Loads l (now (src .entry)) r (now (notes .exit)) ⌝ }
+{
+    if l.rows < MOST_ROWS {
+        return refused(Fault {
+            number: 25,
+            line: 0,
+            column: 0,
+        });
+    }
+    outlined(src, l.tables, notes)
+}
+
+// The answer to a file, were tables of these lengths lent. No row is kept: they are counted.
+pub fn check(src: &[u8], l: Lengths) -> Answer
+    ensures { λ r. ⌜ r ≡ answerOf l (now (src .entry)) ⌝ }
 {
     let mut notes = [0u16; STORE_LENGTH];
-    let a = outlined(src, l, &mut notes);
-    a.verdict
+    outlined(src, l, &mut notes)
 }

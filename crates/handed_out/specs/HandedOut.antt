@@ -3,7 +3,7 @@ use Prim.Native.Nat.{ℕ, _<_}
 use mathlib.Core.Path.{_≡_}
 use mathlib.Core.List.{List}
 use lib.ListN.{length, getD}
-use Rattle.rules.specs.Whole.{passed, outcome, textsOf}
+use Rattle.rules.specs.Whole.{passed, loading, textsOf}
 use Rattle.rules.specs.Reading.{fileIn}
 use Rattle.layout.specs.Laid.{Laid, laid}
 use Rattle.records.specs.declared.Answer.{Answer}
@@ -35,4 +35,4 @@ pub record HandedOut (a : Laid) (u : WordTables) : Type 0 where
 -- for every accepted file, whatever the tables held
 abbrev pub ReadIsHandedOut : Type 0
 ReadIsHandedOut =
-    (s : List ℕ) (t u : WordTables) (r : Answer) → AreBytes s → ReadInWords s t r u → (h : _) → outcome (roomIn t) s ≡ passed h → HandedOut (laid (fileIn (textsOf s))) u
+    (s : List ℕ) (t u : WordTables) (r : Answer) → AreBytes s → ReadInWords s t r u → (h : _) → loading (roomIn t) s ≡ passed h → HandedOut (laid (fileIn (textsOf s))) u

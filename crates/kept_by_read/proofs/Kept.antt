@@ -3,15 +3,15 @@ use Prim.Native.Nat.{ℕ}
 use mathlib.Core.Path.{_≡_, sym, ap, _∙_, refl, subst}
 use mathlib.Core.List.{List}
 use Rattle.laws.proofs.Tests.{impossible}
-use Rattle.rules.specs.Whole.{Outcome, passed, refused, outcome, textsOf}
+use Rattle.rules.specs.Whole.{Outcome, passed, refused, loading, textsOf}
 use Rattle.rules.specs.Reading.{FileIs, fileIn}
 use Rattle.layout.specs.Laid.{laid, countsOf}
 use Rattle.records.specs.declared.Answer.{Answer}
 use Rattle.records.specs.declared.Verdict.the-variants.{Accepted, Refused}
-use Rattle.file_answer.specs.Answered.{answerFor, answerOf}
+use Rattle.file_answer.specs.Answered.{answerFor, answerIn}
 use Rattle.tables_say.specs.Kept.{headerAnswered, Holds}
 use Rattle.tables_say.proofs.Kept.{kept-in-tables, over-holds}
-use Rattle.reader.specs.Promise.{Lent, lengthsIn, left, Reads}
+use Rattle.reader.specs.Promise.{Lent, lendingIn, left, Reads}
 use Rattle.kept_by_read.specs.Kept.{KeptByRead}
 
 abbrev read : List ℕ → FileIs
@@ -22,8 +22,8 @@ record Left (s : List ℕ) (r : Answer) (u : Lent) : Type 0 where
   counts : r .counts ≡ countsOf (laid (read s))
   holds : Holds u (laid (read s))
 
-left-by : (s : List ℕ) (a u : Lent) (r : Answer) (o : Outcome) → outcome (lengthsIn a) s ≡ o → Reads s a r u → r .verdict ≡ Accepted → Left s r u
-unfolding answerOf
+left-by : (s : List ℕ) (a u : Lent) (r : Answer) (o : Outcome) → loading (lendingIn a) s ≡ o → Reads s a r u → r .verdict ≡ Accepted → Left s r u
+unfolding answerIn
 left-by s a u r (passed h) e q v =
     let answer = q .answer ∙ ap (answerFor (read s)) e in
     record {
@@ -38,6 +38,6 @@ left-by s a u r (refused n k c) e q v =
 
 pub kept-by-read : KeptByRead
 kept-by-read s t a b u r p q v =
-    let f = left-by s a u r (outcome (lengthsIn a) s) refl p v in
-    let g = left-by t b u r (outcome (lengthsIn b) t) refl q v in
+    let f = left-by s a u r (loading (lendingIn a) s) refl p v in
+    let g = left-by t b u r (loading (lendingIn b) t) refl q v in
     kept-in-tables u (read s) (read t) (sym (f .header) ∙ g .header) (sym (f .counts) ∙ g .counts) (f .holds) (g .holds)

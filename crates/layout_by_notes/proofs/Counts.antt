@@ -44,7 +44,7 @@ Room l c (Opened Model) = used c OfModel < bound l OfModel
 Room l c PinRow = used c OfPin < bound l OfPin
 Room l c ChoiceRow = used c OfChoice < bound l OfChoice
 Room l c WaveformOpened = c .waveforms < min mostWaveforms (l .waveforms)
-Room l c TableRow = c .rows < l .rows
+Room l c TableRow = Unit {0}
 Room l c (Ended f) = Unit {0}
 
 -- what is logged is that log, if anything
@@ -65,7 +65,7 @@ module _ (P : Log → Type 0) (l : Lengths) (h : Log) where
   kept-after t ts PinRow p = kept-note _ p
   kept-after t ts ChoiceRow p = kept-note _ p
   kept-after t ts WaveformOpened p = cond-all (Kept P) _ _ _ (λ e. tt) (λ e. p (leb-false _ _ e))
-  kept-after t ts TableRow p = cond-all (Kept P) _ _ _ (λ e. tt) (λ e. p (leb-false _ _ e))
+  kept-after t ts TableRow p = p tt
   kept-after t ts (Ended f) p =
       let late : Logged = full f (lineOf t) h in
       cond-all (Kept P) (eqb (h .counts .components) 0) (full (bare 9) (lineOf t) h) (cond (eqb (f .number) 0) (going h) late)

@@ -84,7 +84,7 @@ pub record Lies (g : Log) (a : Laid) : Type 0 where
   pub rows : a .rows ≡ flatMap rowsNoted (noted OfModel g)
   pub counts : g .counts ≡ countsOf a
 
--- ---- no table is used beyond its bound, and none beyond what is lent
+-- ---- no table other than the rows is used beyond its bound, and none beyond what is lent
 
 pub record Bounded (l : Lengths) (c : Counts) : Type 0 where
   pub components : c .components ≤ bound l OfComponent
@@ -93,7 +93,6 @@ pub record Bounded (l : Lengths) (c : Counts) : Type 0 where
   pub choices : c .choices ≤ bound l OfChoice
   pub models : c .models ≤ bound l OfModel
   pub waveforms : c .waveforms ≤ min mostWaveforms (l .waveforms)
-  pub rows : c .rows ≤ l .rows
 
 pub record Fits (l : Lengths) (c : Counts) : Type 0 where
   pub components : c .components ≤ l .components
@@ -102,4 +101,3 @@ pub record Fits (l : Lengths) (c : Counts) : Type 0 where
   pub choices : c .choices ≤ l .choices
   pub models : c .models ≤ l .models
   pub waveforms : c .waveforms ≤ l .waveforms
-  pub rows : c .rows ≤ l .rows

@@ -39,13 +39,13 @@ twoModels = replicate 2 blankModel
 unfoldable pub oneWaveform : List Waveform
 oneWaveform = replicate 1 blankWaveform
 
--- seven rows and three words
+-- 8,192 rows and three words
 unfoldable pub manyWords : List ℕ
-manyWords = replicate 31 7
+manyWords = replicate 32771 7
 
--- six rows and three words
+-- 8,191 rows and three words
 unfoldable pub fewWords : List ℕ
-fewWords = replicate 27 7
+fewWords = replicate 32767 7
 
 -- ---- after
 abbrev pub enoughOf : Answer → List Component → List Pin → List Selector → List Choice → List Model → List Waveform → List ℕ → Enough

@@ -1,7 +1,8 @@
 // The reader by example: standard input is read into lent tables of odd lengths, then into the same with a row too few, and is checked
-// for one pin. Printed are the verdict, every pin record, and the words past the rows that are used: what is not used keeps what it held.
-// The pins of the first reading are then lent to a search.
+// for one pin. Printed are the verdict, every pin record, and how many words past the rows that are used keep what they held. The pins of the first
+// reading are then lent to a search.
 ghost use mathlib.Core.Path.{_≡_};
+ghost use Prim.Native.Nat.{_≤_};
 ghost use lib.ListN.{take};
 ghost use Rattle.lent_pins.specs.Search.{pinPlace};
 ghost use Rattle.lending.specs.Lent.{sparePin, oneComponent, threePins, noSelectors, noChoices, twoModels, oneWaveform, manyWords, fewWords, enoughOf, scantOf, ReadEnough, ReadScant};
@@ -19,7 +20,7 @@ use records::Selector;
 use records::Verdict;
 use records::Waveform;
 
-// An answer and the tables as they are left: seven rows, and three words that hold no row.
+// An answer and the tables as they are left: 8,192 rows, as loading asks for, and three words that hold no row.
 struct Enough {
     answer: Answer,
     components: [Component; 1],
@@ -28,10 +29,10 @@ struct Enough {
     choices: [Choice; 0],
     models: [Model; 2],
     waveforms: [Waveform; 1],
-    rows: [u64; 31],
+    rows: [u64; 32771],
 }
 
-// The same with six rows.
+// The same with a row less.
 struct Scant {
     answer: Answer,
     components: [Component; 1],
@@ -40,7 +41,7 @@ struct Scant {
     choices: [Choice; 0],
     models: [Model; 2],
     waveforms: [Waveform; 1],
-    rows: [u64; 27],
+    rows: [u64; 32767],
 }
 
 // ---- what the tables hold before they are lent
@@ -100,16 +101,16 @@ fn one_waveform() -> [Waveform; 1]
     [waveform; 1]
 }
 
-fn many_words() -> [u64; 31]
+fn many_words() -> [u64; 32771]
     ensures { λ r. ⌜ r ≡ manyWords ⌝ }
 {
-    [7; 31]
+    [7; 32771]
 }
 
-fn few_words() -> [u64; 27]
+fn few_words() -> [u64; 32767]
     ensures { λ r. ⌜ r ≡ fewWords ⌝ }
 {
-    [7; 27]
+    [7; 32767]
 }
 
 // ---- the readings
@@ -122,7 +123,7 @@ fn enough_of(
     choices: [Choice; 0],
     models: [Model; 2],
     waveforms: [Waveform; 1],
-    rows: [u64; 31],
+    rows: [u64; 32771],
 ) -> Enough
     ensures { λ r. ⌜ r ≡ enoughOf answer components pins selectors choices models waveforms rows ⌝ }
 {
@@ -178,7 +179,7 @@ fn scant_of(
     choices: [Choice; 0],
     models: [Model; 2],
     waveforms: [Waveform; 1],
-    rows: [u64; 27],
+    rows: [u64; 32767],
 ) -> Scant
     ensures { λ r. ⌜ r ≡ scantOf answer components pins selectors choices models waveforms rows ⌝ }
 {
@@ -264,18 +265,28 @@ fn print_pins(pins: [Pin; 3]) {
     }
 }
 
-// Each word past those of the rows that are used.
-fn print_words(rows: &[u64], used: usize) {
+// 1 for a word past those of the rows that are used that holds what it held.
+fn kept_at(word: u64, i: usize, used: usize) -> u64
+    ensures { λ r. ⌜ r ≤ 1 ⌝ }
+{
+    if used <= i / 4 && word == 7 { 1 } else { 0 }
+}
+
+fn words_kept(rows: &[u64], used: usize) -> u64 {
     let words = rows.len();
+    let mut kept: u64 = 0;
     for i in 0..words {
-        if used <= i / 4 {
-            let mut out = io::buffer();
-            let n = text_buffer::put_bytes(&mut out, 0, b"WORD ");
-            let m = text_buffer::put_number(&mut out, n, rows[i]);
-            let k = text_buffer::put_byte(&mut out, m, b'\n');
-            program_output::put_out(&out, k);
-        }
+        kept += kept_at(rows[i], i, used);
     }
+    kept
+}
+
+fn print_kept(rows: &[u64], used: usize) {
+    let mut out = io::buffer();
+    let n = text_buffer::put_bytes(&mut out, 0, b"KEPT ");
+    let m = text_buffer::put_number(&mut out, n, words_kept(rows, used));
+    let k = text_buffer::put_byte(&mut out, m, b'\n');
+    program_output::put_out(&out, k);
 }
 
 // A pin's place and its signal.
@@ -303,21 +314,19 @@ fn print_found(pins: [Pin; 3], f: Found) {
 }
 
 // The pin of that name, of the first component.
-fn print_pin_named(t: Enough, name: &[u8]) {
-    let components = t.components;
+fn print_pin_named(components: [Component; 1], pins: [Pin; 3], used: usize, name: &[u8]) {
     let component = components[0];
     let span = component.pins;
     let sought = Sought {
         pins: span,
         name: records::name_of(name),
     };
-    let pins = t.pins;
-    let f = find_pin(pins, t.answer.counts.pins, sought);
+    let f = find_pin(pins, used, sought);
     print_found(pins, f);
 }
 
-// The verdict alone, were one pin lent.
-fn print_check(src: &[u8], counts: Counts) {
+// The answer alone, were one pin lent.
+fn print_check(src: &[u8]) {
     let l = Lengths {
         components: 1,
         pins: 1,
@@ -325,23 +334,22 @@ fn print_check(src: &[u8], counts: Counts) {
         choices: 0,
         models: 2,
         waveforms: 1,
-        rows: 7,
     };
-    print_verdict(reader::check(src, l), counts);
+    print_answer(reader::check(src, l));
 }
 
 fn print_readings(src: &[u8]) {
     let t = read_enough(src);
     print_answer(t.answer);
     print_pins(t.pins);
-    print_words(&t.rows, t.answer.counts.rows);
-    print_pin_named(t, b"1");
-    print_pin_named(t, b"xxxxx");
+    print_kept(&t.rows, t.answer.counts.rows);
+    print_pin_named(t.components, t.pins, t.answer.counts.pins, b"1");
+    print_pin_named(t.components, t.pins, t.answer.counts.pins, b"xxxxx");
     let u = read_scant(src);
     print_answer(u.answer);
     print_pins(u.pins);
-    print_words(&u.rows, u.answer.counts.rows);
-    print_check(src, u.answer.counts);
+    print_kept(&u.rows, u.answer.counts.rows);
+    print_check(src);
 }
 
 fn main() {

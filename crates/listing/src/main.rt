@@ -1,10 +1,8 @@
-// Standard input is read into tables at document 01's bounds with 1,000 rows lent, and the listing is printed.
+// Standard input is checked for tables at document 01's bounds, no row is kept, and the listing is printed.
 use program_output::tables::CHOICE_TABLE;
-use program_output::tables::COMPONENT_TABLE;
 use program_output::tables::MODEL_TABLE;
 use program_output::tables::PIN_TABLE;
 use program_output::tables::SELECTOR_TABLE;
-use program_output::tables::WAVEFORM_TABLE;
 
 mod listing; // listing.rt: the counts and the pins of an accepted file
 
@@ -12,22 +10,16 @@ fn main() {
     let mut src = program_output::file_buffer();
     let n = io::read_full(0, &mut src);
     let mut out = io::large_buffer();
-    let mut components = [0u64; COMPONENT_TABLE];
     let mut pins = [0u64; PIN_TABLE];
     let mut selectors = [0u64; SELECTOR_TABLE];
     let mut choices = [0u64; CHOICE_TABLE];
     let mut models = [0u64; MODEL_TABLE];
-    let mut waveforms = [0u64; WAVEFORM_TABLE];
-    let mut rows = [0u64; 4000];
-    let answer = table_reader::read(
+    let answer = table_reader::list(
         &src[..n],
-        &mut components,
         &mut pins,
         &mut selectors,
         &mut choices,
         &mut models,
-        &mut waveforms,
-        &mut rows,
     );
     listing::print_answer(&mut out, answer, &pins, &selectors, &choices, &models);
 }

@@ -203,13 +203,9 @@ module _ (s xs : List ℕ) (l : Lengths) (t : Tally) (p : Spot) (ready : Ready s
 
   -- ---- table rows and the end
 
-  pub rows-full : l .rows ≤ t .counts .rows → loggedAt l s xs t p TableRow ≡ full (bare 18) (p .line) (logOf s xs t)
+  pub row-going : loggedAt l s xs t p TableRow ≡ going (logOf s xs (record { names = t .names; counts = moreRows (t .counts) }))
   unfolding logIn
-  rows-full h = rw (le-leb (l .rows) (t .counts .rows) h) refl
-
-  pub rows-going : t .counts .rows < l .rows → loggedAt l s xs t p TableRow ≡ going (logOf s xs (record { names = t .names; counts = moreRows (t .counts) }))
-  unfolding logIn
-  rows-going h = rw (lt-leb (l .rows) (t .counts .rows) h) refl
+  row-going = refl
 
   pub kept-row : KeptCounts xs t (record { names = t .names; counts = moreRows (t .counts) })
   kept-row =

@@ -186,9 +186,6 @@ fn count_row(src: &[u8], notes: &[u16], l: Lengths, t: Tally, p: Spot) -> Told
     ensures { λ r. ⌜ KeptBy (now (notes .entry)) t r ⌝ }
 {
     let c = t.counts;
-    if l.rows <= c.rows {
-        return no_room(18, t);
-    }
     let mut d = c;
     d.rows = c.rows + 1;
     Told::Going(Tally {

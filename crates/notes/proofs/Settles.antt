@@ -121,7 +121,7 @@ module _ (l : Lengths) (past : ℕ) where
   keeps-event g t ts go ih ChoiceRow = keeps-note g _ go ih
   keeps-event g t ts go ih WaveformOpened = λ k h.
       by-test (leb (min mostWaveforms (l .waveforms)) (g .counts .waveforms)) (λ u. rw u h) (λ u. rw u (ih _ k h))
-  keeps-event g t ts go ih TableRow = λ k h. by-test (leb (l .rows) (g .counts .rows)) (λ u. rw u h) (λ u. rw u (ih _ k h))
+  keeps-event g t ts go ih TableRow = λ k h. ih _ k h
   keeps-event g t ts go ih (Ended f) = λ k h.
       by-test (eqb (g .counts .components) 0) (λ u. rw u h) (λ u. by-test (eqb (f .number) 0) (λ v. rw (u, v) (ih g k h)) (λ v. rw (u, v) h))
 
@@ -153,8 +153,8 @@ module _ (l : Lengths) (past : ℕ) where
   abbrev grown : Log → Note → Log
   grown g n = record { notes = n ∷ g .notes; counts = oneMore (g .counts) (n .kind) }
 
-  held-grown : (g : Log) (n : Note) → record { entries = entryOf n ∷ entries g; waveforms = g .counts .waveforms; rows = g .counts .rows } ≡ heldOf (grown g n)
-  held-grown g n = rw (more-waveforms (g .counts) (n .kind)) rw (more-rows (g .counts) (n .kind)) refl
+  held-grown : (g : Log) (n : Note) → record { entries = entryOf n ∷ entries g; waveforms = g .counts .waveforms } ≡ heldOf (grown g n)
+  held-grown g n = rw (more-waveforms (g .counts) (n .kind)) refl
 
   settles-note : (g : Log) (n : Note) (go : Held → Outcome) (og : Log → Finish)
       → ((h : Log) → Keeps h (og h)) → ((h : Log) → Counted h → clash (entries h) ≡ none → Settles h (go (heldOf h)) (og h))
@@ -182,8 +182,7 @@ module _ (l : Lengths) (past : ℕ) where
       by-test (leb (min mostWaveforms (l .waveforms)) (g .counts .waveforms)) (λ u. rw u rw n refl)
       (λ u. rw u (ih (record { notes = g .notes; counts = moreWaveforms (g .counts) }) (λ k. waveform-used (g .counts) k ∙ c k) n))
   settles-event g t ts go og kept ih c n TableRow =
-      by-test (leb (l .rows) (g .counts .rows)) (λ u. rw u rw n refl)
-      (λ u. rw u (ih (record { notes = g .notes; counts = moreRows (g .counts) }) (λ k. row-used (g .counts) k ∙ c k) n))
+      ih (record { notes = g .notes; counts = moreRows (g .counts) }) (λ k. row-used (g .counts) k ∙ c k) n
   settles-event g t ts go og kept ih c n (Ended f) =
       by-test (eqb (g .counts .components) 0) (λ u. rw (sym (c OfComponent)) rw u rw n refl)
       (λ u. by-test (eqb (f .number) 0) (λ v. rw (sym (c OfComponent)) rw (u, v) (ih g c n)) (λ v. rw (sym (c OfComponent)) rw (u, v) rw n refl))

@@ -83,7 +83,7 @@ abbrev pub emptyLog : Log
 emptyLog = record { notes = []; counts = nothingUsed }
 
 abbrev pub heldOf : Log → Held
-heldOf g = record { entries = map entryOf (g .notes); waveforms = g .counts .waveforms; rows = g .counts .rows }
+heldOf g = record { entries = map entryOf (g .notes); waveforms = g .counts .waveforms }
 
 -- ---- the note of a line: k its number, w its text or its argument, ts the texts behind it
 
@@ -120,9 +120,7 @@ logged l g t ts ChoiceRow = withNote l g (rowNote OfChoice (lineOf t) 0 (textOf 
 logged l g t ts WaveformOpened =
     cond (leb (min mostWaveforms (l .waveforms)) (g .counts .waveforms)) (full (bare 17) (lineOf t) g)
     (going (record { notes = g .notes; counts = moreWaveforms (g .counts) }))
-logged l g t ts TableRow =
-    cond (leb (l .rows) (g .counts .rows)) (full (bare 18) (lineOf t) g)
-    (going (record { notes = g .notes; counts = moreRows (g .counts) }))
+logged l g t ts TableRow = going (record { notes = g .notes; counts = moreRows (g .counts) })
 logged l g t ts (Ended f) =
     cond (eqb (g .counts .components) 0) (full (bare 9) (lineOf t) g)
     (cond (eqb (f .number) 0) (going g) (full f (lineOf t) g))

@@ -4,10 +4,10 @@ use mathlib.Core.Path.{_≡_}
 use mathlib.Core.List.{List, _++_}
 use Rattle.rules.specs.Reading.{fileIn}
 use Rattle.layout.specs.Laid.{laid}
-use Rattle.rules.specs.Whole.{outcome, textsOf}
+use Rattle.rules.specs.Whole.{loading, textsOf}
 use Rattle.records.specs.Stored.{rowWords}
 use Rattle.records.specs.declared.Lengths.{Lengths}
-use Rattle.file_answer.specs.Answered.{answerOf}
+use Rattle.file_answer.specs.Answered.{answerIn}
 use Rattle.name_table.specs.declared.Found.{Found}
 use Rattle.name_table.specs.declared.Found.the-variants.{At, Nothing}
 use Rattle.record_words.specs.Records.{tripleWords}
@@ -17,18 +17,19 @@ use Rattle.table_records.specs.declared.StoredRow.{StoredRow}
 use Rattle.table_records.specs.declared.StoredRow.the-variants.{Kept, NoRow}
 use Rattle.questions.specs.declared.PinValues.{PinValues}
 
--- the version of the records, as the header tells it: the first had models without their capacitance by structure, the second answers without column
+-- the version of the records, as the header tells it: the first had models without their capacitance by structure, the second answers without column, in
+-- the third a check asked for rows and told the fault alone
 abbrev pub version : ℕ
-version = 3
+version = 4
 
-abbrev pub lengthsAre : ℕ → ℕ → ℕ → ℕ → ℕ → ℕ → ℕ → Lengths
-lengthsAre c p s h m w r = record { components = c; pins = p; selectors = s; choices = h; models = m; waveforms = w; rows = r }
+abbrev pub lengthsAre : ℕ → ℕ → ℕ → ℕ → ℕ → ℕ → Lengths
+lengthsAre c p s h m w = record { components = c; pins = p; selectors = s; choices = h; models = m; waveforms = w }
 
 -- file s is read into tables t: n and the words of the answer are told, and the tables then are u
 pub record Exports (s : List ℕ) (t : WordTables) (n : ℕ) (answer : List ℕ) (u : WordTables) : Type 0 where
-  pub number : n ≡ faultNumber (answerOf (roomIn t) s .verdict)
-  pub words : answer ≡ answerWords (answerOf (roomIn t) s)
-  pub tables : u ≡ wordsLeft (outcome (roomIn t) s) (laid (fileIn (textsOf s))) t
+  pub number : n ≡ faultNumber (answerIn (roomIn t) s .verdict)
+  pub words : answer ≡ answerWords (answerIn (roomIn t) s)
+  pub tables : u ≡ wordsLeft (loading (roomIn t) s) (laid (fileIn (textsOf s))) t
 
 -- ---- what is asked of filled tables
 

@@ -1,8 +1,7 @@
 // The reader for C: functions over bytes and numbers. A table is a slice of words, its records one after the other.
 ghost use mathlib.Core.Path.{_≡_};
-ghost use Rattle.rules.specs.Whole.{outcome};
-ghost use Rattle.file_answer.specs.Answered.{verdictOf};
-ghost use Rattle.table_words.specs.Packed.{faultNumber, faultLine, faultColumn, wordTables};
+ghost use Rattle.file_answer.specs.Answered.{answerOf};
+ghost use Rattle.table_words.specs.Packed.{faultNumber, answerWords, wordTables};
 ghost use Rattle.olhovest.specs.Exported.{version, lengthsAre, Exports};
 use record_words::ANSWER_WORDS;
 use records::Lengths;
@@ -16,9 +15,8 @@ fn lengths_are(
     choices: usize,
     models: usize,
     waveforms: usize,
-    rows: usize,
 ) -> Lengths
-    ensures { λ r. ⌜ r ≡ lengthsAre components pins selectors choices models waveforms rows ⌝ }
+    ensures { λ r. ⌜ r ≡ lengthsAre components pins selectors choices models waveforms ⌝ }
 {
     Lengths {
         components: components,
@@ -27,22 +25,21 @@ fn lengths_are(
         choices: choices,
         models: models,
         waveforms: waveforms,
-        rows: rows,
     }
 }
 
-// The version of the records. A function over records that moved, or that takes something more, has the version that moved it in its name, so that
+// The version of the records. A function over records that moved, or that takes something else, has the version that moved it in its name, so that
 // a program compiled for another does not link.
 #[no_mangle]
 pub extern "C" fn olhovest_version() -> u64
     ensures { λ r. ⌜ r ≡ version ⌝ }
 {
-    3
+    4
 }
 
-// Whether a file would be accepted, if tables of these many records were lent.
+// The answer to a file, were tables of these many records lent. No row is kept.
 #[no_mangle]
-pub extern "C" fn olhovest_check_3(
+pub extern "C" fn olhovest_check_4(
     src: &[u8],
     components: usize,
     pins: usize,
@@ -50,26 +47,15 @@ pub extern "C" fn olhovest_check_3(
     choices: usize,
     models: usize,
     waveforms: usize,
-    rows: usize,
-    line: &mut u64,
-    column: &mut u64,
+    answer: &mut [u64; ANSWER_WORDS],
 ) -> u8
-    ensures { λ r. ⌜ r ≡ faultNumber (verdictOf (outcome (lengthsAre components pins selectors choices models waveforms rows) (now (src .entry)))) ⌝ }
-    ensures { λ _. ⌜ now (line .exit) ≡ faultLine (verdictOf (outcome (lengthsAre components pins selectors choices models waveforms rows) (now (src .entry)))) ⌝ }
-    ensures { λ _. ⌜ now (column .exit) ≡ faultColumn (verdictOf (outcome (lengthsAre components pins selectors choices models waveforms rows) (now (src .entry)))) ⌝ }
+    ensures { λ r. ⌜ r ≡ faultNumber (answerOf (lengthsAre components pins selectors choices models waveforms) (now (src .entry)) .verdict) ⌝ }
+    ensures { λ _. ⌜ now (answer .exit) ≡ answerWords (answerOf (lengthsAre components pins selectors choices models waveforms) (now (src .entry))) ⌝ }
 {
-    let l = lengths_are(
-        components,
-        pins,
-        selectors,
-        choices,
-        models,
-        waveforms,
-        rows,
-    );
-    let v = file_answer::check(src, l);
-    *line = table_words::fault_line(v);
-    *column = table_words::fault_column(v);
+    let l = lengths_are(components, pins, selectors, choices, models, waveforms);
+    let a = file_answer::check(src, l);
+    table_words::put_answer(answer, a);
+    let v = a.verdict;
     table_words::fault_number(v)
 }
 

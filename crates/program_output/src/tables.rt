@@ -7,12 +7,14 @@ use record_words::CHOICE_WORDS;
 use record_words::COMPONENT_WORDS;
 use record_words::MODEL_WORDS;
 use record_words::PIN_WORDS;
+use record_words::ROW_WORDS;
 use record_words::SELECTOR_WORDS;
 use record_words::WAVEFORM_WORDS;
 use records::MOST_CHOICES;
 use records::MOST_COMPONENTS;
 use records::MOST_MODELS;
 use records::MOST_PINS;
+use records::MOST_ROWS;
 use records::MOST_SELECTORS;
 use records::MOST_WAVEFORMS;
 use records::Span;
@@ -30,6 +32,9 @@ pub const CHOICE_TABLE: usize = MOST_CHOICES * CHOICE_WORDS;
 pub const MODEL_TABLE: usize = MOST_MODELS * MODEL_WORDS;
 
 pub const WAVEFORM_TABLE: usize = MOST_WAVEFORMS * WAVEFORM_WORDS;
+
+// As many rows as loading asks for.
+pub const ROW_TABLE: usize = MOST_ROWS * ROW_WORDS;
 
 // ---- parts of tables: a record has `size` words
 

@@ -8,9 +8,10 @@ use lib.ListN.{length, replicate, length-replicate}
 use Rattle.table_walks.specs.Filled.{filledTo}
 use Rattle.rules.specs.Reading.{fileIn}
 use Rattle.layout.specs.Laid.{tables, countsOf}
+use Rattle.records.specs.Bounds.{mostRows}
 use Rattle.records.specs.Stored.{stored, over}
-use Rattle.rules.specs.Whole.{Outcome, passed, refused, outcome, textsOf}
-use Rattle.records.specs.declared.Lengths.{Lengths}
+use Rattle.rules.specs.Whole.{Outcome, passed, refused, loading, textsOf}
+use Rattle.records.specs.declared.Lending.{Lending}
 use Rattle.records.specs.declared.Component.{Component}
 use Rattle.records.specs.declared.Pin.{Pin}
 use Rattle.records.specs.declared.Selector.{Selector}
@@ -21,10 +22,10 @@ use Rattle.records.specs.declared.Counts.{Counts}
 use Rattle.notes.specs.Noted.{nothingUsed}
 use Rattle.note_words.specs.Store.{storeLength}
 use Rattle.from_notes.specs.Made.{componentAt, pinAt, selectorAt, choiceAt, modelAt, joinedTo, waveformsAt, rowsAt}
-use Rattle.file_answer.specs.Answered.{answerFor, answerOf}
-use Rattle.file_answer.specs.Sorted.{Sorted, SortedFor, Outlines}
+use Rattle.file_answer.specs.Answered.{answerFor, answerIn}
+use Rattle.file_answer.specs.Sorted.{Sorted, LoadedFor, Loads}
 use Rattle.records.specs.declared.Answer.{Answer}
-use Rattle.reader.specs.Promise.{lengthsIn, Read}
+use Rattle.reader.specs.Promise.{lendingIn, Read}
 use Rattle.reader.specs.Filling.{ModelsFit, ModelsFilled, blankNotes}
 use Rattle.file_answer.proofs.Made.{file, fit, components-made, pins-made, selectors-made, choices-made, models-made, waveforms-made, rows-made, rows-fit}
 use Rattle.reader.proofs.Tables.{over-filled}
@@ -47,19 +48,19 @@ unfolding joinedTo stored over
 none-rows s ns rs = refl
 
 module _ (s : List ℕ) (cs : List Component) (ps : List Pin) (ss : List Selector) (hs : List Choice) (ms : List Model) (ws : List Waveform) (rs : List ℕ) where
-  abbrev l : Lengths
-  l = lengthsIn (tables cs ps ss hs ms ws rs)
+  abbrev l : Lending
+  l = lendingIn (tables cs ps ss hs ms ws rs)
 
   -- ---- an accepted file
 
-  module _ (ns : List ℕ) (sorted : Sorted l s ns) where
-    fits-whole : FitsBy s ns (countsOf (file l s ns sorted)) cs ps ss hs ms ws rs
+  module _ (ns : List ℕ) (sorted : Sorted (l .tables) s ns) (enough : mostRows ≤ l .rows) where
+    fits-whole : FitsBy s ns (countsOf (file (l .tables) s ns sorted)) cs ps ss hs ms ws rs
     fits-whole =
-        let f = fit l s ns sorted in
-        (f .components, (f .pins, (f .selectors, (f .choices, record { models = f .models; waveforms = omega (arith, f .waveforms, ap length (waveforms-made l s ns sorted)); rows = rows-fit l s ns sorted rs refl }))))
+        let f = fit (l .tables) s ns sorted in
+        (f .components, (f .pins, (f .selectors, (f .choices, record { models = f .models; waveforms = omega (arith, f .waveforms, ap length (waveforms-made (l .tables) s ns sorted)); rows = rows-fit (l .tables) s ns sorted rs enough }))))
 
-  fits-for : (ns : List ℕ) (o : Outcome) → SortedFor l s ns o → FitsBy s ns (answerFor (fileIn (textsOf s)) o .counts) cs ps ss hs ms ws rs
-  fits-for ns (passed h) sorted = fits-whole ns sorted
+  fits-for : (ns : List ℕ) (o : Outcome) → LoadedFor l s ns o → FitsBy s ns (answerFor (fileIn (textsOf s)) o .counts) cs ps ss hs ms ws rs
+  fits-for ns (passed h) loaded = fits-whole ns (loaded .0) (loaded .1)
   fits-for ns (refused n k c) u = (zero-le, (zero-le, (zero-le, (zero-le, none-fit s ns ms ws rs))))
 
   abbrev LeftBy : List ℕ → Answer → Type 0
@@ -67,40 +68,40 @@ module _ (s : List ℕ) (cs : List Component) (ps : List Pin) (ss : List Selecto
       Read s cs ps ss hs ms ws rs a (filledTo (λ k. componentAt s n k) (a .counts .components) cs) (filledTo (λ k. pinAt s n k) (a .counts .pins) ps) (filledTo (λ k. selectorAt s n k) (a .counts .selectors) ss)
       (filledTo (λ k. choiceAt s n k) (a .counts .choices) hs) (filledTo (λ k. modelAt s n k) (a .counts .models) ms) (over ws (waveformsAt s n (a .counts .models))) (over rs (stored (rowsAt s n (a .counts .models))))
 
-  left-whole : (ns : List ℕ) (h : _) → outcome l s ≡ passed h → Sorted l s ns → LeftBy ns (answerOf l s)
-  unfolding answerOf
+  left-whole : (ns : List ℕ) (h : _) → loading l s ≡ passed h → Sorted (l .tables) s ns → LeftBy ns (answerIn l s)
+  unfolding answerIn
   left-whole ns h is sorted =
-      let f = fit l s ns sorted in
+      let f = fit (l .tables) s ns sorted in
       rw is
       record {
         answer = sym (ap (answerFor (fileIn (textsOf s))) is);
         tables =
             rw is
-            rw (over-filled (componentAt s ns) _ cs (components-made l s ns sorted) (f .components))
-            rw (over-filled (pinAt s ns) _ ps (pins-made l s ns sorted) (f .pins))
-            rw (over-filled (selectorAt s ns) _ ss (selectors-made l s ns sorted) (f .selectors))
-            rw (over-filled (choiceAt s ns) _ hs (choices-made l s ns sorted) (f .choices))
-            rw (over-filled (modelAt s ns) _ ms (models-made l s ns sorted) (f .models))
-            rw (waveforms-made l s ns sorted)
-            rw (rows-made l s ns sorted) refl;
+            rw (over-filled (componentAt s ns) _ cs (components-made (l .tables) s ns sorted) (f .components))
+            rw (over-filled (pinAt s ns) _ ps (pins-made (l .tables) s ns sorted) (f .pins))
+            rw (over-filled (selectorAt s ns) _ ss (selectors-made (l .tables) s ns sorted) (f .selectors))
+            rw (over-filled (choiceAt s ns) _ hs (choices-made (l .tables) s ns sorted) (f .choices))
+            rw (over-filled (modelAt s ns) _ ms (models-made (l .tables) s ns sorted) (f .models))
+            rw (waveforms-made (l .tables) s ns sorted)
+            rw (rows-made (l .tables) s ns sorted) refl;
       }
 
-  left-none : (ns : List ℕ) (n k c : ℕ) → outcome l s ≡ refused n k c → LeftBy ns (answerOf l s)
-  unfolding answerOf
+  left-none : (ns : List ℕ) (n k c : ℕ) → loading l s ≡ refused n k c → LeftBy ns (answerIn l s)
+  unfolding answerIn
   left-none ns n k c is =
       rw is record { answer = sym (ap (answerFor (fileIn (textsOf s))) is); tables = rw is rw (none-waveforms s ns ws) rw (none-rows s ns rs) refl }
 
-  left-for : (ns : List ℕ) (o : Outcome) → outcome l s ≡ o → SortedFor l s ns o → LeftBy ns (answerOf l s)
-  left-for ns (passed h) is sorted = left-whole ns h is sorted
+  left-for : (ns : List ℕ) (o : Outcome) → loading l s ≡ o → LoadedFor l s ns o → LeftBy ns (answerIn l s)
+  left-for ns (passed h) is loaded = left-whole ns h is (loaded .0)
   left-for ns (refused n k c) is u = left-none ns n k c is
 
-  module _ (r : Answer) (ns : List ℕ) (said : Outlines l s r ns) where
+  module _ (r : Answer) (ns : List ℕ) (said : Loads l s r ns) where
     pub fits : FitsBy s ns (r .counts) cs ps ss hs ms ws rs
-    unfolding answerOf
-    fits = subst (λ (z : Answer). FitsBy s ns (z .counts) cs ps ss hs ms ws rs) (sym (said .answer)) (fits-for ns (outcome l s) (said .sorted))
+    unfolding answerIn
+    fits = subst (λ (z : Answer). FitsBy s ns (z .counts) cs ps ss hs ms ws rs) (sym (said .answer)) (fits-for ns (loading l s) (said .sorted))
 
     finished : LeftBy ns r
-    finished = subst (LeftBy ns) (sym (said .answer)) (left-for ns (outcome l s) refl (said .sorted))
+    finished = subst (LeftBy ns) (sym (said .answer)) (left-for ns (loading l s) refl (said .sorted))
 
     pub finishes : (ms′ : List Model) (ws′ : List Waveform) (rs′ : List ℕ) → ModelsFilled s ns (r .counts) ms ws rs ms′ ws′ rs′
         → Read s cs ps ss hs ms ws rs r (filledTo (λ k. componentAt s ns k) (r .counts .components) cs) (filledTo (λ k. pinAt s ns k) (r .counts .pins) ps) (filledTo (λ k. selectorAt s ns k) (r .counts .selectors) ss)

@@ -6,11 +6,11 @@ use lib.ListN.{length, drop}
 use Rattle.rules.specs.Reading.{fileIn}
 use Rattle.layout.specs.Laid.{Laid, laid, countsOf}
 use Rattle.records.specs.Stored.{over}
-use Rattle.rules.specs.Whole.{Held, passed, refused, outcome, textsOf}
-use Rattle.file_answer.specs.Answered.{answerFor, answerOf}
+use Rattle.rules.specs.Whole.{Held, passed, refused, loading, textsOf}
+use Rattle.file_answer.specs.Answered.{answerFor, answerIn}
 use Rattle.records.specs.declared.Answer.{Answer}
 use Rattle.records.specs.declared.Verdict.the-variants.{Accepted, Refused}
-use Rattle.reader.specs.Promise.{Lent, lengthsIn, left, Reads}
+use Rattle.reader.specs.Promise.{Lent, lendingIn, left, Reads}
 
 pub one-answer : (s : List ℕ) (t : Lent) (r p : Answer) (u v : Lent) → Reads s t r u → Reads s t p v → r ≡ p
 one-answer s t r p u v a b = a .answer ∙ sym (b .answer)
@@ -24,22 +24,22 @@ module _ (s : List ℕ) (t : Lent) (r : Answer) (u : Lent) (reads : Reads s t r 
   file = laid (fileIn (textsOf s))
 
   -- a file with a fault is refused, with that fault, and nothing is written
-  module _ (n k c : ℕ) (is : outcome (lengthsIn t) s ≡ refused n k c) where
+  module _ (n k c : ℕ) (is : loading (lendingIn t) s ≡ refused n k c) where
     pub refuses-it : r .verdict ≡ Refused (record { number = n; line = k; column = c })
-    unfolding answerOf
+    unfolding answerIn
     refuses-it = ap (λ (a : Answer). a .verdict) (reads .answer ∙ ap (answerFor (fileIn (textsOf s))) is)
 
     pub leaves-it : u ≡ t
     leaves-it = reads .tables ∙ ap (λ o. left o file t) is
 
   -- a file without a fault is accepted, as many of each are counted as the file has, and every model of the file lies in its table
-  module _ (h : Held) (is : outcome (lengthsIn t) s ≡ passed h) where
+  module _ (h : Held) (is : loading (lendingIn t) s ≡ passed h) where
     pub accepts-it : r .verdict ≡ Accepted
-    unfolding answerOf
+    unfolding answerIn
     accepts-it = ap (λ (a : Answer). a .verdict) (reads .answer ∙ ap (answerFor (fileIn (textsOf s))) is)
 
     pub counts-all : r .counts ≡ countsOf file
-    unfolding answerOf
+    unfolding answerIn
     counts-all = ap (λ (a : Answer). a .counts) (reads .answer ∙ ap (answerFor (fileIn (textsOf s))) is)
 
     pub writes-all : u .models ≡ file .models ++ drop (length (file .models)) (t .models)

@@ -6,15 +6,15 @@ use lib.ListN.{length}
 use Rattle.rules.specs.Reading.{fileIn}
 use Rattle.layout.specs.Laid.{Tables, tables, Laid, laid}
 use Rattle.records.specs.Stored.{stored, over}
-use Rattle.rules.specs.Whole.{Outcome, passed, refused, outcome, textsOf}
-use Rattle.records.specs.declared.Lengths.{Lengths}
+use Rattle.rules.specs.Whole.{Outcome, passed, refused, loading, textsOf}
+use Rattle.records.specs.declared.Lending.{Lending}
 use Rattle.records.specs.declared.Component.{Component}
 use Rattle.records.specs.declared.Pin.{Pin}
 use Rattle.records.specs.declared.Selector.{Selector}
 use Rattle.records.specs.declared.Choice.{Choice}
 use Rattle.records.specs.declared.Model.{Model}
 use Rattle.records.specs.declared.Waveform.{Waveform}
-use Rattle.file_answer.specs.Answered.{answerOf}
+use Rattle.file_answer.specs.Answered.{answerIn}
 use Rattle.records.specs.declared.Answer.{Answer}
 
 -- the lent tables, with all that lies in them; of the rows, four words each
@@ -22,12 +22,12 @@ abbrev pub Lent : Type 0
 Lent = Tables ℕ
 
 -- of the row store, as many rows are lent as whole groups of four words
-abbrev pub lengthsOf : ℕ → ℕ → ℕ → ℕ → ℕ → ℕ → ℕ → Lengths
-lengthsOf c p s h m w r = record { components = c; pins = p; selectors = s; choices = h; models = m; waveforms = w; rows = r / 4 }
+abbrev pub lendingOf : ℕ → ℕ → ℕ → ℕ → ℕ → ℕ → ℕ → Lending
+lendingOf c p s h m w r = record { tables = record { components = c; pins = p; selectors = s; choices = h; models = m; waveforms = w }; rows = r / 4 }
 
-abbrev pub lengthsIn : Lent → Lengths
-lengthsIn t =
-    lengthsOf (length (t .components)) (length (t .pins)) (length (t .selectors)) (length (t .choices)) (length (t .models)) (length (t .waveforms)) (length (t .rows))
+abbrev pub lendingIn : Lent → Lending
+lendingIn t =
+    lendingOf (length (t .components)) (length (t .pins)) (length (t .selectors)) (length (t .choices)) (length (t .models)) (length (t .waveforms)) (length (t .rows))
 
 -- an accepted file is laid over what the tables held; demand 1: "after a fault, the lent tables hold what they held before"
 abbrev pub left : Outcome → Laid → Lent → Lent
@@ -38,8 +38,8 @@ left (refused n k c) a t = t
 
 -- file s is read into tables t: r is answered, and the tables then are u
 pub record Reads (s : List ℕ) (t : Lent) (r : Answer) (u : Lent) : Type 0 where
-  pub answer : r ≡ answerOf (lengthsIn t) s
-  pub tables : u ≡ left (outcome (lengthsIn t) s) (laid (fileIn (textsOf s))) t
+  pub answer : r ≡ answerIn (lendingIn t) s
+  pub tables : u ≡ left (loading (lendingIn t) s) (laid (fileIn (textsOf s))) t
 
 -- the same, the tables one by one: as they were lent, and as they are left
 abbrev pub Read : List ℕ → List Component → List Pin → List Selector → List Choice → List Model → List Waveform → List ℕ

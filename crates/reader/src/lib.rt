@@ -5,20 +5,21 @@ ghost use lib.ListN.{length, set};
 ghost use Rattle.table_walks.specs.Filled.{filledTo};
 ghost use Rattle.from_notes.specs.Made.{componentAt, pinAt, selectorAt, choiceAt};
 ghost use Rattle.reader.specs.Filling.{ModelsFit, ModelsFilled};
-ghost use Rattle.reader.specs.Promise.{lengthsOf, Read};
+ghost use Rattle.reader.specs.Promise.{lendingOf, Read};
 pub use file_answer::check;
 use note_words::STORE_LENGTH;
 use records::Answer;
 use records::Choice;
 use records::Component;
 use records::Counts;
+use records::Lending;
 use records::Lengths;
 use records::Model;
 use records::Pin;
 use records::Selector;
 use records::Waveform;
 
-fn lengths_of(
+fn lending_of(
     components: usize,
     pins: usize,
     selectors: usize,
@@ -26,16 +27,18 @@ fn lengths_of(
     models: usize,
     waveforms: usize,
     rows: usize,
-) -> Lengths
-    ensures { λ r. ⌜ r ≡ lengthsOf components pins selectors choices models waveforms rows ⌝ }
+) -> Lending
+    ensures { λ r. ⌜ r ≡ lendingOf components pins selectors choices models waveforms rows ⌝ }
 {
-    Lengths {
-        components: components,
-        pins: pins,
-        selectors: selectors,
-        choices: choices,
-        models: models,
-        waveforms: waveforms,
+    Lending {
+        tables: Lengths {
+            components: components,
+            pins: pins,
+            selectors: selectors,
+            choices: choices,
+            models: models,
+            waveforms: waveforms,
+        },
         rows: rows / 4,
     }
 }
@@ -218,7 +221,7 @@ pub fn read(
     ensures { λ r. ⌜ Read (now (src .entry)) (now (components .entry)) (now (pins .entry)) (now (selectors .entry)) (now (choices .entry)) (now (models .entry)) (now (waveforms .entry)) (now (rows .entry)) r (now (components .exit)) (now (pins .exit)) (now (selectors .exit)) (now (choices .exit)) (now (models .exit)) (now (waveforms .exit)) (now (rows .exit)) ⌝ }
 {
     let mut notes = [0u16; STORE_LENGTH];
-    let l = lengths_of(
+    let l = lending_of(
         components.len(),
         pins.len(),
         selectors.len(),
@@ -227,7 +230,7 @@ pub fn read(
         waveforms.len(),
         rows.len(),
     );
-    let a = file_answer::outlined(src, l, &mut notes);
+    let a = file_answer::loaded(src, l, &mut notes);
     let o = counts_of(a);
     fill_components(components, src, &notes, o);
     fill_pins(pins, src, &notes, o);

@@ -13,3 +13,7 @@ most OfModel = 64
 -- in all models
 abbrev pub mostWaveforms : ℕ
 mostWaveforms = 1024
+
+-- document 02, §8: as many rows are to be lent to whoever loads a file; no file has more
+abbrev pub mostRows : ℕ
+mostRows = 8192

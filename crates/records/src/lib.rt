@@ -29,6 +29,9 @@ pub const MOST_MODELS: usize = 64;
 
 pub const MOST_WAVEFORMS: usize = 1024;
 
+// Loading asks for as many rows: no file has more.
+pub const MOST_ROWS: usize = 8192;
+
 // ---- faults and answers
 
 // A fault of document 01: its number, and the line and the column told.
@@ -81,7 +84,7 @@ pub struct Counts {
     pub rows: usize,
 }
 
-// The lengths of the lent tables; of the rows, whole rows of four words.
+// The lengths of tables other than the rows.
 pub struct Lengths {
     pub components: usize,
     pub pins: usize,
@@ -89,6 +92,11 @@ pub struct Lengths {
     pub choices: usize,
     pub models: usize,
     pub waveforms: usize,
+}
+
+// What is lent to be filled: tables of these lengths, and so many rows, whole ones of four words.
+pub struct Lending {
+    pub tables: Lengths,
     pub rows: usize,
 }
 

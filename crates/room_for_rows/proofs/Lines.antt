@@ -17,7 +17,8 @@ use Rattle.lines.proofs.Numbers.{others-clean, cut-short}
 use Rattle.cut_lines.specs.Change.{isChange, changeOf}
 use Rattle.cut_lines.specs.Texts.{Text, plain, change, ontoTexts, textsFrom}
 use Rattle.rules.specs.Whole.{textsOf}
-use Rattle.room_for_rows.specs.Rows.{mostRows, isRow, rowsAmong, LinesHoldRows}
+use Rattle.records.specs.Bounds.{mostRows}
+use Rattle.room_for_rows.specs.Rows.{isRow, rowsAmong, LinesHoldRows}
 use Rattle.room_for_rows.proofs.Words.{row-takes-eight}
 
 -- ---- lines take the bytes of the file

@@ -6,6 +6,7 @@ use mathlib.Core.List.{List, [], _∷_}
 use mathlib.Core.Bool.{Bool, true, false, cond}
 use lib.ListN.{length}
 use Rattle.laws.specs.Said.{Result, says, fault}
+use Rattle.records.specs.Bounds.{mostRows}
 use Rattle.lines.specs.Lines.{linesOf, faultFrom, bytesFault}
 use Rattle.lines.specs.declared.Bytes.the-variants.{Clean}
 use Rattle.cut_lines.specs.Texts.{Text, plain, change, textsFrom}
@@ -20,10 +21,6 @@ use Rattle.rules.specs.declared.Event.the-variants.{Quiet, Opened, PinRow, Choi
 use Rattle.rules.specs.declared.Went.{Went}
 use Rattle.rules.specs.declared.Went.the-variants.{On, Stop}
 use Rattle.layout.specs.Laid.{laid}
-
--- as many as loading asks for
-abbrev pub mostRows : ℕ
-mostRows = 8192
 
 -- ---- rows that stand in lines
 

@@ -1,4 +1,4 @@
--- The whole file: the first fault in document 01's order, or that there is none, for given lent lengths.
+-- The whole file: the first fault in document 01's order, or that there is none, for given lengths of tables; and the same where rows are lent too.
 use Prim.Native.Nat.{ℕ, _+_, min}
 use Prim.Native.Char.{code}
 use mathlib.Core.List.{List, [], _∷_, reverse}
@@ -17,11 +17,12 @@ use Rattle.cut_lines.specs.Texts.{Text, plain, change, textsFrom}
 use Rattle.rules.specs.Steps.{isEnded, onText}
 use Rattle.rules.specs.Outline.{Entry, is, count, isUsed, isFound, isListed, firstFailing}
 use Rattle.records.specs.Flaws.{bare}
-use Rattle.records.specs.Bounds.{most, mostWaveforms}
+use Rattle.records.specs.Bounds.{most, mostWaveforms, mostRows}
 use Rattle.records.specs.declared.Kind.{Kind}
 use Rattle.records.specs.declared.Kind.the-variants.{OfComponent, OfPin, OfSelector, OfChoice, OfModel}
 use Rattle.records.specs.declared.LineFault.{LineFault}
 use Rattle.records.specs.declared.Lengths.{Lengths}
+use Rattle.records.specs.declared.Lending.{Lending}
 use Rattle.rules.specs.declared.Stage.{Stage}
 use Rattle.rules.specs.declared.Stage.the-variants.{BeforeVersion}
 use Rattle.rules.specs.declared.Event.{Event}
@@ -38,22 +39,21 @@ bound l OfSelector = min (most OfSelector) (l .selectors)
 bound l OfChoice = min (most OfChoice) (l .choices)
 bound l OfModel = min (most OfModel) (l .models)
 
--- ---- what the file holds so far: what is named, the latest first; how many waveforms and rows
+-- ---- what the file holds so far: what is named, the latest first; how many waveforms
 
 pub record Held : Type 0 where
   pub entries : List Entry
   pub waveforms : ℕ
-  pub rows : ℕ
 
 abbrev pub nothingHeld : Held
-nothingHeld = record { entries = []; waveforms = 0; rows = 0 }
+nothingHeld = record { entries = []; waveforms = 0 }
 
 -- 14, then 17
 unfoldable pub admitEntry : Lengths → Held → Entry → Result LineFault Held
 admitEntry l h e =
     cond (isUsed (e .kind) (e .name) (h .entries)) (fault (bare 14))
     (cond (leb (bound l (e .kind)) (count (is (e .kind)) (h .entries))) (fault (bare 17))
-    (says (record { entries = e ∷ h .entries; waveforms = h .waveforms; rows = h .rows })))
+    (says (record { entries = e ∷ h .entries; waveforms = h .waveforms })))
 
 -- the entry of a section's keyword line, w being its argument
 abbrev pub sectionEntry : ℕ → List ℕ → Section → Entry
@@ -73,10 +73,8 @@ admit l h k w PinRow = admitEntry l h (rowEntry OfPin k 2 w)
 admit l h k w ChoiceRow = admitEntry l h (rowEntry OfChoice k 0 w)
 admit l h k w WaveformOpened =
     cond (leb (min mostWaveforms (l .waveforms)) (h .waveforms)) (fault (bare 17))
-    (says (record { entries = h .entries; waveforms = h .waveforms + 1; rows = h .rows }))
-admit l h k w TableRow =
-    cond (leb (l .rows) (h .rows)) (fault (bare 18))
-    (says (record { entries = h .entries; waveforms = h .waveforms; rows = h .rows + 1 }))
+    (says (record { entries = h .entries; waveforms = h .waveforms + 1 }))
+admit l h k w TableRow = says h
 admit l h k w (Ended f) =
     cond (eqb (count (is OfComponent) (h .entries)) 0) (fault (bare 9))
     (cond (eqb (f .number) 0) (says h) (fault f))
@@ -122,7 +120,7 @@ abbrev pub concluded : Outcome → Outcome
 concluded (passed h) = lastChecks (reverse (h .entries)) (passed h)
 concluded (refused n k c) = refused n k c
 
--- ---- the file
+-- ---- a file that is checked: no row is kept, and so none is asked for
 
 unfoldable pub textsOf : List ℕ → List Text
 textsOf s = textsFrom (code "|") 1 (linesOf s)
@@ -135,3 +133,8 @@ afterBytes go (Faulty f) = refused (f .number) (f .line) (f .column)
 unfoldable pub outcome : Lengths → List ℕ → Outcome
 outcome l s =
     afterBytes (concluded (runs l (length (linesOf s) + 1) BeforeVersion nothingHeld (textsOf s))) (bytesFault s)
+
+-- ---- a file that is loaded, where the rows are lent too: "25, before fault 1, exactly if fewer than 8,192 rows are lent" (document 02, §8)
+
+unfoldable pub loading : Lending → List ℕ → Outcome
+loading l s = cond (leb mostRows (l .rows)) (outcome (l .tables) s) (refused 25 0 0)

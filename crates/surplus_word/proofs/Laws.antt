@@ -14,12 +14,11 @@ use Rattle.laws.specs.Lists.{front, part}
 use Rattle.laws.proofs.Tests.{cond-yes, cond-no, and-both, and-left, and-right}
 use Rattle.records.specs.declared.Fault.{Fault}
 use Rattle.records.specs.declared.Lengths.{Lengths}
-use Rattle.records.specs.declared.Verdict.{Verdict}
 use Rattle.words.specs.declared.Word.{Word}
 use Rattle.lines.specs.Places.{lineFrom}
 use Rattle.lines.specs.declared.Line.{Line}
-use Rattle.rules.specs.Whole.{outcome}
-use Rattle.file_answer.specs.Answered.{verdictOf}
+use Rattle.records.specs.declared.Answer.{Answer}
+use Rattle.file_answer.specs.Answered.{answerOf}
 use Rattle.refusal_text.specs.Places.{placeBehind}
 use Rattle.surplus_word.specs.Surplus.{restIn, restAt, blanked, isTen, isSurplus}
 
@@ -62,11 +61,11 @@ module _ (l : Lengths) (s : List ℕ) (f : Fault) (r : Word) (rest-at : r ≡ re
   unfolding isSurplus
   surplus-none h =
       sym (and-left _ _ (le-ltb (r .start) (r .end) h))
-      ∙ ap (λ (q : Word). ltb (q .start) (q .end) && not (isTen (f .line) (verdictOf (outcome l (blanked s q))))) rest-at
+      ∙ ap (λ (q : Word). ltb (q .start) (q .end) && not (isTen (f .line) (answerOf l (blanked s q) .verdict))) rest-at
 
-  pub surplus-asked : (b : List ℕ) (v : Verdict) (t : Bool) → r .start < r .end → b ≡ blanked s r → v ≡ verdictOf (outcome l b) → t ≡ isTen (f .line) v → not t ≡ isSurplus l s f
+  pub surplus-asked : (b : List ℕ) (a : Answer) (t : Bool) → r .start < r .end → b ≡ blanked s r → a ≡ answerOf l b → t ≡ isTen (f .line) (a .verdict) → not t ≡ isSurplus l s f
   unfolding isSurplus
-  surplus-asked b v t h e k x =
-      ap not (x ∙ ap (isTen (f .line)) (k ∙ ap (λ (c : List ℕ). verdictOf (outcome l c)) e))
-      ∙ ap (λ (y : Bool). y && not (isTen (f .line) (verdictOf (outcome l (blanked s r))))) (sym (lt-ltb (r .start) (r .end) h))
-      ∙ ap (λ (q : Word). ltb (q .start) (q .end) && not (isTen (f .line) (verdictOf (outcome l (blanked s q))))) rest-at
+  surplus-asked b a t h e k x =
+      ap not (x ∙ ap (λ (y : Answer). isTen (f .line) (y .verdict)) (k ∙ ap (answerOf l) e))
+      ∙ ap (λ (y : Bool). y && not (isTen (f .line) (answerOf l (blanked s r) .verdict))) (sym (lt-ltb (r .start) (r .end) h))
+      ∙ ap (λ (q : Word). ltb (q .start) (q .end) && not (isTen (f .line) (answerOf l (blanked s q) .verdict))) rest-at

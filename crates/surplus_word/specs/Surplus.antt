@@ -14,8 +14,7 @@ use Rattle.records.specs.declared.Verdict.{Verdict}
 use Rattle.records.specs.declared.Verdict.the-variants.{Accepted, Refused}
 use Rattle.words.specs.declared.Word.{Word}
 use Rattle.lines.specs.Places.{lineFrom}
-use Rattle.rules.specs.Whole.{outcome}
-use Rattle.file_answer.specs.Answered.{verdictOf}
+use Rattle.file_answer.specs.Answered.{answerOf}
 use Rattle.refusal_text.specs.Places.{placeBehind}
 
 -- the place of a column, from 1, in a line, if a word stands before it and something at it; else the line's end
@@ -38,8 +37,8 @@ abbrev pub isTen : ℕ → Verdict → Bool
 isTen line Accepted = false
 isTen line (Refused f) = eqb (f .number) 10 && eqb (f .line) line
 
--- l are the lengths of the lent tables
+-- l are the lengths of the tables that would be lent
 unfoldable pub isSurplus : Lengths → List ℕ → Fault → Bool
 isSurplus l s f =
     let r = restAt s f in
-    ltb (r .start) (r .end) && not (isTen (f .line) (verdictOf (outcome l (blanked s r))))
+    ltb (r .start) (r .end) && not (isTen (f .line) (answerOf l (blanked s r) .verdict))

@@ -59,7 +59,7 @@ fn is_ten(verdict: Verdict, line: u64) -> bool
     }
 }
 
-// Whether the word at fault is too many in a file that is read into tables of these lengths. The rest of its line is blank afterwards.
+// Whether the word at fault is too many in a file that is checked for tables of these lengths. The rest of its line is blank afterwards.
 pub fn is_surplus(file: &mut [u8], l: Lengths, fault: Fault) -> bool
     ensures { λ r. ⌜ r ≡ isSurplus l (now (file .entry)) fault ⌝ }
     ensures { λ r. ⌜ now (file .exit) ≡ blanked (now (file .entry)) (restAt (now (file .entry)) fault) ⌝ }
@@ -71,6 +71,7 @@ pub fn is_surplus(file: &mut [u8], l: Lengths, fault: Fault) -> bool
         return false;
     }
     text_buffer::put_repeated(file, start, b' ', end - start);
-    let verdict = file_answer::check(file, l);
+    let answer = file_answer::check(file, l);
+    let verdict = answer.verdict;
     !is_ten(verdict, fault.line)
 }

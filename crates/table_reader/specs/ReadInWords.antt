@@ -6,23 +6,26 @@ use lib.ListN.{length}
 use Rattle.rules.specs.Reading.{fileIn}
 use Rattle.layout.specs.Laid.{Laid, laid}
 use Rattle.records.specs.Stored.{stored, over}
-use Rattle.rules.specs.Whole.{Outcome, passed, refused, outcome, textsOf}
-use Rattle.records.specs.declared.Lengths.{Lengths}
+use Rattle.rules.specs.Whole.{Outcome, passed, refused, loading, textsOf}
+use Rattle.records.specs.declared.Lending.{Lending}
 use Rattle.records.specs.declared.Answer.{Answer}
-use Rattle.file_answer.specs.Answered.{answerOf}
+use Rattle.file_answer.specs.Answered.{answerIn}
 use Rattle.record_words.specs.Records.{componentWords, pinWords, selectorWords, choiceWords, modelWords, waveformWords, componentSize, pinSize, selectorSize, choiceSize, modelSize, waveformSize, rowSize}
 use Rattle.table_words.specs.Packed.{WordTables}
 
--- as many records are lent as whole ones have room
-abbrev pub roomIn : WordTables → Lengths
+-- as many records and rows are lent as whole ones have room
+abbrev pub roomIn : WordTables → Lending
 roomIn t =
     record {
-      components = length (t .components) / componentSize;
-      pins = length (t .pins) / pinSize;
-      selectors = length (t .selectors) / selectorSize;
-      choices = length (t .choices) / choiceSize;
-      models = length (t .models) / modelSize;
-      waveforms = length (t .waveforms) / waveformSize;
+      tables =
+          record {
+            components = length (t .components) / componentSize;
+            pins = length (t .pins) / pinSize;
+            selectors = length (t .selectors) / selectorSize;
+            choices = length (t .choices) / choiceSize;
+            models = length (t .models) / modelSize;
+            waveforms = length (t .waveforms) / waveformSize;
+          };
       rows = length (t .rows) / rowSize;
     }
 
@@ -42,5 +45,5 @@ wordsLeft (refused n k c) a t = t
 
 -- file s is read into tables t: r is answered, and the tables then are u
 pub record ReadInWords (s : List ℕ) (t : WordTables) (r : Answer) (u : WordTables) : Type 0 where
-  pub answer : r ≡ answerOf (roomIn t) s
-  pub tables : u ≡ wordsLeft (outcome (roomIn t) s) (laid (fileIn (textsOf s))) t
+  pub answer : r ≡ answerIn (roomIn t) s
+  pub tables : u ≡ wordsLeft (loading (roomIn t) s) (laid (fileIn (textsOf s))) t

@@ -1,4 +1,4 @@
--- Each record of a table, a name, the lent lengths and the counts as plain data for the walks of `table_walks`; and the words of the row store.
+-- Each record of a table, a name, what is lent and the counts as plain data for the walks of `table_walks`; and the words of the row store.
 use mir.Syntax.{w64}
 use Rattle.table_walks.proofs.Elem.{Data, Elem, of-struct, struct-elem, of-number, number-elem}
 use Rattle.records.proofs.Component as Component
@@ -15,8 +15,8 @@ use Rattle.records.proofs.Waveform as Waveform
 use Rattle.records.proofs.Waveform.Laws as Waveform′
 use Rattle.records.proofs.Name as Name
 use Rattle.records.proofs.Name.Laws as Name′
-use Rattle.records.proofs.Lengths as Lengths
-use Rattle.records.proofs.Lengths.Laws as Lengths′
+use Rattle.records.proofs.Lending as Lending
+use Rattle.records.proofs.Lending.Laws as Lending′
 use Rattle.records.proofs.Counts as Counts
 use Rattle.records.proofs.Counts.Laws as Counts′
 
@@ -62,11 +62,11 @@ names = of-struct Name.the-type Name′.the-laws
 pub names-elem : Elem names
 names-elem = struct-elem Name.the-type Name′.the-laws Name′.the-copy Name′.the-plain
 
-abbrev pub lengths : Data
-lengths = of-struct Lengths.the-type Lengths′.the-laws
+abbrev pub lending : Data
+lending = of-struct Lending.the-type Lending′.the-laws
 
-pub lengths-elem : Elem lengths
-lengths-elem = struct-elem Lengths.the-type Lengths′.the-laws Lengths′.the-copy Lengths′.the-plain
+pub lending-elem : Elem lending
+lending-elem = struct-elem Lending.the-type Lending′.the-laws Lending′.the-copy Lending′.the-plain
 
 abbrev pub counts : Data
 counts = of-struct Counts.the-type Counts′.the-laws

@@ -39,11 +39,11 @@ slice-aggregate-front c = search needs
 front-requires : tie.Need-front-requires Inv-loop μ-loop
 front-requires c κs = tt
 
-slice-aggregate-lengths-in : tie.Need-slice-aggregate-lengths-in Inv-loop μ-loop
-slice-aggregate-lengths-in c = search needs
+slice-aggregate-lending-in : tie.Need-slice-aggregate-lending-in Inv-loop μ-loop
+slice-aggregate-lending-in c = search needs
 
-lengths-in-requires : tie.Need-lengths-in-requires Inv-loop μ-loop
-lengths-in-requires c κs = tt
+lending-in-requires : tie.Need-lending-in-requires Inv-loop μ-loop
+lending-in-requires c κs = tt
 
 print-next-requires : tie.Need-print-next-requires Inv-loop μ-loop
 print-next-requires c κs = tt
@@ -77,8 +77,8 @@ main-spec =
     enum-told
     slice-aggregate-front
     front-requires
-    slice-aggregate-lengths-in
-    lengths-in-requires
+    slice-aggregate-lending-in
+    lending-in-requires
     print-next-requires
     add-files
     loop-less

@@ -1,4 +1,4 @@
--- `Loaded.antt`'s walk of slices, at the tables with seven rows.
+-- `Loaded.antt`'s walk of slices, at the tables with 8,192 rows.
 use lib.Dec.{lit<}
 use contract.Running.{givenOf, tables, tablesOf}
 use denote.Triple.Spec.{tripleOf}
@@ -55,7 +55,7 @@ unfolding code.routine tablesOf
 read-enough-spec 𝓤 H 𝓜 𝓖 𝓡 =
     entered 𝓤 H (tripleOf 𝓤 H (𝓖 .A) read-enough.signature (read-enough.spec 𝓤 H (𝓖 .A) (𝓜 .mem) (𝓡 .run)))
     (tables 𝓤 H 𝓜 𝓡 code.env .C) (tables 𝓤 H 𝓜 𝓡 code.env .Λ) #read-enough code.function (code.unfolded 𝓤 H 𝓜 𝓡)
-    (loaded-meets components pins selectors choices models waveforms rows answer shelf 1 3 0 0 2 1 31 oneComponent threePins noSelectors noChoices twoModels oneWaveform manyWords Read enoughOf ReadEnough #one-component #three-pins #no-selectors #no-choices #two-models #one-waveform #many-words #read #enough-of
+    (loaded-meets components pins selectors choices models waveforms rows answer shelf 1 3 0 0 2 1 32771 oneComponent threePins noSelectors noChoices twoModels oneWaveform manyWords Read enoughOf ReadEnough #one-component #three-pins #no-selectors #no-choices #two-models #one-waveform #many-words #read #enough-of
     components-elem pins-elem selectors-elem choices-elem models-elem waveforms-elem rows-elem answer-elem shelf-elem (lit< tt, lit< tt) (lit< tt, lit< tt) (lit< tt, lit< tt) (lit< tt, lit< tt) (lit< tt, lit< tt) (lit< tt, lit< tt) (lit< tt, lit< tt) (λ s r cs ps ss hs ms ws rs reads. reads) 𝓤 H (𝓖 .A) (givenOf 𝓤 H 𝓜 𝓖) (tablesOf 𝓤 H 𝓜 (tables 𝓤 H 𝓜 𝓡 code.env))
     (cited 𝓤 H (Blank components 1 oneComponent 𝓤 H (𝓖 .A)) 𝓜 𝓡 code.env #one-component one-component-def.routine code.calls-lending·one-component (one-component-thm.met 𝓤 H 𝓜 𝓖 𝓡))
     (cited 𝓤 H (Blank pins 3 threePins 𝓤 H (𝓖 .A)) 𝓜 𝓡 code.env #three-pins three-pins-def.routine code.calls-lending·three-pins (three-pins-thm.met 𝓤 H 𝓜 𝓖 𝓡))
@@ -63,6 +63,6 @@ read-enough-spec 𝓤 H 𝓜 𝓖 𝓡 =
     (cited 𝓤 H (Blank choices 0 noChoices 𝓤 H (𝓖 .A)) 𝓜 𝓡 code.env #no-choices no-choices-def.routine code.calls-lending·no-choices (no-choices-thm.met 𝓤 H 𝓜 𝓖 𝓡))
     (cited 𝓤 H (Blank models 2 twoModels 𝓤 H (𝓖 .A)) 𝓜 𝓡 code.env #two-models two-models-def.routine code.calls-lending·two-models (two-models-thm.met 𝓤 H 𝓜 𝓖 𝓡))
     (cited 𝓤 H (Blank waveforms 1 oneWaveform 𝓤 H (𝓖 .A)) 𝓜 𝓡 code.env #one-waveform one-waveform-def.routine code.calls-lending·one-waveform (one-waveform-thm.met 𝓤 H 𝓜 𝓖 𝓡))
-    (cited 𝓤 H (Blank rows 31 manyWords 𝓤 H (𝓖 .A)) 𝓜 𝓡 code.env #many-words many-words-def.routine code.calls-lending·many-words (many-words-thm.met 𝓤 H 𝓜 𝓖 𝓡))
+    (cited 𝓤 H (Blank rows 32771 manyWords 𝓤 H (𝓖 .A)) 𝓜 𝓡 code.env #many-words many-words-def.routine code.calls-lending·many-words (many-words-thm.met 𝓤 H 𝓜 𝓖 𝓡))
     (cited 𝓤 H (Reading components pins selectors choices models waveforms rows answer Read 𝓤 H (𝓖 .A)) 𝓜 𝓡 code.env #read read-def.routine code.calls-reader·read (read-thm.met 𝓤 H 𝓜 𝓖 𝓡))
-    (cited 𝓤 H (Shelving components pins selectors choices models waveforms rows answer shelf 1 3 0 0 2 1 31 enoughOf 𝓤 H (𝓖 .A)) 𝓜 𝓡 code.env #enough-of enough-of-def.routine code.calls-lending·enough-of (enough-of-thm.met 𝓤 H 𝓜 𝓖 𝓡)))
+    (cited 𝓤 H (Shelving components pins selectors choices models waveforms rows answer shelf 1 3 0 0 2 1 32771 enoughOf 𝓤 H (𝓖 .A)) 𝓜 𝓡 code.env #enough-of enough-of-def.routine code.calls-lending·enough-of (enough-of-thm.met 𝓤 H 𝓜 𝓖 𝓡)))

@@ -17,21 +17,21 @@ use Rattle.walked_records.proofs.Tables as R
 use Rattle.table_walks.proofs.Read.{Filling, FillingThree, Fill, FillThree, Lengths as Lengthened, Outlined as Outlining, Counts as Counted, read-meets}
 use Rattle.from_notes.specs.Made.{componentAt, pinAt, selectorAt, choiceAt}
 use Rattle.reader.specs.Filling.{ModelsFit, ModelsFilled, blankNotes}
-use Rattle.reader.specs.Promise.{lengthsOf, Read}
+use Rattle.reader.specs.Promise.{lendingOf, Read}
 use Rattle.reader.proofs.Answered.{answer, answer-elem}
 use Rattle.records.specs.declared.Component.{Component}
 use Rattle.records.specs.declared.Pin.{Pin}
 use Rattle.records.specs.declared.Selector.{Selector}
 use Rattle.records.specs.declared.Choice.{Choice}
-use Rattle.records.specs.declared.Lengths.{Lengths}
+use Rattle.records.specs.declared.Lending.{Lending}
 use Rattle.records.specs.declared.Answer.{Answer}
 use Rattle.records.specs.declared.Counts.{Counts}
-use Rattle.reader.proofs.lengths_of.Symbol as lengths-of-def
-use Rattle.reader.proofs.lengths_of.Symbol.{name as #lengths-of}
-use Rattle.reader.proofs.lengths_of.Met as lengths-of-thm
-use Rattle.file_answer.proofs.settling.outlined.Symbol as outlined-def
-use Rattle.file_answer.proofs.settling.outlined.Symbol.{name as #outlined}
-use Rattle.file_answer.proofs.settling.outlined.Met as outlined-thm
+use Rattle.reader.proofs.lending_of.Symbol as lending-of-def
+use Rattle.reader.proofs.lending_of.Symbol.{name as #lending-of}
+use Rattle.reader.proofs.lending_of.Met as lending-of-thm
+use Rattle.file_answer.proofs.settling.loaded.Symbol as loaded-def
+use Rattle.file_answer.proofs.settling.loaded.Symbol.{name as #loaded}
+use Rattle.file_answer.proofs.settling.loaded.Met as loaded-thm
 use Rattle.reader.proofs.counts_of.Symbol as counts-of-def
 use Rattle.reader.proofs.counts_of.Symbol.{name as #counts-of}
 use Rattle.reader.proofs.counts_of.Met as counts-of-thm
@@ -70,26 +70,26 @@ choices = record { asks = λ (s ns : List ℕ) (o : Counts) (ys : List Choice). 
 abbrev models : FillingThree R.counts R.models R.waveforms R.rows
 models = record { asks = ModelsFit; Left = ModelsFilled }
 
--- what `outlined` wants and tells
-abbrev wants : (M : Type 1) (𝓤 : URA M) → List ℕ → Lengths → List ℕ → SProp 𝓤
+-- what `loaded` wants and tells
+abbrev wants : (M : Type 1) (𝓤 : URA M) → List ℕ → Lending → List ℕ → SProp 𝓤
 wants M 𝓤 s l ns = fact 𝓤 (storeLength ≤ length ns)
 
-abbrev tells : (M : Type 1) (𝓤 : URA M) → List ℕ → Lengths → List ℕ → Answer → List ℕ → SProp 𝓤
-tells M 𝓤 s l n r ns = fact 𝓤 (sorted.Outlines l s r ns)
+abbrev tells : (M : Type 1) (𝓤 : URA M) → List ℕ → Lending → List ℕ → Answer → List ℕ → SProp 𝓤
+tells M 𝓤 s l n r ns = fact 𝓤 (sorted.Loads l s r ns)
 
-abbrev Outlines : List ℕ → Lengths → Answer → List ℕ → Type 0
-Outlines s l r ns = sorted.Outlines l s r ns
+abbrev Loads : List ℕ → Lending → Answer → List ℕ → Type 0
+Loads s l r ns = sorted.Loads l s r ns
 
 pub read-spec : {M : Type 1} → stated.statement M
 unfolding code.routine tablesOf
 read-spec 𝓤 H 𝓜 𝓖 𝓡 =
     entered 𝓤 H (tripleOf 𝓤 H (𝓖 .A) read.signature (read.spec 𝓤 H (𝓖 .A) (𝓜 .mem) (𝓡 .run)))
     (tables 𝓤 H 𝓜 𝓡 code.env .C) (tables 𝓤 H 𝓜 𝓡 code.env .Λ) #read code.function (code.unfolded 𝓤 H 𝓜 𝓡)
-    (read-meets R.components R.pins R.selectors R.choices R.models R.waveforms R.rows R.lengths answer R.counts lengthsOf wants tells Outlines (λ (r : Answer). r .counts) components pins selectors choices models Read storeLength blankNotes #lengths-of #outlined #counts-of #fill-components #fill-pins #fill-selectors #fill-choices #fill-models
-    R.components-elem R.pins-elem R.selectors-elem R.choices-elem R.models-elem R.waveforms-elem R.rows-elem R.lengths-elem answer-elem R.counts-elem (lit< tt, lit< tt) blank-is (λ M 𝓤 s l. factI 𝓤 _ (emp 𝓤) long-enough) (λ M 𝓤 s l r ns. id⊢ 𝓤 _) fits finishes 𝓤 H (𝓖 .A) (givenOf 𝓤 H 𝓜 𝓖) (tablesOf 𝓤 H 𝓜 (tables 𝓤 H 𝓜 𝓡 code.env))
-    (cited 𝓤 H (Lengthened R.components R.pins R.selectors R.choices R.models R.waveforms R.rows R.lengths answer R.counts lengthsOf wants tells Outlines (λ (r : Answer). r .counts) components pins selectors choices models Read storeLength blankNotes #lengths-of #outlined #counts-of #fill-components #fill-pins #fill-selectors #fill-choices #fill-models 𝓤 H (𝓖 .A)) 𝓜 𝓡 code.env #lengths-of lengths-of-def.routine code.calls-reader·lengths-of (lengths-of-thm.met 𝓤 H 𝓜 𝓖 𝓡))
-    (cited 𝓤 H (Outlining R.components R.pins R.selectors R.choices R.models R.waveforms R.rows R.lengths answer R.counts lengthsOf wants tells Outlines (λ (r : Answer). r .counts) components pins selectors choices models Read storeLength blankNotes #lengths-of #outlined #counts-of #fill-components #fill-pins #fill-selectors #fill-choices #fill-models 𝓤 H (𝓖 .A)) 𝓜 𝓡 code.env #outlined outlined-def.routine code.calls-file-answer·settling·outlined (outlined-thm.met 𝓤 H 𝓜 𝓖 𝓡))
-    (cited 𝓤 H (Counted R.components R.pins R.selectors R.choices R.models R.waveforms R.rows R.lengths answer R.counts lengthsOf wants tells Outlines (λ (r : Answer). r .counts) components pins selectors choices models Read storeLength blankNotes #lengths-of #outlined #counts-of #fill-components #fill-pins #fill-selectors #fill-choices #fill-models 𝓤 H (𝓖 .A)) 𝓜 𝓡 code.env #counts-of counts-of-def.routine code.calls-reader·counts-of (counts-of-thm.met 𝓤 H 𝓜 𝓖 𝓡))
+    (read-meets R.components R.pins R.selectors R.choices R.models R.waveforms R.rows R.lending answer R.counts lendingOf wants tells Loads (λ (r : Answer). r .counts) components pins selectors choices models Read storeLength blankNotes #lending-of #loaded #counts-of #fill-components #fill-pins #fill-selectors #fill-choices #fill-models
+    R.components-elem R.pins-elem R.selectors-elem R.choices-elem R.models-elem R.waveforms-elem R.rows-elem R.lending-elem answer-elem R.counts-elem (lit< tt, lit< tt) blank-is (λ M 𝓤 s l. factI 𝓤 _ (emp 𝓤) long-enough) (λ M 𝓤 s l r ns. id⊢ 𝓤 _) fits finishes 𝓤 H (𝓖 .A) (givenOf 𝓤 H 𝓜 𝓖) (tablesOf 𝓤 H 𝓜 (tables 𝓤 H 𝓜 𝓡 code.env))
+    (cited 𝓤 H (Lengthened R.components R.pins R.selectors R.choices R.models R.waveforms R.rows R.lending answer R.counts lendingOf wants tells Loads (λ (r : Answer). r .counts) components pins selectors choices models Read storeLength blankNotes #lending-of #loaded #counts-of #fill-components #fill-pins #fill-selectors #fill-choices #fill-models 𝓤 H (𝓖 .A)) 𝓜 𝓡 code.env #lending-of lending-of-def.routine code.calls-reader·lending-of (lending-of-thm.met 𝓤 H 𝓜 𝓖 𝓡))
+    (cited 𝓤 H (Outlining R.components R.pins R.selectors R.choices R.models R.waveforms R.rows R.lending answer R.counts lendingOf wants tells Loads (λ (r : Answer). r .counts) components pins selectors choices models Read storeLength blankNotes #lending-of #loaded #counts-of #fill-components #fill-pins #fill-selectors #fill-choices #fill-models 𝓤 H (𝓖 .A)) 𝓜 𝓡 code.env #loaded loaded-def.routine code.calls-file-answer·settling·loaded (loaded-thm.met 𝓤 H 𝓜 𝓖 𝓡))
+    (cited 𝓤 H (Counted R.components R.pins R.selectors R.choices R.models R.waveforms R.rows R.lending answer R.counts lendingOf wants tells Loads (λ (r : Answer). r .counts) components pins selectors choices models Read storeLength blankNotes #lending-of #loaded #counts-of #fill-components #fill-pins #fill-selectors #fill-choices #fill-models 𝓤 H (𝓖 .A)) 𝓜 𝓡 code.env #counts-of counts-of-def.routine code.calls-reader·counts-of (counts-of-thm.met 𝓤 H 𝓜 𝓖 𝓡))
     (cited 𝓤 H (Fill R.counts R.components components 𝓤 H (𝓖 .A)) 𝓜 𝓡 code.env #fill-components fill-components-def.routine code.calls-reader·fill-components (fill-components-thm.met 𝓤 H 𝓜 𝓖 𝓡))
     (cited 𝓤 H (Fill R.counts R.pins pins 𝓤 H (𝓖 .A)) 𝓜 𝓡 code.env #fill-pins fill-pins-def.routine code.calls-reader·fill-pins (fill-pins-thm.met 𝓤 H 𝓜 𝓖 𝓡))
     (cited 𝓤 H (Fill R.counts R.selectors selectors 𝓤 H (𝓖 .A)) 𝓜 𝓡 code.env #fill-selectors fill-selectors-def.routine code.calls-reader·fill-selectors (fill-selectors-thm.met 𝓤 H 𝓜 𝓖 𝓡))

@@ -1,9 +1,9 @@
--- The answer and the notes by `outlined`; what the fills leave of them is what is promised.
+-- The answer and the notes by `loaded`; what the fills leave of them is what is promised.
 use mathlib.Core.Path.{_∙_, subst}
 use borrow.Author.Needs.{needs}
 use denote.Ref.{now}
-use Rattle.records.specs.declared.Lengths.{Lengths}
-use Rattle.file_answer.specs.Sorted.{Outlines}
+use Rattle.records.specs.declared.Lending.{Lending}
+use Rattle.file_answer.specs.Sorted.{Loads}
 use Rattle.table_words.specs.Packed.{wordTables}
 use Rattle.table_reader.proofs.Fills.{fits, finishes}
 use Rattle.table_reader.proofs.read.Statement.{statement}
@@ -12,11 +12,11 @@ use Rattle.table_reader.proofs.read.Tie as tie
 room-in-requires : tie.Need-room-in-requires
 room-in-requires c κs = tt
 
-slice-aggregate-outlined : tie.Need-slice-aggregate-outlined
-slice-aggregate-outlined c = search needs
+slice-aggregate-loaded : tie.Need-slice-aggregate-loaded
+slice-aggregate-loaded c = search needs
 
-outlined-requires : tie.Need-outlined-requires
-outlined-requires c κs = search needs
+loaded-requires : tie.Need-loaded-requires
+loaded-requires c κs = search needs
 
 slice-aggregate-fill-tables : tie.Need-slice-aggregate-fill-tables
 slice-aggregate-fill-tables c = search needs
@@ -24,9 +24,9 @@ slice-aggregate-fill-tables c = search needs
 fill-tables-requires : tie.Need-fill-tables-requires
 fill-tables-requires c κs =
     let a = c .before .before .before .before .before .before .before .before .before .before .before .before .before .before .before .before .before .before .before .before .before .before .before .before .before .before .before .args in
-    let o = c .before .before .before .before .before .before .before .before .before .outlined in
+    let o = c .before .before .before .before .before .before .before .before .before .loaded in
     fits (now (a .src)) (wordTables (now (a .components)) (now (a .pins)) (now (a .selectors)) (now (a .choices)) (now (a .models)) (now (a .waveforms)) (now (a .rows))) (o .last .1 .1 .0) (o .result)
-    (subst (λ (l : Lengths). Outlines l (now (a .src)) (o .result) (o .last .1 .1 .0)) (c .before .before .before .before .before .before .before .before .before .before .before .room-in .ensures) (o .ensures))
+    (subst (λ (l : Lending). Loads l (now (a .src)) (o .result) (o .last .1 .1 .0)) (c .before .before .before .before .before .before .before .before .before .before .before .room-in .ensures) (o .ensures))
 
 same-length : tie.Need-same-length
 same-length c = search needs
@@ -52,9 +52,9 @@ same-length-7 c = search needs
 returns : tie.Need-returns
 returns c =
     let a = c .before .before .before .before .before .before .before .before .before .before .before .before .before .before .before .before .before .before .before .before .before .before .before .before .before .before .before .before .before .before .before .before .before .before .before .before .before .before .before .before .before .before .args in
-    let o = c .before .before .before .before .before .before .before .before .before .before .before .before .before .before .before .before .before .before .before .before .before .before .before .before .outlined in
+    let o = c .before .before .before .before .before .before .before .before .before .before .before .before .before .before .before .before .before .before .before .before .before .before .before .before .loaded in
     let f = finishes (now (a .src)) (wordTables (now (a .components)) (now (a .pins)) (now (a .selectors)) (now (a .choices)) (now (a .models)) (now (a .waveforms)) (now (a .rows))) (o .last .1 .1 .0) (o .result)
-    (subst (λ (l : Lengths). Outlines l (now (a .src)) (o .result) (o .last .1 .1 .0)) (c .before .before .before .before .before .before .before .before .before .before .before .before .before .before .before .before .before .before .before .before .before .before .before .before .before .before .room-in .ensures) (o .ensures)) in
+    (subst (λ (l : Lending). Loads l (now (a .src)) (o .result) (o .last .1 .1 .0)) (c .before .before .before .before .before .before .before .before .before .before .before .before .before .before .before .before .before .before .before .before .before .before .before .before .before .before .room-in .ensures) (o .ensures)) in
     record { answer = f .answer; tables = c .before .before .before .before .before .before .before .before .before .before .before .before .before .before .fill-tables .ensures ∙ f .tables }
 
 pub read-spec : {M : Type 1} → statement M
@@ -62,8 +62,8 @@ read-spec =
     tie.close
     (tie.spec
     room-in-requires
-    slice-aggregate-outlined
-    outlined-requires
+    slice-aggregate-loaded
+    loaded-requires
     slice-aggregate-fill-tables
     fill-tables-requires
     same-length

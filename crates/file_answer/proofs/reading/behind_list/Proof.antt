@@ -16,7 +16,7 @@ returns : tie.Need-returns
 returns c =
     let f = c .before .before .before .before .before in
     let p = c .behind-rows .ensures in
-    record { says = p .says (now (f .args .notes)); sound = record { placed = p .steady .placed; reached = p .reached (f .pre .reached); small = f .pre .small; store = f .pre .store; within = p .steady .within; filed = p .filed (now (f .args .notes)) (f .pre .filed); rows = p .steady .rows }; from = p .from }
+    record { says = p .says (f .args .l) (now (f .args .notes)); sound = record { placed = p .steady .placed; reached = p .reached (f .pre .reached); small = f .pre .small; store = f .pre .store; within = p .steady .within; filed = p .filed (now (f .args .notes)) (f .pre .filed); rows = p .steady .rows }; from = p .from }
 
 behind-pins-requires : tie.Need-behind-pins-requires
 behind-pins-requires c κs = search needs

@@ -12,13 +12,13 @@ enum-known-stage c = search needs
 returns : tie.Need-returns
 returns c =
     let f = c .before .before in
-    passes-none (f .args .l) (now (f .args .src)) (f .args .x) (f .pre)
+    passes-none (now (f .args .src)) (f .args .x) (f .pre)
 
 enum-known-list : tie.Need-enum-known-list
 enum-known-list c = search needs
 
 pass-rows-requires : tie.Need-pass-rows-requires
-pass-rows-requires c κs = c .before .before .before .before .before .before .before .before .before .pre .placed
+pass-rows-requires c κs = let h = c .before .before .before .before .before .before .before .before .before .pre in (h .placed, h .rows)
 
 stands-behind-requires : tie.Need-stands-behind-requires
 stands-behind-requires c κs = tt
@@ -27,7 +27,7 @@ enum-known-list-2 : tie.Need-enum-known-list-2
 enum-known-list-2 c = search needs
 
 pass-rows-requires-2 : tie.Need-pass-rows-requires-2
-pass-rows-requires-2 c κs = c .before .before .before .before .before .before .before .before .before .pre .placed
+pass-rows-requires-2 c κs = let h = c .before .before .before .before .before .before .before .before .before .pre in (h .placed, h .rows)
 
 stands-behind-requires-2 : tie.Need-stands-behind-requires-2
 stands-behind-requires-2 c κs = tt
@@ -44,27 +44,27 @@ enum-known-list-3 c = search needs
 returns-2 : tie.Need-returns-2
 returns-2 c =
     let f = c .before .before .before .before .before .before .before .before .before .before .before .before in
-    passes-table (f .args .l) (now (f .args .src)) (f .args .x) (c .stands-behind .result) _ (CurrentRows _) _ (c .before .before .pass-rows .result) (current-holds _) (c .before .before .before .before .before .before .before .before .before .stage .given .1) (c .before .before .before .before .list .given .1) (f .pre) (c .before .before .pass-rows .ensures) (c .stands-behind .ensures)
+    passes-table (now (f .args .src)) (f .args .x) (c .stands-behind .result) _ (CurrentRows _) _ (c .before .before .pass-rows .result) (current-holds _) (c .before .before .before .before .before .before .before .before .before .stage .given .1) (c .before .before .before .before .list .given .1) (f .pre) (c .before .before .pass-rows .ensures) (c .stands-behind .ensures)
 
 returns-3 : tie.Need-returns-3
 returns-3 c =
     let f = c .before .before .before .before .before .before .before .before .before .before .before .before in
-    passes-table (f .args .l) (now (f .args .src)) (f .args .x) (c .stands-behind2 .result) _ (WaveformRows _ _) _ (c .before .before .pass-rows2 .result) (waveform-holds _ _) (c .before .before .before .before .before .before .before .before .before .stage .given .1) (c .before .before .before .before .list2 .given .1) (f .pre) (c .before .before .pass-rows2 .ensures) (c .stands-behind2 .ensures)
+    passes-table (now (f .args .src)) (f .args .x) (c .stands-behind2 .result) _ (WaveformRows _ _) _ (c .before .before .pass-rows2 .result) (waveform-holds _ _) (c .before .before .before .before .before .before .before .before .before .stage .given .1) (c .before .before .before .before .list2 .given .1) (f .pre) (c .before .before .pass-rows2 .ensures) (c .stands-behind2 .ensures)
 
 returns-4 : tie.Need-returns-4
 returns-4 c =
     let f = c .before .before .before .before .before .before .before .before in
-    passes-none (f .args .l) (now (f .args .src)) (f .args .x) (f .pre)
+    passes-none (now (f .args .src)) (f .args .x) (f .pre)
 
 returns-5 : tie.Need-returns-5
 returns-5 c =
     let f = c .before .before .before .before .before .before .before .before in
-    passes-none (f .args .l) (now (f .args .src)) (f .args .x) (f .pre)
+    passes-none (now (f .args .src)) (f .args .x) (f .pre)
 
 returns-6 : tie.Need-returns-6
 returns-6 c =
     let f = c .before .before .before .before .before .before .before .before .before in
-    passes-none (f .args .l) (now (f .args .src)) (f .args .x) (f .pre)
+    passes-none (now (f .args .src)) (f .args .x) (f .pre)
 
 pub behind-rows-spec : {M : Type 1} → statement M
 behind-rows-spec =

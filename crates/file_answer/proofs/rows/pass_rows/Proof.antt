@@ -13,36 +13,36 @@ use Rattle.file_answer.proofs.rows.pass_rows.Statement.{statement}
 use Rattle.file_answer.proofs.rows.pass_rows.Tie as tie
 
 abbrev Inv-loop : tie.InvT-loop
-Inv-loop src l n d₀ seen₀ last₀ head₀ tail₀ count₀ d seen last head tail count =
-    PassedIs l src d₀ (seenRows seen₀ last₀ head₀ tail₀) n (record { cursor = d; rows = seenRows seen last head tail; count = count })
+Inv-loop src n d₀ seen₀ last₀ head₀ tail₀ count₀ d seen last head tail count =
+    PassedIs src d₀ (seenRows seen₀ last₀ head₀ tail₀) n (record { cursor = d; rows = seenRows seen last head tail; count = count })
 
 abbrev μ-loop : tie.MeasureT-loop
-μ-loop src l n d₀ seen₀ last₀ head₀ tail₀ count₀ d seen last head tail count = length src - d .at
+μ-loop src n d₀ seen₀ last₀ head₀ tail₀ count₀ d seen last head tail count = length src - d .at
 
 loop-holds : tie.Need-loop-holds Inv-loop μ-loop
 loop-holds c =
     let f = c .before .before in
-    passed-none (f .args .l) (now (f .args .src)) (f .args .c) (f .args .r) (f .args .n) (f .pre)
+    passed-none (now (f .args .src)) (f .args .c) (f .args .r) (f .args .n) (f .pre .0)
 
 next-text-requires : tie.Need-next-text-requires Inv-loop μ-loop
-next-text-requires c κs = c .before .before .loop .inv .placed
+next-text-requires c κs = c .loop .inv .placed
 
 enum-known-line : tie.Need-enum-known-line Inv-loop μ-loop
 enum-known-line c = search needs
 
 sub-row-in : tie.Need-sub-row-in Inv-loop μ-loop
 sub-row-in c =
-    let h = subst (NextIs (now (c .before .before .before .before .before .before .before .before .before .args .src)) (c .before .before .before .before .before .before .loop .d)) (c .before .line .given .1) (c .before .before .before .next-text .ensures) in
+    let h = subst (NextIs (now (c .before .before .before .before .before .before .before .args .src)) (c .before .before .before .before .loop .d)) (c .before .line .given .1) (c .before .before .before .next-text .ensures) in
     omega (arith, h .starts)
 
 part-row-in-start : tie.Need-part-row-in-start Inv-loop μ-loop
 part-row-in-start c =
-    let h = subst (NextIs (now (c .before .before .before .before .before .before .before .before .before .args .src)) (c .before .before .before .before .before .before .loop .d)) (c .before .line .given .1) (c .before .before .before .next-text .ensures) in
+    let h = subst (NextIs (now (c .before .before .before .before .before .before .before .args .src)) (c .before .before .before .before .loop .d)) (c .before .line .given .1) (c .before .before .before .next-text .ensures) in
     omega (arith, h .starts)
 
 part-row-in-end : tie.Need-part-row-in-end Inv-loop μ-loop
 part-row-in-end c =
-    let h = subst (NextIs (now (c .before .before .before .before .before .before .before .before .before .args .src)) (c .before .before .before .before .before .before .loop .d)) (c .before .line .given .1) (c .before .before .before .next-text .ensures) in
+    let h = subst (NextIs (now (c .before .before .before .before .before .before .before .args .src)) (c .before .before .before .before .loop .d)) (c .before .line .given .1) (c .before .before .before .next-text .ensures) in
     h .fits
 
 row-in-requires : tie.Need-row-in-requires Inv-loop μ-loop
@@ -52,7 +52,7 @@ passed-requires : tie.Need-passed-requires Inv-loop μ-loop
 passed-requires c κs = search needs
 
 returns : tie.Need-returns Inv-loop μ-loop
-returns c = rw (c .passed .ensures) (c .before .before .before .before .before .before .before .before .before .before .before .loop .inv)
+returns c = rw (c .passed .ensures) (c .before .before .before .before .before .before .before .before .before .loop .inv)
 
 decimal-in-requires : tie.Need-decimal-in-requires Inv-loop μ-loop
 decimal-in-requires c κs = tt
@@ -67,21 +67,24 @@ one-more-requires : tie.Need-one-more-requires Inv-loop μ-loop
 one-more-requires c κs = search needs
 
 add-count : tie.Need-add-count Inv-loop μ-loop
-add-count c = omega (arith, c .before .before .before .before .before .before .before .before .before .before .before .before .if1 .taken, c .before .before .before .before .before .before .before .before .before .before .before .before .before .before .before .before .before .good, c .before .before .before .before .before .before .before .before .before .before .before .before .before .struct-known .given)
+add-count c =
+    let i = c .before .before .before .before .before .before .before .before .before .before .before .before .loop in
+    let h = c .before .before .before .before .before .before .before .before .before .before .before .before .before .before .before .pre in
+    omega (arith, i .inv .counted, i .inv .placed .within, h .1, c .before .before .before .before .before .before .before .before .before .before .before .before .before .before .before .good)
 
 loop-less : tie.Need-loop-less Inv-loop μ-loop
 loop-less c =
-    let h = subst (NextIs (now (c .before .before .before .before .before .before .before .before .before .before .before .before .before .before .before .before .before .args .src)) (c .before .before .before .before .before .before .before .before .before .before .before .before .before .before .loop .d)) (c .before .before .before .before .before .before .before .before .before .line .given .1) (c .before .before .before .before .before .before .before .before .before .before .before .next-text .ensures) in
+    let h = subst (NextIs (now (c .before .before .before .before .before .before .before .before .before .before .before .before .before .before .before .args .src)) (c .before .before .before .before .before .before .before .before .before .before .before .before .loop .d)) (c .before .before .before .before .before .before .before .before .before .line .given .1) (c .before .before .before .before .before .before .before .before .before .before .before .next-text .ensures) in
     omega (arith, h .goes .rises, h .goes .placed .within)
 
 loop-again : tie.Need-loop-again Inv-loop μ-loop
 loop-again c =
-    let a = c .before .before .before .before .before .before .before .before .before .before .before .before .before .before .before .before .before .args in
-    let i = c .before .before .before .before .before .before .before .before .before .before .before .before .before .before .loop in
-    let h = subst (NextIs (now (c .before .before .before .before .before .before .before .before .before .before .before .before .before .before .before .before .before .args .src)) (c .before .before .before .before .before .before .before .before .before .before .before .before .before .before .loop .d)) (c .before .before .before .before .before .before .before .before .before .line .given .1) (c .before .before .before .before .before .before .before .before .before .before .before .next-text .ensures) in
+    let a = c .before .before .before .before .before .before .before .before .before .before .before .before .before .before .before .args in
+    let i = c .before .before .before .before .before .before .before .before .before .before .before .before .loop in
+    let h = subst (NextIs (now (c .before .before .before .before .before .before .before .before .before .before .before .before .before .before .before .args .src)) (c .before .before .before .before .before .before .before .before .before .before .before .before .loop .d)) (c .before .before .before .before .before .before .before .before .before .line .given .1) (c .before .before .before .before .before .before .before .before .before .before .before .next-text .ensures) in
     let w = c .before .before .before .before .before .before .before .before .before .line .given .0 .1 in
-    let row = row-goes (part (w .0) (w .1 .0) (now (a .src))) (i .seen) (i .last) (c .before .before .before .before .before .before .row-in .result) (c .before .before .before .before .before .before .row-in .ensures) (c .before .before .before .before .if2 .left) (i .head) (i .tail) _ _ _ _ (c .before .before .before .decimal-in .ensures) (c .before .before .holds-number .ensures) (c .before .head-after .ensures) (c .one-more .ensures) in
-    passed-more (a .l) (now (a .src)) (a .c) (a .r) (a .n) (i .d) _ _ (i .count) _ _ _ _ (c .before .before .before .before .before .before .before .before .before .before .before .before .if1 .taken) h row (i .inv)
+    let row = row-goes (part (w .0) (w .1 .0) (now (a .src))) (i .seen) (i .last) (c .before .before .before .before .before .before .row-in .result) (c .before .before .before .before .before .before .row-in .ensures) (c .before .before .before .before .if1 .left) (i .head) (i .tail) _ _ _ _ (c .before .before .before .decimal-in .ensures) (c .before .before .holds-number .ensures) (c .before .head-after .ensures) (c .one-more .ensures) in
+    passed-more (now (a .src)) (a .c) (a .r) (a .n) (i .d) _ _ (i .count) _ _ _ _ h row (i .inv)
 
 enum-known-line-2 : tie.Need-enum-known-line-2 Inv-loop μ-loop
 enum-known-line-2 c = search needs
@@ -90,7 +93,7 @@ passed-requires-2 : tie.Need-passed-requires-2 Inv-loop μ-loop
 passed-requires-2 c κs = search needs
 
 returns-2 : tie.Need-returns-2 Inv-loop μ-loop
-returns-2 c = rw (c .passed2 .ensures) (c .before .before .before .before .before .before .before .loop .inv)
+returns-2 c = rw (c .passed2 .ensures) (c .before .before .before .before .before .loop .inv)
 
 enum-known-line-3 : tie.Need-enum-known-line-3 Inv-loop μ-loop
 enum-known-line-3 c = search needs
@@ -99,13 +102,7 @@ passed-requires-3 : tie.Need-passed-requires-3 Inv-loop μ-loop
 passed-requires-3 c κs = search needs
 
 returns-3 : tie.Need-returns-3 Inv-loop μ-loop
-returns-3 c = rw (c .passed3 .ensures) (c .before .before .before .before .before .before .before .loop .inv)
-
-passed-requires-4 : tie.Need-passed-requires-4 Inv-loop μ-loop
-passed-requires-4 c κs = search needs
-
-returns-4 : tie.Need-returns-4 Inv-loop μ-loop
-returns-4 c = rw (c .passed4 .ensures) (c .before .before .before .loop .inv)
+returns-3 c = rw (c .passed3 .ensures) (c .before .before .before .before .before .loop .inv)
 
 pub pass-rows-spec : {M : Type 1} → statement M
 pass-rows-spec =
@@ -134,6 +131,4 @@ pass-rows-spec =
     returns-2
     enum-known-line-3
     passed-requires-3
-    returns-3
-    passed-requires-4
-    returns-4)
+    returns-3)
