@@ -29,6 +29,7 @@ MADE_UP = (
     ("WordAt (now (x .entry)) at r", {"result"}),
     ("Put (now (x .entry)) (now (x .exit)) at (byte ∷ []) r", {"result", "x"}),
     ("Read (now (x .entry)) r (now (y .exit))", {"result", "y"}),
+    ("Lists (now (x .entry)) r (listTables (now (y .exit)) (now (z .exit)))", {"result", "y", "z"}),
     ("wordTables (now (x .exit)) (now (y .exit)) ≡ h r", set()),
     ("wordTables (now (x .exit)) (now (y .exit)) ≡ h", {"x", "y"}),
     ("listTables (now (x .exit)) (now (y .exit)) ≡ h", {"x", "y"}),
@@ -165,7 +166,7 @@ def by_cases(terms, result):
         before, after, at, text, place = parts
         if place == result and left(after) and plain([before, at, text], result):
             return {"result"} | left(after)
-    if head in ("Read", "ReadInWords", "Exports") and result in parts:
+    if head in ("Read", "ReadInWords", "Lists", "Exports") and result in parts:
         at = parts.index(result)
         if plain(parts[:at], result) and all(left(part) for part in parts[at + 1 :]):
             return {"result"} | exits(parts)

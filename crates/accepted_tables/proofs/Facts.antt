@@ -11,6 +11,7 @@ use Rattle.rules.specs.declared.Stage.the-variants.{BeforeVersion}
 use Rattle.layout.specs.Laid.{laid}
 use Rattle.records.specs.declared.Kind.the-variants.{OfComponent}
 use Rattle.records.specs.declared.Lengths.{Lengths}
+use Rattle.room_for_rows.proofs.Laid.{laid-fit}
 use Rattle.layout_by_notes.specs.Lies.{pick, isOf, noted, componentNoted}
 use Rattle.layout_by_notes.proofs.Lists.{latest-length}
 use Rattle.notes.specs.Noted.{heldOf}
@@ -46,7 +47,7 @@ pub accepted : (l : Lengths) (s : List ℕ) (h : Held) → outcome l s ≡ passe
 accepted l s h q =
     let p : Passed l s = passes l s h q in
     let so : Sound (laid (fileIn (textsOf s))) = sound l (fileIn (textsOf s)) (all-pass l s p) in
-    record { counts = counting l s p; least = one l s p; names = names-facts l s p (laid (fileIn (textsOf s))) (laying l s p); components = so .components; selectors = so .selectors; models = so .models; waveforms = so .waveforms }
+    record { counts = counting l s p; rows = laid-fit s (p .clean); least = one l s p; names = names-facts l s p (laid (fileIn (textsOf s))) (laying l s p); components = so .components; selectors = so .selectors; models = so .models; waveforms = so .waveforms }
 
 -- and no fallback of what is read speaks in it
 pub nothing-falls-back : (l : Lengths) (s : List ℕ) (h : Held) → outcome l s ≡ passed h → FileSaid (fileIn (textsOf s))

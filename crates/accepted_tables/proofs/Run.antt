@@ -8,10 +8,10 @@ use lib.Dec.{eqb}
 use borrow.Author.Tests.{eqb-true}
 use Rattle.laws.proofs.Tests.{by-test, cond-yes, cond-no, impossible}
 use Rattle.lines.specs.Lines.{linesOf, bytesFault}
-use Rattle.lines.specs.declared.Bytes.{Bytes}
-use Rattle.lines.specs.declared.Bytes.the-variants.{Clean, Faulty}
+use Rattle.lines.specs.declared.Bytes.the-variants.{Clean}
+use Rattle.rules.proofs.Outcomes.{bytes-passed}
 use Rattle.rules.specs.Outline.{Entry, count, firstFailing}
-use Rattle.rules.specs.Whole.{Held, nothingHeld, Outcome, passed, refused, runs, lastChecks, concluded, textsOf, afterBytes, outcome}
+use Rattle.rules.specs.Whole.{Held, nothingHeld, Outcome, passed, refused, runs, lastChecks, concluded, textsOf, outcome}
 use Rattle.rules.specs.Last.{found, listedIn}
 use Rattle.records.specs.declared.Fault.{Fault}
 use Rattle.records.specs.declared.Kind.the-variants.{OfComponent, OfPin, OfSelector, OfChoice, OfModel}
@@ -25,10 +25,6 @@ use Rattle.layout_by_notes.specs.Lies.{Lies, Bounded}
 use Rattle.layout_by_notes.proofs.Tables.{lies, bounded}
 
 -- ---- from the outcome back to the lines
-
-bytes-passed : (go : Outcome) (b : Bytes) (z : Held) → afterBytes go b ≡ passed z → go ≡ passed z
-bytes-passed go Clean z q = q
-bytes-passed go (Faulty x) z q = impossible (cc)
 
 -- the last checks pass
 pub record Checked (es : List Entry) : Type 0 where
@@ -45,9 +41,9 @@ checks-passed es o z q =
     (λ g. let e : refused 16 (firstFailing (listedIn es) es) 0 ≡ passed z = sym (cond-no _ _ g) ∙ sym (cond-yes _ _ f) ∙ q in impossible (cc)))
     (λ f. let e : refused 15 (firstFailing (found es) es) 0 ≡ passed z = sym (cond-no _ _ f) ∙ q in impossible (cc))
 
-concluded-passed : (o : Outcome) (z : Held) → concluded o ≡ passed z → (h : Held) × (o ≡ passed h) × Checked (reverse (h .entries))
-concluded-passed (passed h) z q = (h, refl, checks-passed (reverse (h .entries)) (passed h) z q)
-concluded-passed (refused n k c) z q = impossible (cc)
+concluded-checked : (o : Outcome) (z : Held) → concluded o ≡ passed z → (h : Held) × (o ≡ passed h) × Checked (reverse (h .entries))
+concluded-checked (passed h) z q = (h, refl, checks-passed (reverse (h .entries)) (passed h) z q)
+concluded-checked (refused n k c) z q = impossible (cc)
 
 -- ---- the notes
 
@@ -84,6 +80,7 @@ nothing-counted OfModel = refl
 -- ---- a file that passes
 
 pub record Passed (l : Lengths) (s : List ℕ) : Type 0 where
+  pub clean : bytesFault s ≡ Clean
   pub past : ℕ
   pub log : Log
   pub read : runs l past BeforeVersion nothingHeld (textsOf s) ≡ passed (heldOf log)
@@ -95,10 +92,12 @@ pub passes : (l : Lengths) (s : List ℕ) (z : Held) → outcome l s ≡ passed 
 unfolding outcome clash
 passes l s z q =
     let past : ℕ = length (linesOf s) + 1 in
-    let c = concluded-passed _ z (bytes-passed _ (bytesFault s) z q) in
+    let b = bytes-passed _ (bytesFault s) z q in
+    let c = concluded-checked _ z (b .1) in
     let f : Finish = runLog l past BeforeVersion emptyLog (textsOf s) in
     let n = settled-passed f (clash (entries (f .log))) (c .0) refl (sym (settles l past (textsOf s) BeforeVersion emptyLog nothing-counted refl) ∙ c .1) in
     record {
+      clean = b .0;
       past = past;
       log = f .log;
       read = c .1 ∙ ap passed (sym (n .held));

@@ -1,5 +1,5 @@
 -- What the tables of every accepted file satisfy, as a list of plain facts.
-use Prim.Native.Nat.{ℕ, _+_, _≤_}
+use Prim.Native.Nat.{ℕ, _+_, _≤_, _<_}
 use mathlib.Core.Path.{_≡_}
 use mathlib.Core.List.{List, [], _∷_, map}
 use mathlib.Core.Logic.{_⊎_}
@@ -15,6 +15,7 @@ use Rattle.rules.specs.Types.{isInput, isDriven, isBelow}
 use Rattle.rules.specs.Model.{isNumber}
 use Rattle.rules.specs.Reading.{noRange}
 use Rattle.layout.specs.Laid.{Laid, countsOf}
+use Rattle.records.specs.Bounds.{mostRows}
 use Rattle.records.specs.Stored.{nameLaid}
 use Rattle.records.specs.declared.Name.{Name}
 use Rattle.records.specs.declared.Lengths.{Lengths}
@@ -199,6 +200,8 @@ pub record NameFacts (a : Laid) : Type 0 where
 pub record AcceptedTables (l : Lengths) (a : Laid) : Type 0 where
   -- every count is within document 01's bound and within what was lent
   pub counts : Bounded l (countsOf a)
+  -- a row takes at least eight bytes of file (document 02, §8)
+  pub rows : length (a .rows) < mostRows
   -- "At least one component in a file"
   pub least : 1 ≤ length (a .components)
   pub names : NameFacts a

@@ -10,7 +10,6 @@ pub mod Texts
 pub mod Walks
 pub mod Bytes
 pub mod Split
-pub mod Loaded
 pub mod Sound
 pub mod Spared
 pub mod Refusal

@@ -20,6 +20,7 @@ use Rattle.keywords.specs.Carried.{keyOf}
 use Rattle.keywords.specs.declared.Keyword.the-variants as key
 use Rattle.keywords.specs.declared.Section.the-variants.{Model}
 use Rattle.cut_lines.specs.Texts.{Text, plain, textsFrom}
+use Rattle.rules.proofs.Outcomes.{loaded-refuses}
 use Rattle.rules.specs.Going.{andThen}
 use Rattle.rules.specs.Model.{newModel}
 use Rattle.rules.specs.Reading.{isWithin}
@@ -35,7 +36,6 @@ use Rattle.rules.specs.declared.Went.the-variants.{On, Stop}
 use Rattle.demand_three.specs.Lines.{charAfterLine, isModelSection}
 use Rattle.demand_three.specs.Demand.{Stands, outOfPlace}
 use Rattle.demand_three.specs.Own.{stopping, textsTell, ownFault, ToldByItsLines}
-use Rattle.demand_three.proofs.Loaded.{loaded-refuses}
 use Rattle.demand_three.proofs.Renumbered.{wentAt}
 use Rattle.demand_three.proofs.Closing.{close, close-at, alone, alone-at, alone-model, opened-either, Closer, misplaced, closes, closer, model-ends, model-key}
 use Rattle.demand_three.proofs.Bytes.{isClean, clean-file, clean-none, BytesSpare, bytes-spare}

@@ -11,14 +11,14 @@ use Rattle.laws.specs.Lists.{all}
 use Rattle.laws.proofs.Tests.{and-first, and-second, impossible}
 use Rattle.laws.proofs.Fronts.{all-first, all-second}
 use Rattle.lines.specs.Lines.{Physical, linesOf, bytesFault, cut}
-use Rattle.lines.specs.declared.Bytes.{Bytes}
-use Rattle.lines.specs.declared.Bytes.the-variants.{Clean, Faulty}
+use Rattle.lines.specs.declared.Bytes.the-variants.{Clean}
 use Rattle.cut_lines.specs.Texts.{Text, plain, textsFrom}
+use Rattle.rules.proofs.Outcomes.{bytes-passed, concluded-passed, loaded-passes}
 use Rattle.rules.specs.Going.{stop, andThen}
 use Rattle.rules.specs.Model.{newModel}
 use Rattle.rules.specs.Steps.{onPlain}
 use Rattle.rules.specs.Reading.{isKey, isWithin}
-use Rattle.rules.specs.Whole.{Held, nothingHeld, Outcome, passed, refused, runs, concluded, textsOf, afterBytes, outcome}
+use Rattle.rules.specs.Whole.{Held, nothingHeld, passed, runs, textsOf, outcome}
 use Rattle.records.specs.declared.Lengths.{Lengths}
 use Rattle.records.specs.declared.Lending.{Lending}
 use Rattle.rules.specs.declared.ModelState.{ModelState}
@@ -31,7 +31,6 @@ use Rattle.rules.specs.declared.Went.the-variants.{On, Stop}
 use Rattle.keywords.specs.declared.Section.the-variants.{Model}
 use Rattle.demand_three.specs.Lines.{textOn, charAfterLine, isModelSection}
 use Rattle.demand_three.specs.Demand.{Stands, AcceptedFile}
-use Rattle.demand_three.proofs.Loaded.{loaded-passes}
 use Rattle.demand_three.proofs.Renumbered.{stageAt}
 use Rattle.cut_lines.proofs.Renumbered.{textAt, texts-map}
 use Rattle.demand_three.proofs.Closing.{close, close-at, alone, Closer, misplaced, closes, closer, model-ends, model-key, alone-anywhere}
@@ -46,14 +45,6 @@ pub record Passing (l : Lengths) (s : List ℕ) : Type 0 where
   pub clean : bytesFault s ≡ Clean
   pub held : Held
   pub runsOn : runs l (length (linesOf s) + 1) BeforeVersion nothingHeld (textsOf s) ≡ passed held
-
-concluded-passed : (o : Outcome) (z : Held) → concluded o ≡ passed z → (h : Held) × (o ≡ passed h)
-concluded-passed (passed h) z q = (h, refl)
-concluded-passed (refused n k c) z q = impossible (cc)
-
-bytes-passed : (go : Outcome) (b : Bytes) (z : Held) → afterBytes go b ≡ passed z → (b ≡ Clean) × (go ≡ passed z)
-bytes-passed go Clean z q = (refl, q)
-bytes-passed go (Faulty x) z q = impossible (cc)
 
 pub passing : (l : Lending) (s : List ℕ) → AcceptedFile l s → Passing (l .tables) s
 unfolding outcome

@@ -4,13 +4,12 @@ use mathlib.Core.Path.{_≡_, refl, sym, ap, _∙_, subst}
 use mathlib.Core.List.{List, map, reverse}
 use mathlib.Core.Option.{none, some}
 use native.Mathlib.Omega.{arith}
-use borrow.Author.Tests.{le-leb, lt-leb}
-use Rattle.laws.proofs.Tests.{cond-yes, cond-no}
 use Rattle.cut_lines.specs.Texts.{Text}
 use Rattle.cut_lines.specs.Cursors.{rest, past, firstCursor, Placed}
 use Rattle.cut_lines.specs.declared.Cursor.{Cursor}
 use Rattle.rules.specs.Reading.{fileIn}
 use Rattle.layout.specs.Laid.{laid, countsOf}
+use Rattle.rules.proofs.Outcomes.{loaded-few, loaded-enough}
 use Rattle.rules.specs.Outline.{is}
 use Rattle.rules.specs.Whole.{Held, Outcome, passed, refused, outcome, loading, textsOf, lastChecks}
 use Rattle.lines.specs.Lines.{bytesFault}
@@ -115,14 +114,13 @@ module _ (l : Lending) (s xs : List ℕ) (r : Answer) where
   loads-as o is e kept = record { answer = e ∙ sym (ap (answerFor (fileIn (textsOf s))) is); sorted = subst (LoadedFor l s xs) (sym is) kept }
 
   pub too-few : l .rows < mostRows → r ≡ refusal (record { number = 25; line = 0; column = 0 }) → Loads l s r xs
-  unfolding loading
-  too-few few e = loads-as (refused 25 0 0) (cond-no _ _ (lt-leb mostRows (l .rows) few)) e tt
+  too-few few e = loads-as (refused 25 0 0) (loaded-few l s few) e tt
 
   with-rows : mostRows ≤ l .rows → (o : Outcome) → SortedFor (l .tables) s xs o → LoadedFor l s xs o
   with-rows enough (passed h) sorted = (sorted, enough)
   with-rows enough (refused n k c) u = tt
 
   pub loads : mostRows ≤ l .rows → Outlines (l .tables) s r xs → Loads l s r xs
-  unfolding loading answerOf
+  unfolding answerOf
   loads enough said =
-      loads-as (outcome (l .tables) s) (cond-yes _ _ (le-leb mostRows (l .rows) enough)) (said .answer) (with-rows enough (outcome (l .tables) s) (said .sorted))
+      loads-as (outcome (l .tables) s) (loaded-enough l s enough) (said .answer) (with-rows enough (outcome (l .tables) s) (said .sorted))

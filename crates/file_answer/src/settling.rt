@@ -48,6 +48,17 @@ fn refused(f: Fault) -> Answer
     }
 }
 
+// A fault that tells no column.
+fn refused_at(number: u8, line: u64) -> Answer
+    ensures { λ r. ⌜ r ≡ refusal (record { number = number; line = line; column = 0 }) ⌝ }
+{
+    refused(Fault {
+        number: number,
+        line: line,
+        column: 0,
+    })
+}
+
 fn accepted(src: &[u8], c: Counts) -> Answer
     ensures { λ r. ⌜ r ≡ record { verdict = Accepted; counts = c; header = headerLaid (rest (now (src .entry)) firstCursor) } ⌝ }
 {
@@ -78,11 +89,7 @@ fn settle(src: &[u8], l: Lengths, notes: &mut [u16]) -> Answer
     let t = z.tally;
     let ending = z.ending;
     match name_checks::first_clash(src, notes, t.names) {
-        Clash::At(k) => refused(Fault {
-            number: 14,
-            line: k,
-            column: 0,
-        }),
+        Clash::At(k) => refused_at(14, k),
         Clash::NoClash => match ending {
             Ending::Whole => last_checks(src, l, t, notes),
             Ending::Broken(f) => refused(f),
@@ -107,11 +114,7 @@ pub fn loaded(src: &[u8], l: Lending, notes: &mut [u16]) -> Answer
     ensures { λ r. ⌜ Loads l (now (src .entry)) r (now (notes .exit)) ⌝ }
 {
     if l.rows < MOST_ROWS {
-        return refused(Fault {
-            number: 25,
-            line: 0,
-            column: 0,
-        });
+        return refused_at(25, 0);
     }
     outlined(src, l.tables, notes)
 }

@@ -1,10 +1,12 @@
 -- The promise leaves one answer and one content of the lent tables, since both are given by an equation.
-use Prim.Native.Nat.{ℕ}
+use Prim.Native.Nat.{ℕ, _<_}
 use mathlib.Core.Path.{_≡_, sym, ap, _∙_}
 use mathlib.Core.List.{List, _++_}
 use lib.ListN.{length, drop}
+use Rattle.rules.proofs.Outcomes.{loaded-few}
 use Rattle.rules.specs.Reading.{fileIn}
 use Rattle.layout.specs.Laid.{Laid, laid, countsOf}
+use Rattle.records.specs.Bounds.{mostRows}
 use Rattle.records.specs.Stored.{over}
 use Rattle.rules.specs.Whole.{Held, passed, refused, loading, textsOf}
 use Rattle.file_answer.specs.Answered.{answerFor, answerIn}
@@ -31,6 +33,14 @@ module _ (s : List ℕ) (t : Lent) (r : Answer) (u : Lent) (reads : Reads s t r 
 
     pub leaves-it : u ≡ t
     leaves-it = reads .tables ∙ ap (λ o. left o file t) is
+
+  -- where fewer rows are lent than a file can have, 25 is told whatever the file is, and nothing is written
+  module _ (few : lendingIn t .rows < mostRows) where
+    pub refuses-any : r .verdict ≡ Refused (record { number = 25; line = 0; column = 0 })
+    refuses-any = refuses-it 25 0 0 (loaded-few (lendingIn t) s few)
+
+    pub leaves-any : u ≡ t
+    leaves-any = leaves-it 25 0 0 (loaded-few (lendingIn t) s few)
 
   -- a file without a fault is accepted, as many of each are counted as the file has, and every model of the file lies in its table
   module _ (h : Held) (is : loading (lendingIn t) s ≡ passed h) where

@@ -14,6 +14,6 @@ most OfModel = 64
 abbrev pub mostWaveforms : ℕ
 mostWaveforms = 1024
 
--- document 02, §8: as many rows are to be lent to whoever loads a file; no file has more
+-- as many rows are to be lent to whoever loads a file (document 02, §8); no file has more
 abbrev pub mostRows : ℕ
 mostRows = 8192

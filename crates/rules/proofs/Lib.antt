@@ -7,3 +7,4 @@ pub mod Keys
 pub mod Tables
 pub mod Sanity
 pub mod Same
+pub mod Outcomes

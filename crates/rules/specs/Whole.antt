@@ -134,7 +134,7 @@ unfoldable pub outcome : Lengths → List ℕ → Outcome
 outcome l s =
     afterBytes (concluded (runs l (length (linesOf s) + 1) BeforeVersion nothingHeld (textsOf s))) (bytesFault s)
 
--- ---- a file that is loaded, where the rows are lent too: "25, before fault 1, exactly if fewer than 8,192 rows are lent" (document 02, §8)
+-- ---- a file that is loaded, where rows are lent too; document 02: "25, before fault 1, exactly if fewer than 8,192 rows are lent"
 
 unfoldable pub loading : Lending → List ℕ → Outcome
 loading l s = cond (leb mostRows (l .rows)) (outcome (l .tables) s) (refused 25 0 0)

@@ -20,8 +20,8 @@ first-clash-requires c κs = c .before .before .before .before .scan .ensures .1
 enum-known-k : tie.Need-enum-known-k
 enum-known-k c = search needs
 
-refused-requires : tie.Need-refused-requires
-refused-requires c κs = tt
+refused-at-requires : tie.Need-refused-at-requires
+refused-at-requires c κs = tt
 
 enum-told : tie.Need-enum-told
 enum-told c = search needs
@@ -37,8 +37,8 @@ last-checks-requires c κs =
 enum-known-ending : tie.Need-enum-known-ending
 enum-known-ending c = search needs
 
-refused-requires-2 : tie.Need-refused-requires-2
-refused-requires-2 c κs = tt
+refused-requires : tie.Need-refused-requires
+refused-requires c κs = tt
 
 same-length : tie.Need-same-length
 same-length c = search needs
@@ -47,7 +47,7 @@ returns : tie.Need-returns
 returns c =
     let a = c .before .before .before .before .before .before .before .before .before .before .before .before .before .args in
     let s = now (a .src) in
-    refuses (a .l) s _ _ _ (twice (a .l) s (c .before .before .before .before .before .before .before .before .before .scan .last .0) (c .before .before .before .before .before .before .before .before .before .scan .result) (c .before .before .before .before .before .before .before .before .before .before .before .before .before .pre .0) (c .before .before .before .before .before .before .before .before .before .scan .ensures .0) _ (found-clash _ _ (sym (c .before .before .k .given .1) ∙ c .before .before .before .before .first-clash .ensures))) (c .refused .ensures)
+    refuses (a .l) s _ _ _ (twice (a .l) s (c .before .before .before .before .before .before .before .before .before .scan .last .0) (c .before .before .before .before .before .before .before .before .before .scan .result) (c .before .before .before .before .before .before .before .before .before .before .before .before .before .pre .0) (c .before .before .before .before .before .before .before .before .before .scan .ensures .0) _ (found-clash _ _ (sym (c .before .before .k .given .1) ∙ c .before .before .before .before .first-clash .ensures))) (c .refused-at .ensures)
 
 same-length-2 : tie.Need-same-length-2
 same-length-2 c = search needs
@@ -62,7 +62,7 @@ returns-3 : tie.Need-returns-3
 returns-3 c =
     let a = c .before .before .before .before .before .before .before .before .before .before .before .before .before .before .before .args in
     let s = now (a .src) in
-    refuses (a .l) s _ _ _ (broken (a .l) s (c .before .before .before .before .before .before .before .before .before .before .before .scan .last .0) (c .before .before .before .before .before .before .before .before .before .before .before .scan .result) (c .before .before .before .before .before .before .before .before .before .before .before .before .before .before .before .pre .0) (c .before .before .before .before .before .before .before .before .before .before .before .scan .ensures .0) _ (no-clash _ (sym (c .before .before .before .before .enum-told .given .1) ∙ c .before .before .before .before .before .before .first-clash .ensures)) (c .before .before .ending .given .1)) (c .refused2 .ensures)
+    refuses (a .l) s _ _ _ (broken (a .l) s (c .before .before .before .before .before .before .before .before .before .before .before .scan .last .0) (c .before .before .before .before .before .before .before .before .before .before .before .scan .result) (c .before .before .before .before .before .before .before .before .before .before .before .before .before .before .before .pre .0) (c .before .before .before .before .before .before .before .before .before .before .before .scan .ensures .0) _ (no-clash _ (sym (c .before .before .before .before .enum-told .given .1) ∙ c .before .before .before .before .before .before .first-clash .ensures)) (c .before .before .ending .given .1)) (c .refused .ensures)
 
 pub settle-spec : {M : Type 1} → statement M
 settle-spec =
@@ -71,12 +71,12 @@ settle-spec =
     scan-requires
     first-clash-requires
     enum-known-k
-    refused-requires
+    refused-at-requires
     enum-told
     enum-told-2
     last-checks-requires
     enum-known-ending
-    refused-requires-2
+    refused-requires
     same-length
     returns
     same-length-2
