@@ -25,7 +25,7 @@ pub fn fault_number(v: Verdict) -> u8
     }
 }
 
-pub fn fault_line(v: Verdict) -> u64
+fn fault_line(v: Verdict) -> u64
     ensures { λ r. ⌜ r ≡ faultLine v ⌝ }
 {
     match v {
@@ -34,7 +34,7 @@ pub fn fault_line(v: Verdict) -> u64
     }
 }
 
-pub fn fault_column(v: Verdict) -> u64
+fn fault_column(v: Verdict) -> u64
     ensures { λ r. ⌜ r ≡ faultColumn v ⌝ }
 {
     match v {
