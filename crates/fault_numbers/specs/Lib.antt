@@ -1,0 +1,2 @@
+-- Which numbers faults have.
+pub mod Numbers
