@@ -13,7 +13,8 @@ use Rattle.rules.specs.Reading.{fileIn}
 use Rattle.layout.specs.Laid.{Laid, laid, countsOf}
 use Rattle.examples.specs.Computing.{computing}
 use Rattle.examples.specs.Starred.{firstSection}
-use Rattle.demand_three.specs.Lines.{textOn, charAfterLine, charAfterLines, sectionsOn, beginsAnother}
+use Rattle.cut_lines.specs.InForce.{charAfterLine, charAfterLines}
+use Rattle.demand_three.specs.Lines.{textOn, sectionsOn, beginsAnother}
 use Rattle.demand_three.specs.Demand.{AcceptedFile}
 use Rattle.cheats.specs.Files.{listed, misnamed, altered, clamped}
 use Rattle.cheats.specs.Cheats.{allLent, nameLength, clampRows, SameFirst}

@@ -6,7 +6,8 @@ use mathlib.Core.Path.{_≡_}
 use mathlib.Core.Bool.{true}
 use mathlib.Core.List.{List, [], _∷_, _++_}
 use Rattle.lines.specs.Lines.{Physical, linesOf}
-use Rattle.demand_three.specs.Lines.{charAfterLines, sectionsOn, beginsAnother}
+use Rattle.cut_lines.specs.InForce.{charAfterLines}
+use Rattle.demand_three.specs.Lines.{sectionsOn, beginsAnother}
 use Rattle.notes.specs.Noted.{nothingUsed}
 use Rattle.records.specs.declared.Fault.{Fault}
 use Rattle.records.specs.declared.Verdict.the-variants.{Accepted, Refused}

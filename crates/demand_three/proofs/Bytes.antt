@@ -1,40 +1,16 @@
 -- Faults 1 to 4: one told at a line of a section is the first of its own lines.
 use Prim.Native.Nat.{ℕ, suc, _+_, _≤_, _<_}
-use mathlib.Core.Path.{_≡_, refl, subst, _∙_}
+use mathlib.Core.Path.{_≡_, subst, _∙_}
 use mathlib.Core.List.{List, [], _∷_, _++_}
-use mathlib.Core.Bool.{Bool, true}
 use native.Mathlib.Omega.{arith}
 use lib.ListN.{length}
-use lib.Dec.{eqb, leb}
-use Rattle.laws.specs.Lists.{all}
-use Rattle.laws.proofs.Tests.{by-test, cond-yes, cond-no, cond-all, and-both, and-first, and-second}
-use Rattle.lines.specs.Lines.{Physical, linesOf, lineFault, faultFrom, bytesFault}
+use lib.Dec.{leb}
+use Rattle.laws.proofs.Tests.{cond-yes, cond-no, cond-all}
+use Rattle.lines.specs.Lines.{Physical, linesOf, faultFrom, bytesFault}
 use Rattle.records.specs.declared.Fault.{Fault}
 use Rattle.lines.specs.declared.Bytes.{Bytes}
 use Rattle.lines.specs.declared.Bytes.the-variants.{Clean, Faulty}
-
-abbrev pub isClean : Physical → Bool
-isClean l = eqb (lineFault l) 0
-
-clean-lines : (k : ℕ) (ls : List Physical) → faultFrom k ls ≡ Clean → all isClean ls ≡ true
-unfolding faultFrom all
-clean-lines k [] h = refl
-clean-lines k (l ∷ ls) h =
-    by-test (isClean l)
-    (λ t. and-both _ _ t (clean-lines (k + 1) ls (rw t at h)))
-    (λ t. let z : Faulty (record { number = lineFault l; line = k; column = 0 }) ≡ Clean = rw t at h in cc)
-
-pub clean-file : (s : List ℕ) → bytesFault s ≡ Clean → all isClean (linesOf s) ≡ true
-unfolding bytesFault
-clean-file s h =
-    by-test (leb (length s) 65536)
-    (λ t. clean-lines 1 (linesOf s) (rw t at h))
-    (λ t. let z : Faulty (record { number = 1; line = 0; column = 0 }) ≡ Clean = rw t at h in cc)
-
-pub clean-none : (k : ℕ) (ls : List Physical) → all isClean ls ≡ true → faultFrom k ls ≡ Clean
-unfolding faultFrom all
-clean-none k [] h = refl
-clean-none k (l ∷ ls) h = cond-yes _ _ (and-first (isClean l) (all isClean ls) h) ∙ clean-none (k + 1) ls (and-second (isClean l) (all isClean ls) h)
+use Rattle.lines.proofs.Clean.{isClean}
 
 -- ---- the section's lines are those after lo, up to hi; a fault told there has Own
 

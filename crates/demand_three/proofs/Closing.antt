@@ -44,8 +44,8 @@ use Rattle.rules.specs.declared.Event.{Event}
 use Rattle.rules.specs.declared.Event.the-variants.{Opened, Ended}
 use Rattle.rules.specs.declared.Went.{Went}
 use Rattle.rules.specs.declared.Went.the-variants.{On, Stop}
-use Rattle.demand_three.proofs.Renumbered.{stageAt, wentAt, then-at}
-use Rattle.demand_three.proofs.Steps.{shut-at, done-at, opened-at}
+use Rattle.renumbered.proofs.Stages.{stageAt, wentAt, then-at}
+use Rattle.renumbered.proofs.Steps.{shut-at, done-at, opened-at}
 
 -- ---- the keyword of such a line
 

@@ -17,7 +17,8 @@ use Rattle.rules.proofs.Same.{same-split}
 use Rattle.records.specs.Bounds.{mostRows}
 use Rattle.records.specs.declared.Lending.{Lending}
 use Rattle.examples.specs.Computing.{computing}
-use Rattle.demand_three.specs.Lines.{textOn, charAfterLine, charAfterLines, beginsAnother, isModelSection}
+use Rattle.cut_lines.specs.InForce.{charAfterLine, charAfterLines}
+use Rattle.demand_three.specs.Lines.{textOn, beginsAnother, isModelSection}
 use Rattle.demand_three.specs.Demand.{Stands, AcceptedFile, SameIn, Excepted, outOfPlace, usedTwice, notListed, fullTable, Spares}
 use Rattle.demand_three.specs.Own.{OwnTold, SameFault}
 use Rattle.demand_three.proofs.Own.{same-faults}

@@ -1,9 +1,4 @@
 -- The proof of demand 3.
-pub mod Renumbered
-pub mod Header
-pub mod Component
-pub mod Model
-pub mod Steps
 pub mod Within
 pub mod Closing
 pub mod Texts

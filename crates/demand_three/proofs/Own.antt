@@ -22,14 +22,15 @@ use Rattle.rules.specs.declared.Stage.{Stage}
 use Rattle.rules.specs.declared.Stage.the-variants.{InModel}
 use Rattle.rules.specs.declared.Went.{Went}
 use Rattle.rules.specs.declared.Went.the-variants.{On, Stop}
-use Rattle.demand_three.specs.Lines.{charAfterLine, isModelSection}
+use Rattle.cut_lines.specs.InForce.{charAfterLine}
+use Rattle.demand_three.specs.Lines.{isModelSection}
 use Rattle.demand_three.specs.Demand.{Stands}
 use Rattle.demand_three.specs.Own.{orSooner, stopping, textsTell, ownFault, OwnTold, SameFault, SameFaults}
-use Rattle.demand_three.proofs.Renumbered.{stageAt, faultAt, wentAt}
-use Rattle.demand_three.proofs.Steps.{opened-at, on-text-at}
+use Rattle.renumbered.proofs.Stages.{stageAt, faultAt, wentAt}
+use Rattle.renumbered.proofs.Steps.{opened-at, on-text-at}
 use Rattle.demand_three.proofs.Closing.{close, close-at, alone-model, model-key}
 use Rattle.demand_three.proofs.Walks.{Walks}
-use Rattle.demand_three.proofs.Bytes.{isClean, clean-none}
+use Rattle.lines.proofs.Clean.{isClean, clean-none}
 use Rattle.demand_three.proofs.Sound.{Sound, key-model}
 use Rattle.demand_three.proofs.Refusal.{told-by-its-lines}
 

@@ -33,12 +33,14 @@ use Rattle.rules.specs.declared.Stage.the-variants.{BeforeVersion, InModel}
 use Rattle.rules.specs.declared.Event.the-variants.{Opened}
 use Rattle.rules.specs.declared.Went.{Went}
 use Rattle.rules.specs.declared.Went.the-variants.{On, Stop}
-use Rattle.demand_three.specs.Lines.{charAfterLine, isModelSection}
+use Rattle.cut_lines.specs.InForce.{charAfterLine}
+use Rattle.demand_three.specs.Lines.{isModelSection}
 use Rattle.demand_three.specs.Demand.{Stands, outOfPlace}
 use Rattle.demand_three.specs.Own.{stopping, textsTell, ownFault, ToldByItsLines}
-use Rattle.demand_three.proofs.Renumbered.{wentAt}
+use Rattle.renumbered.proofs.Stages.{wentAt}
 use Rattle.demand_three.proofs.Closing.{close, close-at, alone, alone-at, alone-model, opened-either, Closer, misplaced, closes, closer, model-ends, model-key}
-use Rattle.demand_three.proofs.Bytes.{isClean, clean-file, clean-none, BytesSpare, bytes-spare}
+use Rattle.lines.proofs.Clean.{isClean, clean-file, clean-none}
+use Rattle.demand_three.proofs.Bytes.{BytesSpare, bytes-spare}
 use Rattle.demand_three.proofs.Split.{split, early}
 use Rattle.demand_three.proofs.Sound.{key-ends, key-model, body-within}
 use Rattle.demand_three.proofs.Spared.{outside, outside-low, outside-high, AllFine, Safe, spare-outside, Goes, admits-safe, admits-model, step-outside, texts-outside, out-outside, texts-within, concluded-safe}

@@ -24,7 +24,8 @@ use Rattle.rules.specs.Same.{nowhere, noTable, tableOf, waveformsOf, SameModel}
 use Rattle.rules.specs.Whole.{textsOf}
 use Rattle.rules.proofs.Keys.{within-key, section-at}
 use Rattle.rules.proofs.Numberless.{Numberless, model-numberless, tables-within-numberless}
-use Rattle.demand_three.specs.Lines.{charAfterLine, sectionsOn, isModelSection}
+use Rattle.cut_lines.specs.InForce.{charAfterLine}
+use Rattle.demand_three.specs.Lines.{sectionsOn, isModelSection}
 use Rattle.demand_three.specs.Demand.{Stands, placeOf, Says}
 use Rattle.demand_three.proofs.Texts.{key-first, anywhere}
 use Rattle.demand_three.proofs.Split.{split}

@@ -29,14 +29,15 @@ use Rattle.rules.specs.declared.Event.the-variants.{Opened}
 use Rattle.rules.specs.declared.Went.{Went}
 use Rattle.rules.specs.declared.Went.the-variants.{On, Stop}
 use Rattle.keywords.specs.declared.Section.the-variants.{Model}
-use Rattle.demand_three.specs.Lines.{textOn, charAfterLine, isModelSection}
+use Rattle.cut_lines.specs.InForce.{charAfterLine}
+use Rattle.demand_three.specs.Lines.{textOn, isModelSection}
 use Rattle.demand_three.specs.Demand.{Stands, AcceptedFile}
-use Rattle.demand_three.proofs.Renumbered.{stageAt}
+use Rattle.renumbered.proofs.Stages.{stageAt}
 use Rattle.cut_lines.proofs.Renumbered.{textAt, texts-map}
 use Rattle.demand_three.proofs.Closing.{close, close-at, alone, Closer, misplaced, closes, closer, model-ends, model-key, alone-anywhere}
 use Rattle.demand_three.proofs.Texts.{key-text, anywhere, within-numberless}
 use Rattle.demand_three.proofs.Walks.{Walks, on-back, walks-back, walks-model, walked}
-use Rattle.demand_three.proofs.Bytes.{isClean, clean-file}
+use Rattle.lines.proofs.Clean.{isClean, clean-file}
 use Rattle.demand_three.proofs.Split.{split}
 
 -- ---- a file that passes

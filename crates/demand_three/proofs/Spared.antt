@@ -35,9 +35,9 @@ use Rattle.rules.specs.declared.Went.{Went}
 use Rattle.rules.specs.declared.Went.the-variants.{On, Stop}
 use Rattle.demand_three.specs.Demand.{Excepted, usedTwice, notListed, fullTable}
 use Rattle.demand_three.specs.Own.{stopping, textsTell}
-use Rattle.demand_three.proofs.Renumbered.{stageAt, wentAt}
+use Rattle.renumbered.proofs.Stages.{stageAt, wentAt}
 use Rattle.cut_lines.proofs.Renumbered.{textAt}
-use Rattle.demand_three.proofs.Steps.{on-text-at}
+use Rattle.renumbered.proofs.Steps.{on-text-at}
 use Rattle.demand_three.proofs.Within.{isInModel, isOfModel}
 use Rattle.demand_three.proofs.Walks.{in-model, step-stays}
 

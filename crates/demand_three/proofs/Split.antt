@@ -11,7 +11,8 @@ use Rattle.lines.specs.Lines.{Physical, linesOf, cut}
 use Rattle.cut_lines.specs.Texts.{Text, plain, textsFrom}
 use Rattle.rules.specs.Reading.{isWithin}
 use Rattle.rules.specs.Whole.{textsOf}
-use Rattle.demand_three.specs.Lines.{textOn, charAfterLine, charAfterLines, beginsAnother}
+use Rattle.cut_lines.specs.InForce.{charAfterLine, charAfterLines}
+use Rattle.demand_three.specs.Lines.{textOn, beginsAnother}
 use Rattle.demand_three.specs.Demand.{Stands}
 use Rattle.laws.proofs.Tests.{impossible}
 use Rattle.cut_lines.proofs.Renumbered.{textAt, texts-map}

@@ -16,7 +16,8 @@ use Rattle.line_rules.specs.Fields.{isBracketed}
 use Rattle.rules.specs.Reading.{isWithin}
 use Rattle.rules.proofs.Keys.{within-key}
 use Rattle.rules.proofs.Numberless.{Numberless}
-use Rattle.demand_three.specs.Lines.{textOn, charAfterLine, charAfterLines}
+use Rattle.cut_lines.specs.InForce.{charAfterLine, charAfterLines}
+use Rattle.demand_three.specs.Lines.{textOn}
 
 -- ---- one line: its own texts, none or one, and those of the lines behind it
 

@@ -18,9 +18,9 @@ use Rattle.rules.specs.declared.Stage.the-variants.{BeforeVersion, InHeader, In
 use Rattle.rules.specs.declared.Event.{Event}
 use Rattle.rules.specs.declared.Went.{Went}
 use Rattle.rules.specs.declared.Went.the-variants.{On, Stop}
-use Rattle.demand_three.proofs.Renumbered.{stageAt, wentAt}
+use Rattle.renumbered.proofs.Stages.{stageAt, wentAt}
 use Rattle.cut_lines.proofs.Renumbered.{textAt}
-use Rattle.demand_three.proofs.Steps.{on-text-at}
+use Rattle.renumbered.proofs.Steps.{on-text-at}
 use Rattle.demand_three.proofs.Within.{isInModel, isOfModel, stays, text-stays}
 
 -- from stage s the texts lead to stage v

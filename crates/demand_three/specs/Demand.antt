@@ -13,7 +13,8 @@ use Rattle.rules.specs.Reading.{SectionIs, model, sectionsIn, fileIn}
 use Rattle.rules.specs.Same.{SameModel}
 use Rattle.layout.specs.Laid.{Laid, withSection, laid}
 use Rattle.records.specs.declared.Lending.{Lending}
-use Rattle.demand_three.specs.Lines.{charAfterLines, sectionsOn, beginsAnother, isModelSection}
+use Rattle.cut_lines.specs.InForce.{charAfterLines}
+use Rattle.demand_three.specs.Lines.{sectionsOn, beginsAnother, isModelSection}
 
 -- ---- the premises
 

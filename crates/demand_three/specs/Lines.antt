@@ -1,28 +1,20 @@
--- Lines one by one, as document 01 reads them: the text that a line leaves, and the comment character in force. In each, c is the comment
+-- Lines one by one, as document 01 reads them: the text that a line leaves, and whether it opens a section. In each, c is the comment
 -- character in force at the first line.
 use Prim.Native.Nat.{ℕ}
 use mathlib.Core.List.{List, [], _∷_}
 use mathlib.Core.Bool.{Bool, false, cond, not, _&&_}
 use lib.ListN.{length}
 use Rattle.laws.specs.Lists.{all}
-use Rattle.laws.specs.Said.{orElse}
 use Rattle.records.specs.Flaws.{bare}
 use Rattle.lines.specs.Lines.{Physical, cut}
-use Rattle.cut_lines.specs.Change.{isChange, changeOf}
+use Rattle.cut_lines.specs.Change.{isChange}
+use Rattle.cut_lines.specs.InForce.{charAfterLine}
 use Rattle.cut_lines.specs.Texts.{Text, plain, change, textsFrom}
 use Rattle.rules.specs.Reading.{isKey, isWithin, sectionsIn}
 
 -- what cutting leaves of a line; its number and a [Comment Char] line's fault do not count here
 unfoldable pub textOn : ℕ → Physical → Text
 textOn c l = cond (isChange (l .bytes)) (change 0 (bare 0)) (plain 0 (cut c (l .bytes)))
-
--- the comment character in force after a line, and after lines
-unfoldable pub charAfterLine : ℕ → Physical → ℕ
-charAfterLine c l = cond (isChange (l .bytes)) (orElse c (changeOf (l .bytes))) c
-
-unfoldable pub charAfterLines : ℕ → List Physical → ℕ
-charAfterLines c [] = c
-charAfterLines c (l ∷ ls) = charAfterLines (charAfterLine c l) ls
 
 -- how many sections are read from the lines
 unfoldable pub sectionsOn : ℕ → List Physical → ℕ

@@ -19,7 +19,8 @@ use Rattle.rules.specs.Whole.{refused, loading}
 use Rattle.rules.specs.declared.Stage.{Stage}
 use Rattle.rules.specs.declared.Went.{Went}
 use Rattle.rules.specs.declared.Went.the-variants.{On, Stop}
-use Rattle.demand_three.specs.Lines.{charAfterLine, isModelSection}
+use Rattle.cut_lines.specs.InForce.{charAfterLine}
+use Rattle.demand_three.specs.Lines.{isModelSection}
 use Rattle.demand_three.specs.Demand.{Stands, Excepted}
 
 -- ---- what a section's lines tell by themselves: a fault of their bytes, or else of its keyword, of a text under it, or at its close

@@ -6,6 +6,7 @@ pub mod Bytes
 pub mod Lists
 pub mod Fronts
 pub mod Trims
+pub mod Appended
 pub mod Same
 pub mod Order
 pub mod Eights

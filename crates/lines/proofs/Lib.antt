@@ -5,3 +5,4 @@ pub mod Blocks
 pub mod Places
 pub mod Handed
 pub mod Numbers
+pub mod Clean

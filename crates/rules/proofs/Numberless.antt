@@ -2,21 +2,18 @@
 use Prim.Native.Nat.{ℕ}
 use Prim.Native.String.{String}
 use mathlib.Core.Path.{_≡_, refl, ap, _∙_}
-use mathlib.Core.List.{List, [], _∷_, _++_, map}
+use mathlib.Core.List.{List, [], _∷_, map}
 use mathlib.Core.Bool.{cond}
-use Rattle.laws.specs.Bytes.{bytes}
-use Rattle.laws.specs.Lists.{front, oneOf}
+use Rattle.laws.specs.Lists.{front}
 use Rattle.laws.proofs.Fronts.{front-map}
-use Rattle.words.specs.Words.{words}
 use Rattle.keywords.specs.Form.{argument}
 use Rattle.records.specs.declared.Span.{Span}
 use Rattle.records.specs.declared.Table.{Table}
 use Rattle.cut_lines.specs.Texts.{Text, plain, change}
 use Rattle.cut_lines.proofs.Renumbered.{textAt}
 use Rattle.line_rules.specs.Fields.{isBracketed}
-use Rattle.line_rules.specs.Tables.{tableKeywords}
 use Rattle.rules.specs.Component.{pinIn}
-use Rattle.rules.specs.Reading.{keyName, isKey, argumentAt, under, linesUnder, keySays, pinsIn, componentIn, choiceIn, choicesIn, modelIn, TableIs, tablesIn, isWithin}
+use Rattle.rules.specs.Reading.{isKey, under, linesUnder, keySays, pinsIn, componentIn, choiceIn, choicesIn, modelIn, tablesIn, isWithin, headerSays}
 
 abbrev pub Numberless : {A : Type 0} → (List Text → A) → Type 0
 Numberless g = (f : ℕ → ℕ) (ts : List Text) → g (map (textAt f) ts) ≡ g ts
@@ -88,3 +85,7 @@ model-numberless n table waveforms name = within (modelIn n table waveforms name
 
 pub tables-within-numberless : Numberless (λ (ts : List Text). tablesIn (front isWithin ts))
 tables-within-numberless = within tablesIn tables-numberless
+
+pub header-numberless : (name : String) → Numberless (headerSays name)
+unfolding headerSays
+header-numberless name = within (keySays name (λ w ls. w) []) (says-numberless name (λ w ls. w) [])

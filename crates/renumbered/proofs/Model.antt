@@ -21,7 +21,7 @@ use Rattle.rules.specs.declared.ModelList.{ModelList}
 use Rattle.rules.specs.declared.ModelList.the-variants.{ModelFirst, ModelShut, CurrentRows, RampLines, WaveformRows}
 use Rattle.rules.specs.declared.ModelState.{ModelState}
 use Rattle.rules.specs.declared.Stage.the-variants.{InModel}
-use Rattle.demand_three.proofs.Renumbered.{modelListAt, modelAt, wentAt, unless-at, passes-at, refuse-at, named-at}
+use Rattle.renumbered.proofs.Stages.{modelListAt, modelAt, wentAt, unless-at, passes-at, refuse-at, named-at}
 
 module _ (f : ℕ → ℕ) where
   -- ---- its lines

@@ -10,7 +10,7 @@ use Rattle.rules.specs.Component.{componentLine, componentOpens, componentPart,
 use Rattle.rules.specs.declared.ComponentList.{ComponentList}
 use Rattle.rules.specs.declared.ComponentList.the-variants.{ComponentFirst, ComponentShut, PackageLines, PinRows}
 use Rattle.rules.specs.declared.ComponentState.{ComponentState}
-use Rattle.demand_three.proofs.Renumbered.{componentListAt, componentAt, wentAt, passes-at, refuse-at, named-at}
+use Rattle.renumbered.proofs.Stages.{componentListAt, componentAt, wentAt, passes-at, refuse-at, named-at}
 
 module _ (f : ℕ → ℕ) where
   pub component-line-at : (c : ComponentState) (k : ℕ) (w : List ℕ) (l : ComponentList)

@@ -23,11 +23,11 @@ use Rattle.rules.specs.declared.Stage.the-variants.{BeforeVersion, InHeader, In
 use Rattle.rules.specs.declared.Event.the-variants.{Ended}
 use Rattle.rules.specs.declared.Went.{Went}
 use Rattle.rules.specs.declared.Went.the-variants.{On}
-use Rattle.demand_three.proofs.Renumbered.{stageAt, wentAt, unless-at, passes-at, refuse-at, then-at}
+use Rattle.renumbered.proofs.Stages.{stageAt, wentAt, unless-at, passes-at, refuse-at, then-at}
 use Rattle.cut_lines.proofs.Renumbered.{textAt}
-use Rattle.demand_three.proofs.Header.{version-at, header-part-at, header-line-at, header-done-at, selector-line-at, selector-shut-at}
-use Rattle.demand_three.proofs.Component.{component-line-at, component-part-at, component-shut-at, component-done-at}
-use Rattle.demand_three.proofs.Model.{model-line-at, model-part-at, model-shut-at, model-done-at}
+use Rattle.renumbered.proofs.Header.{version-at, header-part-at, header-line-at, header-done-at, selector-line-at, selector-shut-at}
+use Rattle.renumbered.proofs.Component.{component-line-at, component-part-at, component-shut-at, component-done-at}
+use Rattle.renumbered.proofs.Model.{model-line-at, model-part-at, model-shut-at, model-done-at}
 
 module _ (f : ℕ → ℕ) where
   -- ---- what a line closes

@@ -10,7 +10,7 @@ use Rattle.rules.specs.Selector.{selectorLine, selectorShut}
 use Rattle.rules.specs.declared.HeaderState.{HeaderState}
 use Rattle.rules.specs.declared.SelectorState.{SelectorState}
 use Rattle.rules.specs.declared.Stage.the-variants.{InHeader}
-use Rattle.demand_three.proofs.Renumbered.{headerAt, selectorAt, wentAt, passes-at, refuse-at}
+use Rattle.renumbered.proofs.Stages.{headerAt, selectorAt, wentAt, passes-at, refuse-at}
 
 module _ (f : ℕ → ℕ) where
   pub version-at : (k : ℕ) (w : List ℕ) → wentAt f (version k w) ≡ version (f k) w
