@@ -12,7 +12,7 @@ use Rattle.file_answer.specs.Answered.{answerFor, answerIn}
 use Rattle.tables_say.specs.Kept.{headerAnswered, Holds}
 use Rattle.tables_say.proofs.Kept.{kept-in-tables, over-holds}
 use Rattle.reader.specs.Promise.{Lent, lendingIn, left, Reads}
-use Rattle.kept_by_read.specs.Kept.{KeptByRead}
+use Rattle.two_readings.specs.Kept.{KeptByRead}
 
 abbrev read : List ℕ → FileIs
 read s = fileIn (textsOf s)

@@ -1,1 +1,0 @@
-// No code: that two files which are answered alike and leave the same tables say the same.
