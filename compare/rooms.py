@@ -1,7 +1,7 @@
-"""rooms.py: a crate lists what it uses and nothing else.
+"""rooms.py: a crate lists what it uses and nothing else, and a file of definitions or proofs takes in what it uses and nothing else.
 
-Fails at a listed crate that no file of the crate names and that declares no type which the crate's values hold. (The prover asks a crate
-to list the home of every type that its values hold, named or not.)
+Fails at a listed crate that no file of the crate names and that declares no type which the crate's values hold (the prover asks a crate
+to list the home of every type that its values hold, named or not); and at a name in a `use` line that the rest of its file does not have.
 """
 import re
 import sys
@@ -12,6 +12,9 @@ ROOT = Path(__file__).resolve().parent.parent
 DECLARED = re.compile(r"^pub (?:struct|enum) (\w+)[^{(;]*(\{.*?^\}|\([^)]*\);)", re.M | re.S)
 SIGNATURE = re.compile(r'^ *pub(?:\(crate\))? (?:extern "C" )?fn (\w+)(.*?)(?= requires | ensures |\{$)', re.M | re.S)
 NAMED = re.compile(r"\b[A-Z]\w+")
+TAKEN = re.compile(r"^use \S+?\.\{([^}]*)\}$", re.M)
+QUOTED = re.compile(r'"(?:[^"\\]|\\.)*"')
+EDGE = r"[\s(){}\[\].,;]"
 
 
 @lru_cache(None)
@@ -71,16 +74,40 @@ def held_by(crate):
     return {found for found, _ in seen} - {crate}
 
 
+def body(text):
+    """What a file says: no `use` lines, no comments, no quoted texts."""
+    said = "\n".join(line for line in text.splitlines() if not line.startswith("use ") and not line.lstrip().startswith("--"))
+    return f" {QUOTED.sub(' ', said)} "
+
+
+def stands(name, said):
+    """Whether a name stands in what a file says; an operator `_+_` as such, or by what is between its places."""
+    if name == "[]":
+        return name in said
+    parts = [name] if name[0] != "_" or re.search(f"(?<={EDGE}){re.escape(name)}(?={EDGE})", said) else filter(None, name.split("_"))
+    return all(re.search(f"(?<={EDGE}){re.escape(part)}(?={EDGE})", said) for part in parts)
+
+
+def idle_names(path):
+    """The names that a file takes in and does not use."""
+    text = path.read_text()
+    said = body(text)
+    names = [name.split()[-1] for group in TAKEN.findall(text) for name in group.split(",") if name.strip()]
+    return [name for name in names if not stands(name, said)]
+
+
 def main():
-    crates = listed()
-    faults = 0
+    crates, files = listed(), sorted((ROOT / "crates").rglob("*.antt"))
+    faults = []
     for crate, dependencies in crates.items():
         used = named_in(crate) | held_by(crate)
-        for idle in [name for name in dependencies if name not in used]:
-            print(f"rooms: crates.txt lists {idle} for {crate}, which neither names it nor holds a type of it: take it out")
-            faults += 1
-    print(f"rooms: {len(crates)} crates, {sum(map(len, crates.values()))} dependencies")
-    print(f"rooms: {len(crates) - faults} passed, {faults} failed")
+        faults += [f"crates.txt lists {name} for {crate}, which neither names it nor holds a type of it" for name in dependencies if name not in used]
+    for path in files:
+        faults += [f"{path.relative_to(ROOT)} takes in {name} and does not use it" for name in idle_names(path)]
+    for fault in faults:
+        print(f"rooms: {fault}: take it out")
+    print(f"rooms: {len(crates)} crates, {sum(map(len, crates.values()))} dependencies, {len(files)} files of definitions and proofs")
+    print(f"rooms: {len(crates) + len(files) - len(faults)} passed, {len(faults)} failed")
     return 1 if faults else 0
 
 

@@ -1,3 +1,3 @@
 #!/usr/bin/env bash
-# Holds crates.txt to what the crates use: a listed crate that no file names fails.
+# Holds crates.txt to what the crates use, and `use` lines to what their files use.
 exec python3 "$(dirname "$0")/rooms.py"

@@ -1,14 +1,14 @@
 -- Laws of the pin rows: the leftmost name that fails, else what stands behind the names; and of a package's lines by their names.
 use Prim.Native.Nat.{ℕ, suc, _≤_, _<_}
 use mathlib.Core.Path.{_≡_, refl, sym, ap, _∙_}
-use mathlib.Core.List.{List, []}
+use mathlib.Core.List.{List}
 use mathlib.Core.Bool.{Bool, true, false, cond, _&&_, _||_, or-true}
 use native.Mathlib.Omega.{arith}
 use lib.ListN.{length, drop, drop-of-length-le}
 use lib.Dec.{eqb, leb}
 use borrow.Author.Tests.{eq-eqb, ne-eqb, le-leb, lt-leb}
 use Rattle.laws.specs.Bytes.{isBlank}
-use Rattle.laws.specs.Lists.{eqs, after}
+use Rattle.laws.specs.Lists.{eqs}
 use Rattle.laws.proofs.Tests.{by-test, by-order, cond-yes, cond-no}
 use Rattle.words.specs.Words.{word, words, grown, ontoWord, restFrom}
 use Rattle.words.specs.Places.{WordAt}

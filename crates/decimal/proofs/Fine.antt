@@ -17,7 +17,7 @@ use Rattle.laws.proofs.Fronts.{front-all, all-append}
 use Rattle.decimal.specs.declared.Cell.the-variants.{Number, Missing}
 use Rattle.decimal.specs.declared.Decimal.{Decimal}
 use Rattle.decimal.specs.Decimal.{ranged, resultOf, unsigned, numberOf, isMissing, givenCell, cellOf, isMinus, afterSign, pointPlaces, figures, afterFigures, letters, significant, numeral, numeralFrom}
-use Rattle.decimal.specs.Parts.{places, isZero}
+use Rattle.decimal.specs.Parts.{isZero}
 use Rattle.decimal.specs.Fine.{FineNumber, FineRead, ReducedNumber, ReducedRead}
 
 -- ---- the bounds

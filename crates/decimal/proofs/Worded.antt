@@ -1,16 +1,16 @@
 -- An answer as one word: it tells the fault, and the number comes back from it.
 use Prim.Native.Nat.{ℕ, _-_, _≤_, _<_}
-use mathlib.Core.Path.{_≡_, refl, sym, ap, _∙_}
+use mathlib.Core.Path.{_≡_, refl, ap, _∙_}
 use mathlib.Core.List.{List}
 use native.Mathlib.Omega.{arith}
-use borrow.Author.Tests.{eq-eqb, ne-eqb, lt-ltb, le-ltb}
+use borrow.Author.Tests.{ne-eqb, lt-ltb, le-ltb}
 use Rattle.laws.specs.Said.{Said, says, fault, faultIn, readOn}
 use Rattle.laws.proofs.Tests.{cond-yes, cond-no}
 use Rattle.decimal.specs.declared.Decimal.{Decimal}
 use Rattle.decimal.specs.declared.Cell.{Cell}
 use Rattle.decimal.specs.declared.Cell.the-variants.{Number, Missing}
 use Rattle.decimal.specs.declared.NumberRead.the-variants.{Value, Wrong}
-use Rattle.decimal.specs.Decimal.{numberOf, givenCell, cellOf, wordOf, missingWord}
+use Rattle.decimal.specs.Decimal.{numberOf, givenCell, wordOf, missingWord}
 use Rattle.decimal.specs.Answers.{numberRead, numberWord, cellWord, faultWord, pastNumbers, faultAt, decimalIn}
 use Rattle.decimal.specs.Fine.{FineFault, FineNumber, FineRead}
 use Rattle.decimal.proofs.Cells.{number-small, kept-decimal}

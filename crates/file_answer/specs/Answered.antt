@@ -9,7 +9,6 @@ use Rattle.records.specs.declared.Fault.{Fault}
 use Rattle.records.specs.declared.Lengths.{Lengths}
 use Rattle.records.specs.declared.Lending.{Lending}
 use Rattle.notes.specs.Noted.{nothingUsed}
-use Rattle.records.specs.declared.Verdict.{Verdict}
 use Rattle.records.specs.declared.Verdict.the-variants.{Accepted, Refused}
 use Rattle.records.specs.declared.Answer.{Answer}
 

@@ -1,5 +1,5 @@
 -- What a search says: a name is found exactly if it is one of the names, there it stands (`stands-at`), and in the table nowhere else (`once`).
-use Prim.Native.Nat.{ℕ, _+_, _-_, _<_}
+use Prim.Native.Nat.{ℕ, _+_, _<_}
 use mathlib.Core.Path.{_≡_, refl, _∙_}
 use mathlib.Core.List.{List, [], _∷_}
 use lib.ListN.{length}

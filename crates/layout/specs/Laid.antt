@@ -6,7 +6,6 @@ use mathlib.Core.Bool.{true, false, cond}
 use lib.ListN.{length}
 use Rattle.laws.specs.Bytes.{bytes}
 use Rattle.laws.specs.Lists.{eqs, oneOf}
-use Rattle.cut_lines.specs.Texts.{Text}
 use Rattle.words.specs.Words.{words}
 use Rattle.line_rules.specs.Tables.{waveformKeywords}
 use Rattle.rules.specs.Reading.{pinsIn, componentIn, choicesIn, modelIn, TableIs, tablesIn, rowsIn, edgeOf, waveformIn, SectionIs, component, selector, model, FileIs}

@@ -8,7 +8,7 @@ use lib.ListN.{length, drop}
 use Rattle.laws.specs.Bytes.{bytes, isBlank}
 use Rattle.laws.specs.Lists.{eqs, after}
 use Rattle.laws.specs.Said.{Result, says, fault, orElse}
-use Rattle.laws.proofs.Tests.{by-order, cond-yes, cond-no, and-left}
+use Rattle.laws.proofs.Tests.{by-order, and-left}
 use Rattle.records.specs.Flaws.{Reads, flaw, told, toldIn, atPlace, lineFaultIn}
 use Rattle.records.specs.declared.LineFault.{LineFault}
 use Rattle.words.specs.Words.{word, words, grown, ontoWord, restFrom}

@@ -1,14 +1,13 @@
 -- Every fault of a word is 10, 11 or 12, so a column is told of it.
 use Prim.Native.Nat.{ℕ}
 use Prim.Native.Char.{code}
-use mathlib.Core.Path.{_≡_, refl, sym, ap, _∙_}
 use mathlib.Core.List.{List, [], _∷_}
-use mathlib.Core.Bool.{Bool, cond}
+use mathlib.Core.Bool.{Bool}
 use mathlib.Core.Option.{Option, none, some}
 use native.Mathlib.Omega.{arith}
 use lib.Dec.{eqb}
 use Rattle.laws.specs.Lists.{front, after, among, other}
-use Rattle.laws.specs.Said.{Said, says, fault, faultIn, readOn, orFault}
+use Rattle.laws.specs.Said.{Said, says, fault, faultIn, orFault}
 use Rattle.laws.proofs.Tests.{cond-all}
 use Rattle.decimal.specs.Decimal.{numberOf, givenCell, cellOf, isMissing}
 use Rattle.decimal.specs.Fine.{FineNumber, FineRead}
@@ -16,7 +15,6 @@ use Rattle.decimal.specs.declared.Decimal.{Decimal}
 use Rattle.decimal.specs.declared.Cell.{Cell}
 use Rattle.decimal.proofs.Fine.{number-fine, given-fine, cell-fine}
 use Rattle.records.proofs.Columns.{Columned, Columns}
-use Rattle.records.specs.declared.RampCell.{RampCell}
 use Rattle.line_rules.specs.Fields.{passing, ratioOf, slopeFrom, slopeOf, slopeOrMissing}
 
 fine-number : (r : Said Decimal) → FineNumber r → Columns r

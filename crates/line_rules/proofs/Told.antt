@@ -1,23 +1,23 @@
 -- What a line tells of its words, by the places that the code finds.
 use Prim.Native.Nat.{ℕ, _+_, _≤_, _<_}
 use Prim.Native.Char.{code}
-use mathlib.Core.Path.{_≡_, refl, sym, ap, _∙_}
-use mathlib.Core.List.{List, [], _∷_}
-use mathlib.Core.Bool.{Bool, true, false, cond}
+use mathlib.Core.Path.{_≡_, sym, ap, _∙_}
+use mathlib.Core.List.{List}
+use mathlib.Core.Bool.{true, false, cond}
 use native.Mathlib.Omega.{arith}
-use lib.ListN.{length, drop, getD, drop-of-length-le, length-drop}
+use lib.ListN.{length, drop, drop-of-length-le, length-drop}
 use lib.Dec.{eqb}
 use borrow.Author.Tests.{eq-eqb, ne-eqb}
 use Rattle.laws.specs.Bytes.{isBlank}
 use Rattle.laws.specs.Lists.{front, part, begins}
 use Rattle.laws.specs.Said.{Result, Said, says, fault, readOn}
 use Rattle.laws.proofs.Tests.{by-order, cond-yes, cond-no, cond-map}
-use Rattle.laws.proofs.Lists.{from-cons, part-none}
+use Rattle.laws.proofs.Lists.{part-none}
 use Rattle.words.specs.Words.{word, words, restFrom}
 use Rattle.words.specs.Places.{WordAt}
 use Rattle.words.specs.declared.Word.{Word}
 use Rattle.words.proofs.Laws.{rest-here}
-use Rattle.records.specs.Flaws.{Flaw, Reads, flaw, sound, flawIn, saidAt, told, toldIn, bare, atPlace, saidThere}
+use Rattle.records.specs.Flaws.{Reads, flaw, sound, flawIn, saidAt, told, toldIn, bare, atPlace, saidThere}
 use Rattle.records.specs.declared.LineFault.{LineFault}
 use Rattle.records.proofs.Columns.{Columns, told-at, told-sound, told-word, told-on}
 use Rattle.line_rules.specs.Fields.{wordBy, exactly, ended, alone, noArgument, afterName, behindName}

@@ -3,7 +3,7 @@ use Prim.Native.Nat.{ℕ}
 use mathlib.Core.Path.{_≡_, refl, sym, ap, _∙_, subst}
 use mathlib.Core.List.{List, [], _∷_}
 use mathlib.Core.Bool.{true, false}
-use mathlib.Core.Option.{Option, none, some}
+use mathlib.Core.Option.{none, some}
 use Rattle.laws.specs.Lists.{front, after, part}
 use Rattle.keywords.specs.declared.Keyword.{Keyword}
 use Rattle.cut_lines.specs.Texts.{Text}

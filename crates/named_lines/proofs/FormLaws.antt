@@ -17,7 +17,7 @@ use Rattle.laws.proofs.Bytes.{digit-yes, digit-below, digit-above}
 use Rattle.laws.proofs.Fronts.{after-at, front-at}
 use Rattle.words.specs.Places.{WordAt}
 use Rattle.words.specs.declared.Word.{Word}
-use Rattle.records.specs.Flaws.{Reads, flaw, sound, flawIn, told, toldIn, bare, atPlace, saidThere, lineFaultIn}
+use Rattle.records.specs.Flaws.{flaw, sound, flawIn, told, toldIn, bare, atPlace, saidThere, lineFaultIn}
 use Rattle.records.specs.declared.LineFault.{LineFault}
 use Rattle.records.proofs.Columns.{told-sound, told-fault}
 use Rattle.line_rules.specs.Fields.{isSized, isBracketed, isFileByte, isFileName, wordBy, ended, alone, passing, noArgument}

@@ -2,25 +2,24 @@
 use Prim.Native.Nat.{ℕ, _+_, _≤_, _<_}
 use Prim.Native.Char.{code}
 use mathlib.Core.Path.{_≡_, refl, sym, ap, _∙_}
-use mathlib.Core.List.{List, [], _∷_}
-use mathlib.Core.Bool.{Bool, true, false}
+use mathlib.Core.List.{List}
+use mathlib.Core.Bool.{true, false}
 use native.Mathlib.Omega.{arith}
 use lib.ListN.{length, drop, getD, drop-of-length-le}
 use lib.Seq.{drop-drop}
 use lib.Dec.{eqb}
 use Rattle.laws.specs.Bytes.{isBlank}
-use Rattle.laws.specs.Lists.{front, after, begins, other, part}
-use Rattle.laws.specs.Said.{Result, fault}
+use Rattle.laws.specs.Lists.{front, after, other, part}
+use Rattle.laws.specs.Said.{fault}
 use Rattle.laws.proofs.Tests.{by-order, cond-yes, cond-no, never}
 use Rattle.laws.proofs.Lists.{from-cons}
 use Rattle.laws.proofs.Fronts.{after-at, front-at, front-front}
 use Rattle.decimal.specs.Decimal.{givenCell}
-use Rattle.words.specs.Words.{word, words, isInk, restFrom}
+use Rattle.words.specs.Words.{word, words, isInk}
 use Rattle.words.specs.Places.{WordAt}
 use Rattle.words.specs.declared.Word.{Word}
 use Rattle.words.proofs.Laws.{words-none, words-some, words-rest}
 use Rattle.records.specs.Flaws.{Reads, flaw, toldIn, atPlace}
-use Rattle.records.specs.declared.LineFault.{LineFault}
 use Rattle.line_rules.specs.Fields.{nameOf, afterName, wordBy, exactly, behindEquals, numberLine}
 use Rattle.line_rules.proofs.Told.{ten-at, word-text, rest-behind, exactly-yes, exactly-no}
 use Rattle.named_lines.specs.Places.{isNameByte, hasEquals, FirstWordIs}

@@ -3,13 +3,12 @@ use Prim.Native.Nat.{ℕ, suc, _-_, _≤_, _<_}
 use mathlib.Core.Path.{_≡_, refl, sym, ap, _∙_, subst}
 use mathlib.Core.List.{List, [], _∷_}
 use native.Mathlib.Omega.{arith}
-use lib.ListN.{length, drop, drop-of-length-le}
+use lib.ListN.{length, drop}
 use borrow.Author.Tests.{eq-eqb, ne-eqb}
 use Rattle.laws.specs.Lists.{part}
 use Rattle.laws.proofs.Lists.{part-none}
 use Rattle.laws.proofs.Tests.{by-order, cond-yes, cond-no}
 use Rattle.records.specs.declared.LineFault.{LineFault}
-use Rattle.words.specs.declared.Word.{Word}
 use Rattle.lines.specs.Lines.{linesOf}
 use Rattle.lines.specs.Places.{firstBytes, lineFrom, RawAt}
 use Rattle.lines.specs.declared.Line.{Line}

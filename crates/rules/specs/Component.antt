@@ -18,7 +18,6 @@ use Rattle.records.specs.declared.Pin as pin
 use Rattle.line_rules.specs.Fields.{isSized, isPinName, isPinModel, needsNoModel, cellsBy, noArgument, lineAt, wordLine, cellsLine, heading}
 use Rattle.line_rules.specs.Tables.{componentLines, locations, packageLines}
 use Rattle.given.specs.Given.{noneGiven, has, gave}
-use Rattle.given.specs.declared.Given.{Given}
 use Rattle.rules.specs.Going.{stop, passes, refuse, quietly, once, namedLine}
 use Rattle.rules.specs.declared.ComponentList.{ComponentList}
 use Rattle.rules.specs.declared.ComponentList.the-variants.{ComponentFirst, ComponentShut, PackageLines, PinRows}

@@ -1,6 +1,6 @@
 -- A text by its keyword, as the code takes it: by cases, not by name.
 use Prim.Native.Nat.{ℕ}
-use mathlib.Core.List.{List, [], _∷_}
+use mathlib.Core.List.{List, _∷_}
 use mathlib.Core.Bool.{Bool, true, false, cond}
 use mathlib.Core.Option.{Option, none, some}
 use Rattle.laws.specs.Said.{Said, says, fault}

@@ -2,7 +2,6 @@
 use Prim.Native.Nat.{ℕ, _+_, min}
 use mathlib.Core.List.{List, [], _∷_}
 use mathlib.Core.Bool.{Bool, true, false, cond, not, _&&_, _||_}
-use lib.ListN.{length}
 use lib.Dec.{eqb, leb}
 use Rattle.laws.specs.Bytes.{bytes, isLetter}
 use Rattle.laws.specs.Lists.{oneOf}

@@ -15,7 +15,6 @@ use Rattle.records.specs.Stored.{nameLaid, wordsLaid}
 use Rattle.records.specs.declared.Row.{Row}
 use Rattle.records.specs.declared.Span.{Span}
 use Rattle.records.specs.declared.Table.{Table}
-use Rattle.records.specs.declared.Model.{Model}
 use Rattle.records.specs.declared.Waveform.{Waveform}
 
 -- ---- "Kept is all that is read, the order of sections and of waveforms included, but not" "the order of other parts within a section";

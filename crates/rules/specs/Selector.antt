@@ -1,7 +1,7 @@
 -- Document 01, "Sections": [Model Selector].
 use Prim.Native.Nat.{ℕ}
 use mathlib.Core.List.{List}
-use mathlib.Core.Bool.{true, false, not}
+use mathlib.Core.Bool.{true, not}
 use Rattle.records.specs.Flaws.{flawIn, told}
 use Rattle.line_rules.specs.Fields.{isModelName, wordBy, passing}
 use Rattle.rules.specs.Going.{passes, refuse, quietly}

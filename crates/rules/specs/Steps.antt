@@ -10,9 +10,6 @@ use Rattle.keywords.specs.declared.Keyword.{Keyword}
 use Rattle.keywords.specs.declared.Keyword.the-variants as key
 use Rattle.keywords.specs.declared.Section.{Section}
 use Rattle.keywords.specs.declared.Section.the-variants.{Component, Selector, Model}
-use Rattle.keywords.specs.declared.HeaderPart.{HeaderPart}
-use Rattle.keywords.specs.declared.ComponentPart.{ComponentPart}
-use Rattle.keywords.specs.declared.ModelPart.{ModelPart}
 use Rattle.laws.specs.Said.{Said, says, fault}
 use Rattle.records.specs.Flaws.{Flaw, flaw, sound, flawIn, told}
 use Rattle.records.specs.declared.LineFault.{LineFault}

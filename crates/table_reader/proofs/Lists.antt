@@ -1,6 +1,6 @@
 -- What the notes of a check give a listing: the words fit into its tables, and the fills leave what is promised. By whether the file is accepted.
 use Prim.Native.Nat.{ℕ, zero-le}
-use mathlib.Core.Path.{_≡_, refl, sym, ap, _∙_, subst}
+use mathlib.Core.Path.{_≡_, refl, sym, _∙_, subst}
 use mathlib.Core.List.{List}
 use native.Mathlib.Omega.{arith}
 use Rattle.rules.specs.Reading.{fileIn}

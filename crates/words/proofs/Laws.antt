@@ -10,7 +10,7 @@ use Rattle.laws.specs.Lists.{front, after, part}
 use Rattle.laws.proofs.Tests.{by-test}
 use Rattle.laws.proofs.Lists.{from-cons}
 use Rattle.laws.proofs.Fronts.{after-at, front-at, after-stops, front-more}
-use Rattle.words.specs.Words.{ontoWord, grown, word, words, isInk, restFrom}
+use Rattle.words.specs.Words.{ontoWord, grown, words, isInk, restFrom}
 use Rattle.words.specs.Places.{runFrom}
 
 -- a test's answer on the byte, as the code has it

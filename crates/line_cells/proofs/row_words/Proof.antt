@@ -1,7 +1,6 @@
 -- Too few words by `words-under`, too many by `words-past`, else just four by `words-just`.
 use mathlib.Core.Path.{_∙_}
 use native.Mathlib.Omega.{arith}
-use denote.Ref.{now}
 use Rattle.words.proofs.Chains.{link, done, words-under, words-past, words-just}
 use Rattle.line_cells.proofs.Laws.{rest-gone, three-from}
 use Rattle.line_cells.proofs.Rows.{row-other, row-worded}

@@ -1,6 +1,6 @@
 -- A reader is made in a local and lent to `next` for a lifetime within the slice's own: a walk of the function's code, by hand.
 -- All that the proof knows of `new` and `next` is that they meet their contracts.
-use mathlib.Core.Path.{_≡_, refl, sym, ap, subst}
+use mathlib.Core.Path.{_≡_, refl, ap}
 use Prim.Native.Nat.{ℕ, _<_, _^_}
 use mathlib.Core.List.{List, [], _∷_}
 use lib.ListN.{length}

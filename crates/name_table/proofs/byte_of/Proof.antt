@@ -1,5 +1,4 @@
 -- The shift leaves the byte lowest (`shifted-byte`).
-use Prim.Native.Nat.{ℕ}
 use borrow.Author.Needs.{needs}
 use Rattle.laws.proofs.Eights.{shifted-byte}
 use Rattle.name_table.specs.Listed.{eightsOf}

@@ -1,6 +1,6 @@
 -- A name as it stands is spelled as it is.
 use Prim.Native.Nat.{ℕ}
-use mathlib.Core.Path.{_≡_, ap, _∙_}
+use mathlib.Core.Path.{ap, _∙_}
 use mathlib.Core.List.{List}
 use denote.Ref.{now}
 use Rattle.laws.proofs.Same.{map-same}

@@ -1,9 +1,7 @@
 -- By whether a rest was found; the reader is asked of the file with blanks there.
-use mathlib.Core.Path.{refl, sym, ap, _∙_}
-use lib.ListN.{length}
+use mathlib.Core.Path.{ap, _∙_}
 use borrow.Author.Needs.{needs}
 use denote.Ref.{now}
-use Rattle.words.specs.declared.Word.{Word}
 use Rattle.surplus_word.specs.Surplus.{blanked}
 use Rattle.text_buffer.proofs.Laws.{put-kept}
 use Rattle.surplus_word.proofs.Laws.{blank-none, surplus-none, surplus-asked}

@@ -1,7 +1,5 @@
 -- By the spelling; what the two functions on a byte promise.
-use mathlib.Core.Path.{_≡_, sym, ap, _∙_}
 use borrow.Author.Needs.{needs}
-use Rattle.words.specs.Spelled.{byteAs}
 use Rattle.words.proofs.byte_as.Statement.{statement}
 use Rattle.words.proofs.byte_as.Tie as tie
 

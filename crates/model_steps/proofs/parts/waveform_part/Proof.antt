@@ -1,6 +1,6 @@
 -- An argument with a fault, too many waveforms; else on.
 use Prim.Native.Nat.{ℕ}
-use mathlib.Core.Path.{sym, ap, _∙_}
+use mathlib.Core.Path.{ap, _∙_}
 use mathlib.Core.List.{List}
 use denote.Ref.{now}
 use Rattle.records.specs.Flaws.{told}

@@ -1,5 +1,4 @@
 -- Each arm by computing the table at its number, the last at the last number below the bound.
-use Prim.Native.Nat.{ℕ}
 use mathlib.Core.Path.{_≡_}
 use native.Mathlib.Omega.{arith}
 use Rattle.name_table.specs.Places.{meaningAt}

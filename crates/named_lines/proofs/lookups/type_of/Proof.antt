@@ -1,10 +1,8 @@
 -- The list in the code has the table's words, by computing both, so the place found stands for the meaning.
-use mathlib.Core.Path.{_≡_, refl, sym, ap, _∙_}
-use mathlib.Core.List.{List}
+use mathlib.Core.Path.{refl, sym, ap}
 use borrow.Author.Needs.{needs}
 use denote.Ref.{now}
 use Rattle.laws.specs.Bytes.{isBlank}
-use Rattle.laws.specs.Said.{says}
 use Rattle.words.specs.Words.{words, grown, ontoWord}
 use Rattle.name_table.specs.Places.{namesOf}
 use Rattle.name_table.specs.declared.NameList.the-variants.{ModelTypes}

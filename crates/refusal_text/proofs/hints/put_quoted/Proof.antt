@@ -1,5 +1,4 @@
 -- One text behind another.
-use borrow.Author.Needs.{needs}
 use Rattle.refusal_text.specs.Hints.{quoted}
 use Rattle.text_buffer.proofs.Laws.{put-then, put-kept}
 use Rattle.refusal_text.proofs.hints.put_quoted.Statement.{statement}

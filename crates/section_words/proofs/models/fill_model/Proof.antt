@@ -1,6 +1,6 @@
 -- The first lines stop where the keywords begin, and the keywords turn the record that those leave: `counted-lies`.
 use borrow.Author.Needs.{needs}
-use mathlib.Core.Path.{_≡_, sym, ap, _∙_}
+use mathlib.Core.Path.{sym, ap, _∙_}
 use native.Mathlib.Omega.{arith}
 use lib.ListN.{length}
 use denote.Ref.{now}
