@@ -6,11 +6,12 @@ import sys
 import making.damages_of_lines
 import making.damages_of_places
 import making.damages_of_words
-from making.damages_of_bytes import LARGEST_FILE, LEAST_ROWS, LONGEST_RECORD
+from making.damages_of_bytes import LEAST_ROWS, LONGEST_RECORD
 from making.damages_of_rows import crowd_rows, some_count
 from making.damages_of_tables import BOUNDS, crowd
 from making.dice import Dice
 from making.draft import DAMAGES, KINDS, STAGES, Draft, NoPlace
+from making.pen import LARGEST_FILE
 from making.remarks import around
 from records import PARTS, Record, packed
 

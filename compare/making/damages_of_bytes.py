@@ -2,9 +2,9 @@
 
 from making.draft import KINDS, NoPlace, damage
 from making.names import GRAPHIC
+from making.pen import LARGEST_FILE
 from making.remarks import MARKS
 
-LARGEST_FILE = 65536
 LONGEST_RECORD = 131072
 LEAST_ROWS = 8192  # what loading asks for
 FORBIDDEN = '\x00\x01\x07\x08\x0b\x0c\x0e\x1b\x1f\x7f\x80\x85\xa0\xe9\xff'

@@ -1,9 +1,9 @@
 """Files of as many rows as fit, and damages to them: a byte or a row too many, and faults at rows past the thousandth."""
 
-from making.damages_of_bytes import LARGEST_FILE
 from making.damages_of_tables import crowd
 from making.decimals import short_spellings
 from making.draft import damage
+from making.pen import LARGEST_FILE
 from making.valid import MOST_WAVEFORM_ROWS, MOST_WAVEFORMS
 
 LEAST_WAVEFORM = len('[Rising Waveform]\nR_fixture=0\nV_fixture=0\n')

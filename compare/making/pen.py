@@ -2,6 +2,7 @@
 
 from making.decimals import some_number, spell
 
+LARGEST_FILE = 65536
 LONGEST_LINE = 120
 
 
