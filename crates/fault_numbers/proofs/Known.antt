@@ -1,12 +1,12 @@
--- Numbers of a list: by cases on the list.
+-- Numbers of a list, by what is among it.
 use Prim.Native.Nat.{ℕ}
 use mathlib.Core.Path.{_≡_, sym, ap, _∙_}
-use mathlib.Core.List.{List, [], _∷_}
+use mathlib.Core.List.{List, _∷_}
 use mathlib.Core.Bool.{Bool, true, false, cond, _||_}
 use lib.Dec.{eqb}
-use borrow.Author.Tests.{eqb-true}
 use Rattle.laws.specs.Lists.{all, among}
-use Rattle.laws.proofs.Tests.{by-test, cond-all, and-first, and-second, impossible}
+use Rattle.laws.proofs.Tests.{cond-all}
+use Rattle.laws.proofs.Appended.{among-all}
 
 -- n is one of these
 pub data Known (numbers : List ℕ) (n : ℕ) : Type 0 where
@@ -24,13 +24,5 @@ unfolding among
 other-known n m {others} differs (listed h) = listed (sym (ap (λ (t : Bool). t || among n others) differs) ∙ h)
 
 -- where all of the few are among the many, any one of them is
-among-more : (few many : List ℕ) (n : ℕ) → all (λ (m : ℕ). among m many) few ≡ true → Known few n → Known many n
-unfolding all among
-among-more [] many n are (listed h) = impossible (cc)
-among-more (m ∷ few) many n are h =
-    by-test (eqb n m)
-    (λ same. listed (ap (λ (x : ℕ). among x many) (eqb-true n m same) ∙ and-first (among m many) _ are))
-    (λ differs. among-more few many n (and-second (among m many) _ are) (other-known n m differs h))
-
 pub more-known : {few many : List ℕ} {n : ℕ} → all (λ (m : ℕ). among m many) few ≡ true → Known few n → Known many n
-more-known {few} {many} {n} are h = among-more few many n are h
+more-known {few} {many} {n} are (listed h) = listed (among-all (λ (m : ℕ). among m many) n few h are)

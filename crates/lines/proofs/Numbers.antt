@@ -2,6 +2,7 @@
 use Prim.Native.Nat.{ℕ, zero, suc, _+_, _-_, _≤_}
 use mathlib.Core.Path.{_≡_, refl, sym, ap, _∙_, subst}
 use mathlib.Core.List.{List, [], _∷_}
+use mathlib.Core.Bool.{true}
 use native.Mathlib.Omega.{arith}
 use lib.ListN.{length, drop, drop-of-length-le}
 use lib.Dec.{eqb, leb}
@@ -46,15 +47,26 @@ line-within s at n m e f = rw (e, f) refl
 -- ---- lines without fault
 
 -- a fault is no clean file
-faulty-not : {X : Type 0} (f : _) → Faulty f ≡ Clean → X
+pub faulty-not : {X : Type 0} (f : _) → Faulty f ≡ Clean → X
 faulty-not f h = absurd (subst kept h tt)
   where
     kept : Bytes → Type 0
     kept Clean = ⊥
     kept (Faulty g) = Unit {0}
 
+-- its bytes are allowed, it is short, and it is ended
+pub line-sound : (l : Physical) → lineFault l ≡ 0 → (all isAllowed (l .bytes) ≡ true) × (length (l .bytes) ≤ 120) × (l .ended ≡ true)
+unfolding lineFault
+line-sound l h =
+    by-test (all isAllowed (l .bytes))
+    (λ a.
+    by-test (leb (length (l .bytes)) 120)
+    (λ b. by-test (l .ended) (λ e. (a, leb-true _ _ b, e)) (λ e. let z : _≡_ {A = ℕ} 4 0 = simp (a, b, e) at h in absurd (omega arith)))
+    (λ b. let z : _≡_ {A = ℕ} 3 0 = simp (a, b) at h in absurd (omega arith)))
+    (λ a. let z : _≡_ {A = ℕ} 2 0 = simp a at h in absurd (omega arith))
+
 module _ (k : ℕ) (l : Physical) (ls : List Physical) (h : faultFrom k (l ∷ ls) ≡ Clean) where
-  line-clean : lineFault l ≡ 0
+  pub line-clean : lineFault l ≡ 0
   unfolding faultFrom
   line-clean = by-test (eqb (lineFault l) 0) (λ e. eqb-true _ _ e) (λ e. faulty-not _ (sym (cond-no _ _ e) ∙ h))
 
@@ -63,14 +75,7 @@ module _ (k : ℕ) (l : Physical) (ls : List Physical) (h : faultFrom k (l ∷ l
   others-clean = by-test (eqb (lineFault l) 0) (λ e. sym (cond-yes _ _ e) ∙ h) (λ e. faulty-not _ (sym (cond-no _ _ e) ∙ h))
 
   pub line-short : length (l .bytes) ≤ 120
-  unfolding lineFault
-  line-short =
-      by-test (leb (length (l .bytes)) 120)
-      (λ e. leb-true _ _ e)
-      (λ e.
-      by-test (all isAllowed (l .bytes))
-      (λ a. let z : _≡_ {A = ℕ} 3 0 = simp (a, e) at line-clean in absurd (omega arith))
-      (λ a. let z : _≡_ {A = ℕ} 2 0 = simp a at line-clean in absurd (omega arith)))
+  line-short = line-sound l line-clean .1
 
 pub cut-short : (c : ℕ) (l : List ℕ) → length (cut c l) ≤ length l
 unfolding cut

@@ -1,19 +1,18 @@
 -- Every text takes a byte of its own line, and a row seven more: line by line, where each line's bytes and its end are its own.
 use Prim.Native.Nat.{ℕ, suc, _+_, _*_, _≤_, _<_}
 use Prim.Native.Char.{code}
-use mathlib.Core.Path.{_≡_, sym, _∙_}
+use mathlib.Core.Path.{_≡_}
 use mathlib.Core.List.{List, [], _∷_}
-use mathlib.Core.Bool.{true, cond}
+use mathlib.Core.Bool.{cond}
 use native.Mathlib.Omega.{arith}
 use lib.ListN.{length, drop}
-use lib.Dec.{eqb, leb}
-use borrow.Author.Tests.{leb-true}
-use Rattle.laws.specs.Lists.{all}
+use lib.Dec.{eqb}
 use Rattle.laws.specs.Said.{orElse}
-use Rattle.laws.proofs.Tests.{by-test, cond-yes, cond-no, cond-all, impossible}
-use Rattle.lines.specs.Lines.{Physical, isReturn, ontoLine, linesOf, isAllowed, lineFault, faultFrom, bytesFault, cut}
+use Rattle.laws.proofs.Tests.{by-test, cond-yes, cond-all}
+use Rattle.lines.specs.Lines.{Physical, isReturn, ontoLine, linesOf, faultFrom, bytesFault, cut}
 use Rattle.lines.specs.declared.Bytes.the-variants.{Clean}
-use Rattle.lines.proofs.Numbers.{others-clean, cut-short}
+use Rattle.lines.proofs.Numbers.{line-sound, line-clean, others-clean, cut-short}
+use Rattle.lines.proofs.Clean.{file-passes}
 use Rattle.cut_lines.specs.Change.{isChange, changeOf}
 use Rattle.cut_lines.specs.Texts.{Text, plain, change, ontoTexts, textsFrom}
 use Rattle.rules.specs.Whole.{textsOf}
@@ -45,17 +44,6 @@ lines-take (b ∷ bs) =
     (λ h. rw h (omega arith))
     (λ h. by-test (isReturn b bs) (λ k. rw (h, k) (omega arith)) (λ k. rw (h, k) (omega (arith, onto-takes b (linesOf bs)))))
 
--- a line that is not ended has a fault: 4, if not 2 or 3
-clean-ended : (k : ℕ) (l : Physical) (ls : List Physical) → faultFrom k (l ∷ ls) ≡ Clean → l .ended ≡ true
-unfolding faultFrom lineFault
-clean-ended k l ls h =
-    by-test (l .ended)
-    (λ e. e)
-    (λ e.
-    by-test (all isAllowed (l .bytes))
-    (λ a. by-test (leb (length (l .bytes)) 120) (λ b. let z = simp (a, b, e) at h in impossible (cc)) (λ b. let z = simp (a, b) at h in impossible (cc)))
-    (λ a. let z = simp a at h in impossible (cc)))
-
 -- ---- texts take the bytes of their lines
 
 row-takes : (w : List ℕ) → 7 * cond (isRow w) 1 0 ≤ length w
@@ -73,7 +61,7 @@ unfolding bytesIn textsFrom rowsAmong
 texts-take c k [] h = omega arith
 texts-take c k (l ∷ ls) h =
     let others = others-clean k l ls h in
-    let end : _≡_ {A = ℕ} (cond (l .ended) 1 0) 1 = cond-yes 1 0 (clean-ended k l ls h) in
+    let end : _≡_ {A = ℕ} (cond (l .ended) 1 0) 1 = cond-yes 1 0 (line-sound l (line-clean k l ls h) .2) in
     cond-all (λ (ts : List Text). length ts + 7 * rowsAmong ts ≤ bytesIn (l ∷ ls)) (isChange (l .bytes)) _ _
     (λ t. omega (arith, texts-take (orElse c (changeOf (l .bytes))) (k + 1) ls others))
     (λ t. omega (arith, texts-take c (k + 1) ls others, onto-text k _ (cut c (l .bytes)) (textsFrom c (k + 1) ls) (cut-short c (l .bytes))))
@@ -97,10 +85,7 @@ first-takes [] n h k = omega arith
 first-takes (t ∷ ts) n h k = omega (arith, rows-fewer ts)
 
 pub behind-first : (s : List ℕ) → bytesFault s ≡ Clean → rowsAmong (drop 1 (textsOf s)) < mostRows
-unfolding bytesFault textsOf
+unfolding textsOf
 behind-first s h =
-    by-test (leb (length s) 65536)
-    (λ e.
-    let clean : faultFrom 1 (linesOf s) ≡ Clean = sym (cond-yes _ _ e) ∙ h in
-    first-takes (textsOf s) (length s) (omega (arith, texts-take (code "|") 1 (linesOf s) clean, lines-take s)) (leb-true _ _ e))
-    (λ e. let z = sym (cond-no _ _ e) ∙ h in impossible (cc))
+    let passes = file-passes s h in
+    first-takes (textsOf s) (length s) (omega (arith, texts-take (code "|") 1 (linesOf s) (passes .1), lines-take s)) (passes .0)
