@@ -25,7 +25,7 @@ use Rattle.fault_numbers.proofs.Whole.{runs-out}
 use Rattle.renumbered.proofs.Outcomes.{outcomeAt, whole-at}
 use Rattle.renumbered.proofs.Tables.{laid-at}
 use Rattle.remarks.specs.Counted.{counted, listOf, lineAt, skippedIn, skippedBefore}
-use Rattle.remarks.specs.Alike.{Alike, SameTables, atNone, behindLast, atEntry as told-at, SameFault, Agree, CheckedAlike, LoadedAlike}
+use Rattle.remarks.specs.Alike.{Alike, SameTables, atNone, behindLast, atEntry as told-at, SameFault, Agree, CheckedAlike, LoadedAlike, Unchanged}
 use Rattle.remarks.proofs.Texts.{textsAt, counted-texts, placed-texts}
 use Rattle.remarks.proofs.Lines.{numberAt, line-is, number-is, numbering, line-past, past-apart}
 use Rattle.remarks.proofs.Worth.{worth, Told, accepts, runsOut, atEntry, worth-told}
@@ -124,3 +124,6 @@ loaded-alike s t alike l =
     by-order mostRows (l .rows)
     (λ enough. subst₂ (Agree s t) (sym (loaded-enough l s enough)) (sym (loaded-enough l t enough)) (checked s t alike (l .tables)))
     (λ less. subst₂ (Agree s t) (sym (loaded-few l s less)) (sym (loaded-few l t less)) (few s t))
+
+pub unchanged : (s t : List ℕ) → Alike s t → Unchanged s t
+unchanged s t alike = record { alike = alike; checked = checked-alike s t alike; loaded = loaded-alike s t alike }

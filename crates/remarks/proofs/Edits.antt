@@ -1,7 +1,7 @@
 -- An edit keeps the list: what it changes does not count, and the other lines are as they were. By induction over the lines before it.
 use Prim.Native.Nat.{ℕ, _+_}
 use Prim.Native.Char.{code}
-use mathlib.Core.Path.{_≡_, refl, sym, ap, _∙_}
+use mathlib.Core.Path.{_≡_, refl, sym, ap, ap₂, _∙_}
 use mathlib.Core.List.{List, [], _∷_, _++_, map}
 use mathlib.Core.Bool.{true, false}
 use Rattle.laws.specs.Lists.{front, trim, among}
@@ -15,7 +15,7 @@ use Rattle.remarks.specs.Counted.{changeCounts, countsAs, Counted, ontoC
 use Rattle.remarks.specs.Edits.{isRemark, isApart, lineOf, Edit, behindText, behindChange, respelled, putIn, takenOut, Edited, EditedBy, EditsChangeNothing}
 use Rattle.remarks.proofs.Changes.{change-more, char-set}
 use Rattle.remarks.proofs.Remarks.{remark-unchanged, remark-counts, change-sets}
-use Rattle.remarks.proofs.Alike.{loaded-alike}
+use Rattle.remarks.proofs.Alike.{unchanged}
 
 -- ---- the character in force is a mark
 
@@ -32,50 +32,53 @@ unfolding charAfterLines
 chars-marked c [] h = h
 chars-marked c (l ∷ ls) h = chars-marked (charAfterLine c l) ls (char-marked c l h)
 
--- ---- the list, whatever the lines' numbers
+-- ---- the list without the lines' numbers
 
-abbrev texts : List Counted → List (List ℕ)
-texts es = map (λ (e : Counted). e .text) es
+unfoldable ontoList : List ℕ → List (List ℕ) → List (List ℕ)
+ontoList [] ws = ws
+ontoList (b ∷ bs) ws = (b ∷ bs) ∷ ws
 
-abbrev listFrom : ℕ → ℕ → List Physical → List (List ℕ)
-listFrom c k ls = texts (countedFrom c k ls)
+unfoldable listFrom : ℕ → List Physical → List (List ℕ)
+listFrom c [] = []
+listFrom c (l ∷ ls) = ontoList (countsAs c (l .bytes)) (listFrom (charAfterLine c l) ls)
 
-onto-same : (j k : ℕ) (w : List ℕ) (ds es : List Counted) → texts ds ≡ texts es → texts (ontoCounted j w ds) ≡ texts (ontoCounted k w es)
-unfolding ontoCounted
-onto-same j k [] ds es h = h
-onto-same j k (b ∷ bs) ds es h = ap (λ (ws : List (List ℕ)). (b ∷ bs) ∷ ws) h
+onto-texts : (k : ℕ) (w : List ℕ) (es : List Counted) → map (λ (e : Counted). e .text) (ontoCounted k w es) ≡ ontoList w (map (λ (e : Counted). e .text) es)
+unfolding ontoCounted ontoList
+onto-texts k [] es = refl
+onto-texts k (b ∷ bs) es = refl
+
+list-from : (c k : ℕ) (ls : List Physical) → map (λ (e : Counted). e .text) (countedFrom c k ls) ≡ listFrom c ls
+unfolding countedFrom listFrom
+list-from c k [] = refl
+list-from c k (l ∷ ls) =
+    onto-texts k (countsAs c (l .bytes)) (countedFrom (charAfterLine c l) (k + 1) ls)
+    ∙ ap (ontoList (countsAs c (l .bytes))) (list-from (charAfterLine c l) (k + 1) ls)
 
 -- lines with others behind them that count the same
-behind-lines : (c : ℕ) (before old new : List Physical) → ((j k : ℕ) → listFrom (charAfterLines c before) j old ≡ listFrom (charAfterLines c before) k new)
-    → (j k : ℕ) → listFrom c j (before ++ old) ≡ listFrom c k (before ++ new)
-unfolding countedFrom charAfterLines
-behind-lines c [] old new h j k = h j k
-behind-lines c (l ∷ before) old new h j k = onto-same j k (countsAs c (l .bytes)) _ _ (behind-lines (charAfterLine c l) before old new h (j + 1) (k + 1))
-
-anywhere : (c j k : ℕ) (ls : List Physical) → listFrom c j ls ≡ listFrom c k ls
-unfolding countedFrom
-anywhere c j k [] = refl
-anywhere c j k (l ∷ ls) = onto-same j k (countsAs c (l .bytes)) _ _ (anywhere (charAfterLine c l) (j + 1) (k + 1) ls)
+behind-lines : (c : ℕ) (before old new : List Physical) → listFrom (charAfterLines c before) old ≡ listFrom (charAfterLines c before) new
+    → listFrom c (before ++ old) ≡ listFrom c (before ++ new)
+unfolding listFrom charAfterLines
+behind-lines c [] old new h = h
+behind-lines c (l ∷ before) old new h = ap (ontoList (countsAs c (l .bytes))) (behind-lines (charAfterLine c l) before old new h)
 
 -- ---- a line for another
 
 -- what it counts as, and the character behind it
-pub record CountsAs (c : ℕ) (l w : List ℕ) (d : ℕ) : Type 0 where
-  pub text : countsAs c l ≡ w
-  pub char : charAfterLine c (lineOf l) ≡ d
+record CountsAs (c : ℕ) (l w : List ℕ) (d : ℕ) : Type 0 where
+  text : countsAs c l ≡ w
+  char : charAfterLine c (lineOf l) ≡ d
 
-first-line : (c d k : ℕ) (l w : List ℕ) (ls : List Physical) → CountsAs c l w d → listFrom c k (lineOf l ∷ ls) ≡ texts (ontoCounted k w (countedFrom d (k + 1) ls))
-unfolding countedFrom
-first-line c d k l w ls h = rw (h .text, h .char)
+first-line : (c d : ℕ) (l w : List ℕ) (ls : List Physical) → CountsAs c l w d → listFrom c (lineOf l ∷ ls) ≡ ontoList w (listFrom d ls)
+unfolding listFrom
+first-line c d l w ls h = ap₂ (λ (v : List ℕ) (x : ℕ). ontoList v (listFrom x ls)) (h .text) (h .char)
 
-same-line : (c d : ℕ) (l m w : List ℕ) (ls : List Physical) → CountsAs c l w d → CountsAs c m w d → (j k : ℕ) → listFrom c j (lineOf l ∷ ls) ≡ listFrom c k (lineOf m ∷ ls)
-same-line c d l m w ls g h j k =
-    first-line c d j l w ls g ∙ onto-same j k w _ _ (anywhere d (j + 1) (k + 1) ls) ∙ sym (first-line c d k m w ls h)
+same-line : (c d : ℕ) (l m w : List ℕ) (ls : List Physical) → CountsAs c l w d → CountsAs c m w d → listFrom c (lineOf l ∷ ls) ≡ listFrom c (lineOf m ∷ ls)
+same-line c d l m w ls g h = first-line c d l w ls g ∙ sym (first-line c d m w ls h)
 
 -- a line that counts as nothing
-no-line : (c : ℕ) (l : List ℕ) (ls : List Physical) → CountsAs c l [] c → (j k : ℕ) → listFrom c j (lineOf l ∷ ls) ≡ listFrom c k ls
-unfolding ontoCounted
-no-line c l ls h j k = first-line c c j l [] ls h ∙ anywhere c (j + 1) k ls
+no-line : (c : ℕ) (l : List ℕ) (ls : List Physical) → CountsAs c l [] c → listFrom c (lineOf l ∷ ls) ≡ listFrom c ls
+unfolding ontoList
+no-line c l ls h = first-line c c l [] ls h
 
 -- ---- the edits
 
@@ -94,20 +97,20 @@ blank-line : (c : ℕ) (r : List ℕ) → among c marks ≡ true → isRemark c 
 unfolding cut front trim isChange
 blank-line c r m h = remark-line c [] r m refl h
 
-edit-keeps : (c : ℕ) (old new behind : List Physical) → among c marks ≡ true → Edit c old new → (j k : ℕ) → listFrom c j (old ++ behind) ≡ listFrom c k (new ++ behind)
-edit-keeps c old new behind m (behindText w q r u p o) j k =
-    same-line c c (w ++ q) (w ++ r) (cut c w) behind (remark-line c w q m u p) (remark-line c w r m u o) j k
-edit-keeps c old new behind m (behindChange x w q r u s a p b o) j k =
-    same-line c x (w ++ q) (w ++ r) (changeCounts [] (says x)) behind (remark-behind c x w q u s a p) (remark-behind c x w r u s b o) j k
-edit-keeps c old new behind m (respelled x v w u s p o) j k = same-line c x v w (changeCounts [] (says x)) behind (change-line c x v u s) (change-line c x w p o) j k
-edit-keeps c old new behind m (putIn r o) j k = sym (no-line c r behind (blank-line c r m o) k j)
-edit-keeps c old new behind m (takenOut r o) j k = no-line c r behind (blank-line c r m o) j k
+edit-keeps : (c : ℕ) (old new behind : List Physical) → among c marks ≡ true → Edit c old new → listFrom c (old ++ behind) ≡ listFrom c (new ++ behind)
+edit-keeps c old new behind m (behindText w q r u p o) =
+    same-line c c (w ++ q) (w ++ r) (cut c w) behind (remark-line c w q m u p) (remark-line c w r m u o)
+edit-keeps c old new behind m (behindChange x w q r u s a p b o) =
+    same-line c x (w ++ q) (w ++ r) (changeCounts [] (says x)) behind (remark-behind c x w q u s a p) (remark-behind c x w r u s b o)
+edit-keeps c old new behind m (respelled x v w u s p o) = same-line c x v w (changeCounts [] (says x)) behind (change-line c x v u s) (change-line c x w p o)
+edit-keeps c old new behind m (putIn r o) = sym (no-line c r behind (blank-line c r m o))
+edit-keeps c old new behind m (takenOut r o) = no-line c r behind (blank-line c r m o)
 
 -- ---- files
 
-lines-list : (s t : List ℕ) → listFrom (code "|") 1 (linesOf s) ≡ listFrom (code "|") 1 (linesOf t) → listOf s ≡ listOf t
+list-is : (s : List ℕ) → listOf s ≡ listFrom (code "|") (linesOf s)
 unfolding listOf counted
-lines-list s t h = h
+list-is s = list-from (code "|") 1 (linesOf s)
 
 bar-marked : among (code "|") marks ≡ true
 unfolding among
@@ -116,12 +119,13 @@ bar-marked = refl
 edited-list : (s t : List ℕ) → Edited s t → listOf s ≡ listOf t
 edited-list s t h =
     let kept = edit-keeps (charAfterLines (code "|") (h .before)) (h .old) (h .new) (h .behind) (chars-marked (code "|") (h .before) bar-marked) (h .edit) in
-    lines-list s t
-    (ap (listFrom (code "|") 1) (h .lines) ∙ behind-lines (code "|") (h .before) (h .old ++ h .behind) (h .new ++ h .behind) kept 1 1 ∙ sym (ap (listFrom (code "|") 1) (h .linesToo)))
+    list-is s ∙ ap (listFrom (code "|")) (h .lines)
+    ∙ behind-lines (code "|") (h .before) (h .old ++ h .behind) (h .new ++ h .behind) kept
+    ∙ sym (list-is t ∙ ap (listFrom (code "|")) (h .linesToo))
 
-pub edits-list : (s t : List ℕ) (us : List (List ℕ)) → EditedBy s us t → listOf s ≡ listOf t
-edits-list s t [] h = lines-list s t (ap (listFrom (code "|") 1) h)
+edits-list : (s t : List ℕ) (us : List (List ℕ)) → EditedBy s us t → listOf s ≡ listOf t
+edits-list s t [] h = list-is s ∙ ap (listFrom (code "|")) h ∙ sym (list-is t)
 edits-list s t (u ∷ us) h = edited-list s u (h .0) ∙ edits-list u t us (h .1)
 
 pub edits-change-nothing : EditsChangeNothing
-edits-change-nothing s t us h p q l = loaded-alike s t (record { passes = p; passesToo = q; list = edits-list s t us h }) l
+edits-change-nothing s t us h p q = unchanged s t (record { passes = p; passesToo = q; list = edits-list s t us h })

@@ -50,6 +50,6 @@ ends-kept (b ∷ bs) h =
     ap linesOf (cond-no _ _ plain) ∙ lines-byte b (withoutReturns bs) t (return-not b (withoutReturns bs) plain) ∙ ap (ontoLine b) (ends-kept bs (parts .1)) ∙ sym (lines-byte b bs t u)))
 
 pub ends-change-nothing : EndsChangeNothing
-ends-change-nothing s t e p q l =
+ends-change-nothing s t e p q =
     let kept : (u : List ℕ) → bytesFault u ≡ Clean → linesOf (withoutReturns u) ≡ linesOf u = λ u h. ends-kept u (clean-allowed (linesOf u) (clean-file u h)) in
-    edits-change-nothing s t [] (sym (kept s p) ∙ ap linesOf e ∙ kept t q) p q l
+    edits-change-nothing s t [] (sym (kept s p) ∙ ap linesOf e ∙ kept t q) p q

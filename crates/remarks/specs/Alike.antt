@@ -59,3 +59,9 @@ CheckedAlike = (s t : List ℕ) → Alike s t → (l : Lengths) → Agree s t (o
 
 abbrev pub LoadedAlike : Type 0
 LoadedAlike = (s t : List ℕ) → Alike s t → (l : Lending) → Agree s t (loading l s) (loading l t)
+
+-- both, of files that are alike
+pub record Unchanged (s t : List ℕ) : Type 0 where
+  pub alike : Alike s t
+  pub checked : (l : Lengths) → Agree s t (outcome l s) (outcome l t)
+  pub loaded : (l : Lending) → Agree s t (loading l s) (loading l t)

@@ -12,9 +12,7 @@ use Rattle.lines.specs.Lines.{Physical, linesOf, bytesFault}
 use Rattle.lines.specs.declared.Bytes.the-variants.{Clean}
 use Rattle.cut_lines.specs.Change.{isChange, noneOr, changeOf}
 use Rattle.cut_lines.specs.InForce.{charAfterLines}
-use Rattle.records.specs.declared.Lending.{Lending}
-use Rattle.rules.specs.Whole.{loading}
-use Rattle.remarks.specs.Alike.{Agree}
+use Rattle.remarks.specs.Alike.{Unchanged}
 
 -- ---- one edit
 
@@ -60,8 +58,7 @@ EditedBy s (u ∷ us) t = Edited s u × EditedBy u us t
 
 abbrev pub EditsChangeNothing : Type 0
 EditsChangeNothing =
-    (s t : List ℕ) (us : List (List ℕ)) → EditedBy s us t → bytesFault s ≡ Clean → bytesFault t ≡ Clean
-    → (l : Lending) → Agree s t (loading l s) (loading l t)
+    (s t : List ℕ) (us : List (List ℕ)) → EditedBy s us t → bytesFault s ≡ Clean → bytesFault t ≡ Clean → Unchanged s t
 
 -- ---- line ends: files with the same bytes, the CRs left out
 
@@ -71,5 +68,4 @@ withoutReturns (b ∷ bs) = cond (eqb b (code "\r")) (withoutReturns bs) (b ∷ 
 
 abbrev pub EndsChangeNothing : Type 0
 EndsChangeNothing =
-    (s t : List ℕ) → withoutReturns s ≡ withoutReturns t → bytesFault s ≡ Clean → bytesFault t ≡ Clean
-    → (l : Lending) → Agree s t (loading l s) (loading l t)
+    (s t : List ℕ) → withoutReturns s ≡ withoutReturns t → bytesFault s ≡ Clean → bytesFault t ≡ Clean → Unchanged s t
