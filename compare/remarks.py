@@ -11,7 +11,7 @@ from itertools import chain, islice, zip_longest
 
 import maker
 from cases import BOUNDS, ROOT, expected
-from making.cutting import entries, passes
+from making.cutting import BLANKS, entries, passes
 from making.dice import Dice
 from making.draft import keyword_of, words
 from making.pen import LARGEST_FILE
@@ -95,6 +95,7 @@ WANTED = {
     '19 at another line': lambda pair: pair.before.number == 19 and displaced(pair),
     'a column of a line written otherwise': lambda pair: pair.before.column and any(before.line != after.line for before, after in pair.told),
     'refused at a faulty [Comment Char] line': lambda pair: any(before.kind == 'faulty change' for before, _ in pair.told),
+    'a faulty [Comment Char] line with blanks at its end': some(lambda before, _: before.kind == 'faulty change' and before.line[-1] in BLANKS),
     'a [Comment Char] line spelled otherwise': some(respelled),
     'a [Comment Char] line with a new remark': some(remarked),
     'a [Comment Char] line without its remark': some(lambda before, after: remarked(after, before)),
