@@ -1,1 +1,2 @@
 // No code: what the tables of every accepted file satisfy.
+#![tactic(auto)]

@@ -1,5 +1,7 @@
 // Standard input is read into tables at document 01's bounds and 8,192 rows, and what is asked of it is printed; of a refused file its refusal.
 // The first argument is the question's word.
+#![tactic(auto)]
+
 use doubles::print_doubles;
 use program_output::print_refusal;
 use program_output::tables::{
@@ -11,12 +13,12 @@ use records::Verdict;
 mod cells; // cells.rt: a record's lines of doubles, with those of what is its own in other tables
 mod doubles; // doubles.rt: every cell as a double
 
-#[derive(Drop)]
+#[derive(Clone, Copy)]
 enum Question {
     Doubles,
 }
 
-#[derive(Drop)]
+#[derive(Clone, Copy)]
 enum Asked {
     Known(Question),
     Unknown,

@@ -4,7 +4,7 @@ ghost use Rattle.std.specs.Prelude.{◌≤◌, ◌<◌};
 use records::{Lending, Lengths};
 
 // The length of the next file, or none.
-#[derive(Drop)]
+#[derive(Clone, Copy)]
 pub(crate) enum Next {
     File(usize),
     End,

@@ -1,6 +1,8 @@
 // Many files in one run. Standard input holds records: seven lent lengths and n, four bytes each, lowest first, then the n bytes of a file.
 // Each file's dump is printed. A record that is cut off ends the run. The tables hold a pattern where nothing is read: a word that a reading
 // changes beyond what it uses is told, by a line of its own that no dump has.
+#![tactic(auto)]
+
 use heads::{Next, lending_in, next_file};
 use patterns::{PATTERN, is_plain, renewed};
 use program_output::put_out;

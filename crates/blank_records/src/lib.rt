@@ -1,4 +1,6 @@
 // Blank records: no names, no cells, no numbers. Tables of them are lent where no file was read yet.
+#![tactic(auto)]
+
 ghost use Rattle.std.specs.Prelude.{◌≡◌};
 ghost use Rattle.rules.specs.Reading.{no_ramp};
 ghost use Rattle.blank_records.specs.Blank.{blank_component, blank_pin, blank_selector, blank_choice, blank_model, blank_waveform};

@@ -1,4 +1,6 @@
 // The records of pins, selector rows, selectors, components and the header, made from a file's bytes.
+#![tactic(auto)]
+
 pub mod held; // held.rt: a pin's model as it lies in its record
 pub mod rows; // rows.rt: a pin row and a selector row
 pub mod lists; // lists.rt: a component's lists of named lines: locations and package

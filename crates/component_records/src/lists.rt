@@ -11,27 +11,27 @@ use named_lines::LocationRead;
 use records::{Location, Triple};
 
 // What stands under [Package].
-#[derive(Drop)]
+#[derive(Clone, Copy)]
 pub struct Boxes {
     pub resistance: Triple,
     pub inductance: Triple,
     pub capacitance: Triple,
 }
 
-#[derive(Drop)]
+#[derive(Clone, Copy)]
 pub struct BoxesRead {
     pub boxes: Boxes,
     pub next: Cursor,
 }
 
 // What stands under [Component].
-#[derive(Drop)]
+#[derive(Clone, Copy)]
 pub struct Sites {
     pub si: Location,
     pub timing: Location,
 }
 
-#[derive(Drop)]
+#[derive(Clone, Copy)]
 pub struct SitesRead {
     pub sites: Sites,
     pub next: Cursor,

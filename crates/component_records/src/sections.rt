@@ -30,14 +30,14 @@ pub fn selector_of(src: &[u8], c: Cursor, name: &[u8], section: usize, start: us
 }
 
 // What a component's keywords give: pins is how many rows stand under [Pin].
-#[derive(Drop)]
+#[derive(Clone, Copy)]
 pub struct Parts {
     pub manufacturer: Name,
     pub boxes: Boxes,
     pub pins: usize,
 }
 
-#[derive(Drop)]
+#[derive(Clone, Copy)]
 pub struct PartRead {
     pub parts: Parts,
     pub next: Cursor,

@@ -1,4 +1,6 @@
 // The steps of [Component] and [Model Selector].
+#![tactic(auto)]
+
 ghost use Rattle.std.specs.Prelude.{◌≡◌, true, false, ◌≤◌, length, drop};
 ghost use Rattle.laws.specs.Said.{or_else};
 ghost use Rattle.records.specs.Flaws.{told};
@@ -21,7 +23,7 @@ use rules::{ComponentList, ComponentState, Event, SelectorState, Stage, Went};
 use words::Word;
 
 // Where the names of a pin row lie: the pin, its signal and its model.
-#[derive(Drop)]
+#[derive(Clone, Copy)]
 pub struct PinNames {
     pub pin: Word,
     pub signal: Word,

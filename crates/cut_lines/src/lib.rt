@@ -1,4 +1,6 @@
 // The texts of a file, one after another: the lines left after cutting, and the [Comment Char] lines.
+#![tactic(auto)]
+
 ghost use Rattle.std.specs.Prelude.{◌≡◌, ◌+◌, ◌^◌, ◌≤◌, ◌<◌, length, drop};
 ghost use Rattle.laws.specs.Lists.{among};
 ghost use Rattle.laws.specs.Said.{or_else};
@@ -11,7 +13,7 @@ ghost use Rattle.cut_lines.specs.declared.Next.TheVariants.{Change};
 use records::LineFault;
 
 // Where a reading stands: the next line's place and number, and the comment character in force there.
-#[derive(Drop)]
+#[derive(Clone, Copy)]
 pub struct Cursor {
     pub at: usize,
     pub line: u64,
@@ -19,14 +21,14 @@ pub struct Cursor {
 }
 
 // What a [Comment Char] line says: the new character, or its fault.
-#[derive(Drop)]
+#[derive(Clone, Copy)]
 pub enum ChangeRead {
     To(u8),
     Wrong(LineFault),
 }
 
 // The next text: what is left of a line; a [Comment Char] line with its fault, if any; or the line after the last.
-#[derive(Drop)]
+#[derive(Clone, Copy)]
 pub enum Next {
     Text {
         line: u64,

@@ -1,4 +1,6 @@
 // Numbers: a word as an exact decimal or a cell, the order of decimals, and a cell as one word of the row store.
+#![tactic(auto)]
+
 ghost use Rattle.std.specs.Prelude.{cond, ◌≡◌, ◌+◌, ◌/◌, ◌^◌, ◌<◌, ltb};
 ghost use Rattle.decimal.specs.Decimal.{number_of, given_cell, cell_of, is_missing, less_than, size_of, above_zero, word_of, ranged, offset};
 ghost use Rattle.decimal.specs.Parts.{cap, sign_bit, BegunRead};
@@ -14,7 +16,7 @@ use word::{
 };
 
 // power has 40 added: 0 to 64 stand for -40 to 24.
-#[derive(Drop)]
+#[derive(Clone, Copy)]
 pub struct Decimal {
     pub digits: u64,
     pub power: u8,
@@ -22,28 +24,28 @@ pub struct Decimal {
 }
 
 // A cell of a table: a number, or missing (NA).
-#[derive(Drop)]
+#[derive(Clone, Copy)]
 pub enum Cell {
     Number(Decimal),
     Missing,
 }
 
 // What a word says as a number. Wrong holds the fault: 11 not a number, 12 out of range.
-#[derive(Drop)]
+#[derive(Clone, Copy)]
 pub enum NumberRead {
     Value(Decimal),
     Wrong(u8),
 }
 
 // What a word says as a cell, or the fault.
-#[derive(Drop)]
+#[derive(Clone, Copy)]
 pub enum CellRead {
     Read(Cell),
     Bad(u8),
 }
 
 // What was read of a short word: its sign and its digits, if there are some. They end at `at`.
-#[derive(Drop)]
+#[derive(Clone, Copy)]
 struct Begun {
     some: bool,
     minus: bool,

@@ -6,7 +6,7 @@ ghost use Rattle.decimal.specs.Decimal.{after_e, scale_up, scale_down};
 ghost use Rattle.decimal.specs.Parts.{cap, short, SignRead, DigitsRead, PlainRead, CappedRead, MantissaRead, ShortRead, ExponentRead};
 
 // Digits so far: number times ten to the zeros. The number has no trailing zero, and is capped; at is the next byte.
-#[derive(Drop)]
+#[derive(Clone, Copy)]
 pub(crate) struct Figures {
     pub(crate) number: u64,
     pub(crate) zeros: u64,
@@ -14,14 +14,14 @@ pub(crate) struct Figures {
 }
 
 // Digits as the number that they say; at is the next byte.
-#[derive(Drop)]
+#[derive(Clone, Copy)]
 pub(crate) struct Plain {
     pub(crate) number: u64,
     pub(crate) at: usize,
 }
 
 // The digits of a word with their point: how many they are, and how many stand after the point.
-#[derive(Drop)]
+#[derive(Clone, Copy)]
 pub(crate) struct Mantissa {
     pub(crate) number: u64,
     pub(crate) zeros: u64,
@@ -30,13 +30,13 @@ pub(crate) struct Mantissa {
     pub(crate) at: usize,
 }
 
-#[derive(Drop)]
+#[derive(Clone, Copy)]
 pub(crate) struct Sign {
     pub(crate) minus: bool,
     pub(crate) at: usize,
 }
 
-#[derive(Drop)]
+#[derive(Clone, Copy)]
 pub(crate) struct Exponent {
     pub(crate) minus: bool,
     pub(crate) size: u64,

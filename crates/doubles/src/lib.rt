@@ -1,4 +1,6 @@
 // A cell as a double: its number rounded once, or missing.
+#![tactic(auto)]
+
 ghost use Rattle.std.specs.Prelude.{◌≡◌, false, ◌*◌, ◌-◌, ◌^◌, ◌<◌, ◌≤◌};
 ghost use Rattle.std.specs.Float.{binary64};
 ghost use Rattle.std.specs.Float.Ieee.{round};
@@ -10,14 +12,14 @@ ghost use Rattle.doubles.specs.Double.{rounded, counted, double_of};
 use decimal::{Cell, Decimal};
 
 // A cell as a double, or missing.
-#[derive(Drop)]
+#[derive(Clone, Copy)]
 pub enum CellDouble {
     Double(f64),
     Missing,
 }
 
 // That, or the fault: 24, the power is below -22 or above 22.
-#[derive(Drop)]
+#[derive(Clone, Copy)]
 pub enum DoubleRead {
     Read(CellDouble),
     Bad(u8),

@@ -1,4 +1,6 @@
 // Standard input is read into tables at document 01's bounds and 8,192 rows, and all that they keep is printed.
+#![tactic(auto)]
+
 use program_output::tables::{
     CHOICE_TABLE, COMPONENT_TABLE, MODEL_TABLE, PIN_TABLE, ROW_TABLE, SELECTOR_TABLE,
     WAVEFORM_TABLE,

@@ -1,4 +1,6 @@
 // The dump's lines of a model: its own, and those of its tables, ramp, waveforms and rows.
+#![tactic(auto)]
+
 ghost use Rattle.text_buffer.specs.Put.{Put};
 ghost use Rattle.dump_model_text.specs.Models.{type_line, polarity_line, enable_line, head_lines, split_lines, level_lines, range_lines, model_dump, table_text, table_line, slope_text, slopes_dump, ramp_dump, waveforms_line, edge_text, fixture_lines, device_lines, waveform_lines, word_text, row_dump};
 

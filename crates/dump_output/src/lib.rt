@@ -1,4 +1,6 @@
 // A file read into lent tables of words, and its dump or its refusal on standard output.
+#![tactic(auto)]
+
 ghost use Rattle.table_words.specs.Packed.{word_tables};
 ghost use Rattle.table_reader.specs.ReadInWords.{ReadInWords};
 

@@ -1,5 +1,7 @@
 // Standard input is read as a file and told to a person: a summary, or the fault and its line. All rows that a file can have are lent.
 // The first argument is the file's name.
+#![tactic(auto)]
+
 use explain_output::print_answer;
 use program_output::tables::{
     CHOICE_TABLE, COMPONENT_TABLE, MODEL_TABLE, PIN_TABLE, ROW_TABLE, SELECTOR_TABLE,

@@ -1,4 +1,6 @@
 // What a person is told of a file that was read into tables of words, on standard output: a summary, or the fault and its line.
+#![tactic(auto)]
+
 use program_output::put_out;
 use records::{
     Answer, Fault, Lengths, MOST_CHOICES, MOST_COMPONENTS, MOST_MODELS, MOST_PINS, MOST_SELECTORS,

@@ -1,4 +1,6 @@
 // What a person reads of an accepted file, as bytes in a lent buffer: a summary in columns.
+#![tactic(auto)]
+
 pub mod capacitances; // capacitances.rt: the die capacitance of models in columns
 pub mod summaries; // summaries.rt: the file, and its pins in columns
 

@@ -10,7 +10,7 @@ use records::{Component, Counts, Header, Model, ModelType, Name, Pin};
 use text_buffer::{put_byte, put_bytes, put_name, put_number, put_repeated, put_words};
 
 // The widths of the columns that hold names.
-#[derive(Drop)]
+#[derive(Clone, Copy)]
 pub struct Widths {
     pub pin: usize,
     pub signal: usize,

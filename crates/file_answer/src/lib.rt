@@ -1,4 +1,6 @@
 // The answer to a file, and what is noted of it for those who fill the tables.
+#![tactic(auto)]
+
 use cut_lines::Cursor;
 use noted_events::Tally;
 use records::{Fault, LineFault};
@@ -12,7 +14,7 @@ pub mod settling; // settling.rt: bytes, lines, names, last checks, one after th
 pub use settling::{check, loaded, outlined};
 
 // Behind rows of the open table: where the reading stands, and how many rows the file has up to there.
-#[derive(Drop)]
+#[derive(Clone, Copy)]
 pub struct Passed {
     pub cursor: Cursor,
     pub rows: RowsSeen,
@@ -20,14 +22,14 @@ pub struct Passed {
 }
 
 // Behind rows of [Pin]: where the reading stands, and what is noted and counted up to there.
-#[derive(Drop)]
+#[derive(Clone, Copy)]
 pub struct PinsPassed {
     pub cursor: Cursor,
     pub tally: Tally,
 }
 
 // Where the reading stands.
-#[derive(Drop)]
+#[derive(Clone, Copy)]
 pub struct Standing {
     pub stage: Stage,
     pub cursor: Cursor,
@@ -35,20 +37,20 @@ pub struct Standing {
 }
 
 // The lines are read to the end, or to the first fault.
-#[derive(Drop)]
+#[derive(Clone, Copy)]
 pub enum Ending {
     Whole,
     Broken(Fault),
 }
 
-#[derive(Drop)]
+#[derive(Clone, Copy)]
 pub struct Scanned {
     pub ending: Ending,
     pub tally: Tally,
 }
 
 // What is noted and counted behind a line, and its fault, where there was no room; 0 for none.
-#[derive(Drop)]
+#[derive(Clone, Copy)]
 pub struct NotedLine {
     pub tally: Tally,
     pub fault: LineFault,

@@ -1,4 +1,6 @@
 // The records of an accepted file, made from its notes: those of sections and rows one by one, and the models one after the other with their waveforms and rows.
+#![tactic(auto)]
+
 use cut_lines::Cursor;
 use model_record::{Body, FirstLines, Taken};
 
@@ -11,7 +13,7 @@ pub use tables::{choice_at, component_at, pin_at, selector_at};
 
 // How far the models are made: how many words their rows took; and of the model that was read last, what its first lines and its keywords so far say. It goes
 // on behind a waveform.
-#[derive(Drop)]
+#[derive(Clone, Copy)]
 pub struct Progress {
     pub words: usize,
     pub lines: FirstLines,
@@ -19,7 +21,7 @@ pub struct Progress {
 }
 
 // What the lines of a model so far say, and where to read on.
-#[derive(Drop)]
+#[derive(Clone, Copy)]
 pub struct Opening {
     pub lines: FirstLines,
     pub body: Body,

@@ -1,9 +1,11 @@
 // What was given so far, of up to 64 things: lines of a list, or keywords of a section.
+#![tactic(auto)]
+
 ghost use Rattle.std.specs.Prelude.{◌≡◌};
 ghost use Rattle.given.specs.Given.{none_given, has, with};
 
 // Which of up to 64 things were given, by their places in document 01's list of them: bit k is set if the thing at place k was.
-#[derive(Drop)]
+#[derive(Clone, Copy)]
 pub struct Given {
     pub bits: u64,
 }

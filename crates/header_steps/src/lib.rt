@@ -1,4 +1,6 @@
 // The header's steps: [IBIS Ver], [File Name], [File Rev] and the five texts.
+#![tactic(auto)]
+
 ghost use Rattle.std.specs.Prelude.{◌≡◌, ◌≤◌, length, drop};
 ghost use Rattle.records.specs.Flaws.{told};
 ghost use Rattle.keywords.specs.Answers.{ArgumentFrom};

@@ -1,4 +1,6 @@
 // The keywords of the hierarchy in source document 000, section 3a, in one constant; and a keyword looked up in it.
+#![tactic(auto)]
+
 ghost use Rattle.std.specs.Prelude.{◌≡◌, map};
 ghost use Rattle.laws.specs.Lists.{one_of};
 ghost use Rattle.words.specs.Spelled.{byte_as};

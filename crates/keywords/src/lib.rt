@@ -1,4 +1,6 @@
 // Keyword lines: their form, and the keyword by its name, in any letter case, a space equal to an underscore.
+#![tactic(auto)]
+
 ghost use Rattle.std.specs.Prelude.{◌≡◌, false, cond, drop};
 ghost use Rattle.laws.specs.Lists.{eqs, one_of};
 ghost use Rattle.name_table.specs.Names.{meaning};
@@ -13,7 +15,7 @@ use name_table::{Found, NameList};
 use records::Edge;
 use words::Spelling;
 
-#[derive(Drop)]
+#[derive(Clone, Copy)]
 pub enum HeaderText {
     Date,
     Source,
@@ -22,28 +24,28 @@ pub enum HeaderText {
     Copyright,
 }
 
-#[derive(Drop)]
+#[derive(Clone, Copy)]
 pub enum HeaderPart {
     FileName,
     FileRev,
     FreeText(HeaderText),
 }
 
-#[derive(Drop)]
+#[derive(Clone, Copy)]
 pub enum Section {
     Component,
     Selector,
     Model,
 }
 
-#[derive(Drop)]
+#[derive(Clone, Copy)]
 pub enum ComponentPart {
     Manufacturer,
     Package,
     Pin,
 }
 
-#[derive(Drop)]
+#[derive(Clone, Copy)]
 pub enum CurrentTable {
     Pulldown,
     Pullup,
@@ -51,7 +53,7 @@ pub enum CurrentTable {
     PowerClamp,
 }
 
-#[derive(Drop)]
+#[derive(Clone, Copy)]
 pub enum ModelPart {
     VoltageRange,
     TemperatureRange,
@@ -61,7 +63,7 @@ pub enum ModelPart {
 }
 
 // The keywords that are carried, by where they stand. [Comment Char] is none of them: its line is known before it is cut.
-#[derive(Drop)]
+#[derive(Clone, Copy)]
 pub enum Keyword {
     IbisVer,
     InHeader(HeaderPart),
@@ -73,7 +75,7 @@ pub enum Keyword {
 
 // What a keyword line is: a keyword and where its argument begins; a gap of ours, a keyword of the hierarchy that is not carried (6); a slip, one
 // outside the hierarchy (21); badly formed (5).
-#[derive(Drop)]
+#[derive(Clone, Copy)]
 pub enum KeyRead {
     Known { keyword: Keyword, argument: usize },
     Gap,
@@ -82,7 +84,7 @@ pub enum KeyRead {
 }
 
 // A keyword by its name, or nothing.
-#[derive(Drop)]
+#[derive(Clone, Copy)]
 pub enum Named {
     Is(Keyword),
     Nothing,

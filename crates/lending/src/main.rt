@@ -1,6 +1,8 @@
 // The reader by example: standard input is read into lent tables of odd lengths, then into the same with a row too few, and is checked
 // for one pin. Printed are the verdict, every pin record, and how many words past the rows that are used keep what they held. The pins of the first
 // reading are then lent to a search.
+#![tactic(auto)]
+
 ghost use Rattle.std.specs.Prelude.{◌≡◌, ◌≤◌, take};
 ghost use Rattle.lent_pins.specs.Search.{pin_place};
 ghost use Rattle.lending.specs.Lent.{spare_pin, one_component, three_pins, no_selectors, no_choices, two_models, one_waveform, many_words, few_words, enough_of, scant_of, ReadEnough, ReadScant};
@@ -12,7 +14,7 @@ use records::{
 };
 
 // An answer and the tables as they are left: 8,192 rows, as loading asks for, and three words that hold no row.
-#[derive(Drop)]
+#[derive(Clone, Copy)]
 struct Enough {
     answer: Answer,
     components: [Component; 1],
@@ -25,7 +27,7 @@ struct Enough {
 }
 
 // The same with a row less.
-#[derive(Drop)]
+#[derive(Clone, Copy)]
 struct Scant {
     answer: Answer,
     components: [Component; 1],

@@ -1,4 +1,6 @@
 // A component's pin by its name in a lent table of pin records. Tables of words are asked by crate questions.
+#![tactic(auto)]
+
 ghost use Rattle.std.specs.Prelude.{◌≡◌, ◌<◌, length, take, get_or};
 ghost use Rattle.name_table.specs.declared.Found.TheVariants.{Nothing};
 ghost use Rattle.records.specs.declared.Pin.{Pin};
@@ -10,7 +12,7 @@ use questions::searches::in_span;
 use records::{Name, Pin, Span};
 
 // A pin that is sought: where the pins of its component lie in the table of pins, and its name.
-#[derive(Drop)]
+#[derive(Clone, Copy)]
 pub struct Sought {
     pub pins: Span,
     pub name: Name,

@@ -1,4 +1,6 @@
 // Numbers and cells of a line: three cells, a table's row, a ramp's slopes, and the heading of the pins.
+#![tactic(auto)]
+
 ghost use Rattle.std.specs.Prelude.{◌≡◌, ◌≤◌, ◌<◌, ◌+◌, ◌^◌, [], length, drop, cond, eqb};
 ghost use Rattle.laws.specs.Lists.{eqs};
 ghost use Rattle.laws.specs.Said.{says, fault, fault_in, or_else, read_on};
@@ -21,14 +23,14 @@ use records::{LineFault, RampCell, RampTriple, Triple};
 use words::Word;
 
 // Three words that are all from a place on; or where the fourth begins, or the line ends that has fewer.
-#[derive(Drop)]
+#[derive(Clone, Copy)]
 pub enum ThreeWords {
     Three { a: Word, b: Word, c: Word },
     Other(usize),
 }
 
 // A row as the words of its cells, with fault 0; or its fault and the column told.
-#[derive(Drop)]
+#[derive(Clone, Copy)]
 pub struct RowWords {
     pub number: u64,
     pub typ: u64,
@@ -39,7 +41,7 @@ pub struct RowWords {
 }
 
 // What stands behind [Pin]: the names of a short row, of a long one, or neither.
-#[derive(Drop)]
+#[derive(Clone, Copy)]
 pub enum HeadingRead {
     Short,
     Long,

@@ -1,4 +1,6 @@
 // What is wrong with what stands on a line: the faults of named lines and of keywords' arguments.
+#![tactic(auto)]
+
 ghost use Rattle.std.specs.Prelude.{◌≡◌, ◌≤◌, length, drop};
 ghost use Rattle.records.specs.Flaws.{flaw_in, told, told_in};
 ghost use Rattle.line_rules.specs.Fields.{word_line, cells_line, slopes_line, number_line, three_cells, heading};

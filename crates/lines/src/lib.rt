@@ -1,4 +1,6 @@
 // Lines of a file: the faults of their bytes, in one pass; the reader that hands out one line at a time; and what cutting leaves.
+#![tactic(auto)]
+
 ghost use Rattle.std.specs.Prelude.{◌≡◌, true, ℕ, ◌+◌, ◌≤◌, ◌<◌, min, length, drop};
 ghost use Rattle.laws.specs.Lists.{front, other};
 ghost use Rattle.lines.specs.Lines.{is_allowed, lines_of, fault_from, bytes_fault};
@@ -13,35 +15,35 @@ const FILE: usize = 65536;
 const LINE: usize = 120;
 
 // What the bytes of a file say before anything else is looked at.
-#[derive(Drop)]
+#[derive(Clone, Copy)]
 pub enum Bytes {
     Clean,
     Faulty(Fault),
 }
 
 // A line from where it was asked for up to end, and where the next begins; all three are one place where no line is left.
-#[derive(Drop)]
+#[derive(Clone, Copy)]
 pub struct Line {
     pub end: usize,
     pub next: usize,
 }
 
 // A line, whole, and where it ends once it is cut.
-#[derive(Drop)]
+#[derive(Clone, Copy)]
 pub struct CutLine {
     pub whole: Line,
     pub cut: usize,
 }
 
 // A reader that is lent the file and remembers its place.
-#[derive(Drop)]
+#[derive(Clone, Copy)]
 pub struct LineReader<'a> {
     pub src: &'a [u8],
     pub at: usize,
 }
 
 // A line without a fault, and where the next begins; or the fault's number.
-#[derive(Drop)]
+#[derive(Clone, Copy)]
 enum LineCheck {
     Next(usize),
     Wrong(u8),

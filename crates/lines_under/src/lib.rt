@@ -1,4 +1,6 @@
 // What stands under a keyword: the lines up to the next keyword line, one after another; and the keywords, one after another.
+#![tactic(auto)]
+
 ghost use Rattle.std.specs.Prelude.{◌≡◌};
 ghost use Rattle.std.proofs.Math.Option.{some};
 ghost use Rattle.cut_lines.specs.Cursors.{Placed};
@@ -9,7 +11,7 @@ use cut_lines::{Cursor, Next};
 use keywords::{KeyRead, Keyword};
 
 // The next line under a keyword, from start up to end; or that there is none, and where the next keyword line stands.
-#[derive(Drop)]
+#[derive(Clone, Copy)]
 pub enum LineNext {
     Line {
         start: usize,
@@ -22,7 +24,7 @@ pub enum LineNext {
 }
 
 // The next keyword that is carried, with its argument from start up to end.
-#[derive(Drop)]
+#[derive(Clone, Copy)]
 pub enum KeyNext {
     Key {
         keyword: Keyword,
@@ -34,7 +36,7 @@ pub enum KeyNext {
 }
 
 // How many lines stand under a keyword, and where the next keyword line stands.
-#[derive(Drop)]
+#[derive(Clone, Copy)]
 pub struct Lines {
     pub count: usize,
     pub next: Cursor,

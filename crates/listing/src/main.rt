@@ -1,4 +1,6 @@
 // Standard input is checked for tables at document 01's bounds, no row is kept, and the listing is printed.
+#![tactic(auto)]
+
 use program_output::tables::{CHOICE_TABLE, MODEL_TABLE, PIN_TABLE, SELECTOR_TABLE};
 
 mod listing; // listing.rt: the counts and the pins of an accepted file

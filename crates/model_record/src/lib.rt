@@ -1,4 +1,6 @@
 // The record of a model: its first lines, then its keywords, whose rows are written into the row store, up to each waveform.
+#![tactic(auto)]
+
 use cut_lines::Cursor;
 use decimal::Cell;
 use records::{Enable, ModelType, Polarity, RampTable, Range, Split, Table, Triple, Waveform};
@@ -9,7 +11,7 @@ pub mod bodies; // bodies.rt: the keywords of a model, one after another
 pub mod record; // record.rt: the whole record
 
 // What the first lines say with a word,
-#[derive(Drop)]
+#[derive(Clone, Copy)]
 pub struct Marks {
     pub kind: ModelType,
     pub polarity: Polarity,
@@ -17,7 +19,7 @@ pub struct Marks {
 }
 
 // and with a number.
-#[derive(Drop)]
+#[derive(Clone, Copy)]
 pub struct Levels {
     pub vinl: Cell,
     pub vinh: Cell,
@@ -28,7 +30,7 @@ pub struct Levels {
 }
 
 // What the first lines say.
-#[derive(Drop)]
+#[derive(Clone, Copy)]
 pub struct FirstLines {
     pub marks: Marks,
     pub comp: Triple,
@@ -37,21 +39,21 @@ pub struct FirstLines {
 }
 
 // The first lines, and where the next keyword line stands.
-#[derive(Drop)]
+#[derive(Clone, Copy)]
 pub struct FirstRead {
     pub lines: FirstLines,
     pub next: Cursor,
 }
 
 // The lines of [Ramp], and where the next keyword line stands.
-#[derive(Drop)]
+#[derive(Clone, Copy)]
 pub struct RampLinesRead {
     pub ramp: RampTable,
     pub next: Cursor,
 }
 
 // What the keywords say. row: the place of the next table's first row in the row store.
-#[derive(Drop)]
+#[derive(Clone, Copy)]
 pub struct Body {
     pub voltage: Triple,
     pub temperature: Range,
@@ -66,7 +68,7 @@ pub struct Body {
 
 // What the keywords say with one more, or with all up to a waveform: how many words their rows took, where to read on, and whether the last is a
 // waveform; then this is its record.
-#[derive(Drop)]
+#[derive(Clone, Copy)]
 pub struct Taken {
     pub body: Body,
     pub next: Cursor,

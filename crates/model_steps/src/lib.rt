@@ -1,4 +1,6 @@
 // The steps of [Model]: its first lines, its keywords, the rows and lines of its lists, and what is checked where they close.
+#![tactic(auto)]
+
 use records::LineFault;
 use rules::RowsSeen;
 
@@ -13,7 +15,7 @@ pub use rows::{head_after, one_more, rising, row_step, table_fault};
 pub use state::{new_model, with_list};
 
 // The rows with one more, or the line's fault.
-#[derive(Drop)]
+#[derive(Clone, Copy)]
 pub enum RowStep {
     Next(RowsSeen),
     NoRow(LineFault),

@@ -1,4 +1,6 @@
 // The last questions about the noted names: names used twice (14), names not found (15), what nobody lists (16).
+#![tactic(auto)]
+
 pub mod places; // places.rt: a note's words
 pub mod keys; // keys.rt: a name's key
 pub mod seen; // seen.rt: the keys that were seen
@@ -11,14 +13,14 @@ pub use marking::last_fault;
 use records::Fault;
 
 // The line of the first name that is used twice.
-#[derive(Drop)]
+#[derive(Clone, Copy)]
 pub enum Clash {
     At(u64),
     NoClash,
 }
 
 // A name and an earlier one: equal, differing, or no longer to be compared.
-#[derive(Drop)]
+#[derive(Clone, Copy)]
 pub enum Meeting {
     Equal,
     Differing,
@@ -26,7 +28,7 @@ pub enum Meeting {
 }
 
 // What the last checks say: fine, or the first name that is not found (15), else the first section that nobody lists (16).
-#[derive(Drop)]
+#[derive(Clone, Copy)]
 pub enum Last {
     Fine,
     Faulty(Fault),

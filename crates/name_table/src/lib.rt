@@ -1,4 +1,6 @@
 // A name looked up in one of the lists of names. No list lies on the stack: its names are numbers in the code, eight bytes to one.
+#![tactic(auto)]
+
 ghost use Rattle.std.specs.Prelude.{◌≡◌, map, get_or};
 ghost use Rattle.laws.specs.Eights.{byte_in};
 ghost use Rattle.laws.specs.Lists.{eqs};
@@ -11,14 +13,14 @@ use words::Spelling;
 mod lists; // lists.rt: the names of each list
 
 // The place of a name, counted from 0.
-#[derive(Drop)]
+#[derive(Clone, Copy)]
 pub enum Found {
     At(usize),
     Nothing,
 }
 
 // The lists of names: keywords; the names of lines; the words that may stand behind a name.
-#[derive(Drop)]
+#[derive(Clone, Copy)]
 pub enum NameList {
     Keywords,
     ComponentLines,
@@ -33,7 +35,7 @@ pub enum NameList {
 }
 
 // A name of a list: how many bytes it has, at most 24, and they, eight to a number, the first one lowest.
-#[derive(Drop)]
+#[derive(Clone, Copy)]
 struct Listed(usize, u64, u64, u64);
 
 // Number k of a listed name. By tests of order: for a `match` the compiler lays the three numbers on the stack.

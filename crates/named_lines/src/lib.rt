@@ -1,4 +1,6 @@
 // What stands on a line: names and their forms, the word or number behind a name, and names and words looked up in lists.
+#![tactic(auto)]
+
 use records::{LineFault, Location, ModelType};
 
 pub mod lines; // lines.rt: a line's words, its name, and the word or number behind it
@@ -17,7 +19,7 @@ pub use lookups::{
 };
 
 // The form of a keyword's argument of one word.
-#[derive(Drop)]
+#[derive(Clone, Copy)]
 pub enum Form {
     Version,
     FileName,
@@ -25,21 +27,21 @@ pub enum Form {
 }
 
 // The place of a line's word in a list, or the line's fault.
-#[derive(Drop)]
+#[derive(Clone, Copy)]
 pub enum ListedRead {
     Listed(usize),
     Unlisted(LineFault),
 }
 
 // What a location line says, or its fault.
-#[derive(Drop)]
+#[derive(Clone, Copy)]
 pub enum LocationRead {
     Located(Location),
     NoLocation(LineFault),
 }
 
 // What the line Model_type says, or its fault.
-#[derive(Drop)]
+#[derive(Clone, Copy)]
 pub enum TypeRead {
     OfType(ModelType),
     NoType(LineFault),

@@ -1,5 +1,7 @@
 // The store of what is noted of a file, in words of two bytes: an area of notes for each kind, then the names in file order. No line's number is noted: it is
 // counted from the place where the line begins.
+#![tactic(auto)]
+
 ghost use Rattle.std.specs.Prelude.{◌≡◌, ◌+◌, ◌*◌, ◌≤◌, ◌<◌, length, get_or};
 ghost use Rattle.std.proofs.lemmas.List.Edits.{sets};
 ghost use Rattle.note_words.specs.Store.{names_held, words_per_section, words_per_row, order_from, store_length, paired, words_of_section, SectionFits, words_of_row, RowFits, with_name};
@@ -98,7 +100,7 @@ fn put_words(notes: &mut [u16], at: usize, words: &[u16])
 
 // What is noted of a section: where its line begins and its name lies; the places of its first pin, row or waveform, and of its first table row; the
 // comment character at its line; its place among the sections.
-#[derive(Drop)]
+#[derive(Clone, Copy)]
 pub struct SectionNote {
     pub at: usize,
     pub name: usize,
@@ -110,7 +112,7 @@ pub struct SectionNote {
 }
 
 // What is noted of a pin or a selector row: where its line begins, and with that its text; where its name and the model it names lie, and its text ends.
-#[derive(Drop)]
+#[derive(Clone, Copy)]
 pub struct RowNote {
     pub at: usize,
     pub name: usize,

@@ -1,4 +1,6 @@
 // What a line adds to a file, noted in the store and counted, as long as there is room.
+#![tactic(auto)]
+
 use cut_lines::Cursor;
 use records::{Counts, LineFault};
 
@@ -7,7 +9,7 @@ pub mod room; // room.rt: how much of each table is used, and how much may be
 pub mod events; // events.rt: what a line adds is noted
 
 // A text in the file: its line, where it lies, and the cursor behind it.
-#[derive(Drop)]
+#[derive(Clone, Copy)]
 pub struct Spot {
     pub line: u64,
     pub start: usize,
@@ -16,14 +18,14 @@ pub struct Spot {
 }
 
 // How many names are noted, and how much of each table is used.
-#[derive(Drop)]
+#[derive(Clone, Copy)]
 pub struct Tally {
     pub names: usize,
     pub counts: Counts,
 }
 
 // What a line adds is noted, or there is no room for it: the line's fault.
-#[derive(Drop)]
+#[derive(Clone, Copy)]
 pub enum Told {
     Going(Tally),
     Full(LineFault, Tally),

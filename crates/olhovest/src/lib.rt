@@ -1,4 +1,6 @@
 // The reader for C: functions over bytes and numbers. A table is a slice of words, its records one after the other.
+#![tactic(auto)]
+
 ghost use Rattle.std.specs.Prelude.{◌≡◌};
 ghost use Rattle.file_answer.specs.Answered.{answer_of};
 ghost use Rattle.table_words.specs.Packed.{fault_number, answer_words, word_tables};

@@ -1,5 +1,7 @@
 // What every program needs: where a file's bytes are kept, the tables and the parts of them that are in use, and bytes and refusals written to
 // standard output.
+#![tactic(auto)]
+
 ghost use Rattle.std.specs.Prelude.{◌≡◌, length};
 ghost use Rattle.program_output.specs.Kept.{file_buffer, next_place};
 

@@ -1,1 +1,2 @@
 // No code: that every cell which document 01 reads from a file of bytes is given faithfully as a double.
+#![tactic(auto)]

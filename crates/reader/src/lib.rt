@@ -1,4 +1,6 @@
 // Reading a file into the lent tables: checked first, and filled only when it is accepted.
+#![tactic(auto)]
+
 ghost use Rattle.std.specs.Prelude.{◌≡◌, ◌<◌, ◌≤◌, length, set};
 ghost use Rattle.table_walks.specs.Filled.{filled_to};
 ghost use Rattle.from_notes.specs.Made.{component_at, pin_at, selector_at, choice_at};

@@ -1,5 +1,7 @@
 // The types that everybody needs: the records of the tables, the counts, what is named in a file, and a fault with its line and column; document 01's
 // bounds; texts as they lie in a record; and model types by number.
+#![tactic(auto)]
+
 ghost use Rattle.std.specs.Prelude.{◌≡◌, ◌^◌, ◌<◌};
 ghost use Rattle.records.specs.Flaws.{at_place, bare};
 ghost use Rattle.records.specs.Types.{type_number};
@@ -30,7 +32,7 @@ pub const MOST_ROWS: usize = 8192;
 // ---- faults and answers
 
 // A fault of document 01: its number, and the line and the column told.
-#[derive(Drop)]
+#[derive(Clone, Copy)]
 pub struct Fault {
     pub number: u8,
     pub line: u64,
@@ -38,7 +40,7 @@ pub struct Fault {
 }
 
 // What a line by itself tells of its fault: number and column; 0 and 0 where it has none.
-#[derive(Drop)]
+#[derive(Clone, Copy)]
 pub struct LineFault {
     pub number: u8,
     pub column: u64,
@@ -65,14 +67,14 @@ pub fn bare_fault(number: u8) -> LineFault
     }
 }
 
-#[derive(Drop)]
+#[derive(Clone, Copy)]
 pub enum Verdict {
     Accepted,
     Refused(Fault),
 }
 
 // How much of each table a file uses.
-#[derive(Drop)]
+#[derive(Clone, Copy)]
 pub struct Counts {
     pub components: usize,
     pub pins: usize,
@@ -84,7 +86,7 @@ pub struct Counts {
 }
 
 // The lengths of tables other than the rows.
-#[derive(Drop)]
+#[derive(Clone, Copy)]
 pub struct Lengths {
     pub components: usize,
     pub pins: usize,
@@ -95,20 +97,20 @@ pub struct Lengths {
 }
 
 // What is lent to be filled: tables of these lengths, and so many rows, whole ones of four words.
-#[derive(Drop)]
+#[derive(Clone, Copy)]
 pub struct Lending {
     pub tables: Lengths,
     pub rows: usize,
 }
 
-#[derive(Drop)]
+#[derive(Clone, Copy)]
 pub struct Header {
     pub name: Words,
     pub revision: Words,
 }
 
 // On refusal all counts are 0 and the texts are empty.
-#[derive(Drop)]
+#[derive(Clone, Copy)]
 pub struct Answer {
     pub verdict: Verdict,
     pub counts: Counts,
@@ -118,21 +120,21 @@ pub struct Answer {
 // ---- texts and numbers in records
 
 // A name of 1 to 40 bytes, then zeros.
-#[derive(Drop)]
+#[derive(Clone, Copy)]
 pub struct Name {
     pub bytes: [u8; 40],
     pub len: u8,
 }
 
 // The file's name, its revision or a description: up to 120 bytes, then zeros.
-#[derive(Drop)]
+#[derive(Clone, Copy)]
 pub struct Words {
     pub bytes: [u8; 120],
     pub len: u8,
 }
 
 // Three cells: typ, min, max.
-#[derive(Drop)]
+#[derive(Clone, Copy)]
 pub struct Triple {
     pub typ: Cell,
     pub min: Cell,
@@ -140,20 +142,20 @@ pub struct Triple {
 }
 
 // A row of a table: a number and three cells.
-#[derive(Drop)]
+#[derive(Clone, Copy)]
 pub struct Row {
     pub number: Decimal,
     pub cells: Triple,
 }
 
 // A cell of a ramp: two numbers with `/` between, each exact, or missing.
-#[derive(Drop)]
+#[derive(Clone, Copy)]
 pub enum RampCell {
     Ratio { dividend: Decimal, divisor: Decimal },
     Absent,
 }
 
-#[derive(Drop)]
+#[derive(Clone, Copy)]
 pub struct RampTriple {
     pub typ: RampCell,
     pub min: RampCell,
@@ -161,7 +163,7 @@ pub struct RampTriple {
 }
 
 // The records of a section that lie in another table: the first one's place, and how many.
-#[derive(Drop)]
+#[derive(Clone, Copy)]
 pub struct Span {
     pub start: usize,
     pub count: usize,
@@ -169,13 +171,13 @@ pub struct Span {
 
 // ---- words that have one of a few meanings
 
-#[derive(Drop)]
+#[derive(Clone, Copy)]
 pub enum Location {
     AtPin,
     AtDie,
 }
 
-#[derive(Drop)]
+#[derive(Clone, Copy)]
 pub enum ModelType {
     Input,
     Output,
@@ -218,21 +220,21 @@ pub fn type_number(t: ModelType) -> u64
 }
 
 // Polarity and Enable may be left out.
-#[derive(Drop)]
+#[derive(Clone, Copy)]
 pub enum Polarity {
     NoPolarity,
     Inverting,
     NonInverting,
 }
 
-#[derive(Drop)]
+#[derive(Clone, Copy)]
 pub enum Enable {
     NoEnable,
     ActiveHigh,
     ActiveLow,
 }
 
-#[derive(Drop)]
+#[derive(Clone, Copy)]
 pub enum Edge {
     Rising,
     Falling,
@@ -241,7 +243,7 @@ pub enum Edge {
 // ---- what is named in a file
 
 // What is named in a file.
-#[derive(Drop)]
+#[derive(Clone, Copy)]
 pub enum Kind {
     OfComponent,
     OfPin,
@@ -253,7 +255,7 @@ pub enum Kind {
 // ---- the records of the lent tables
 
 // section is the place among all sections of the file, from 0.
-#[derive(Drop)]
+#[derive(Clone, Copy)]
 pub struct Component {
     pub section: usize,
     pub name: Name,
@@ -267,7 +269,7 @@ pub struct Component {
 }
 
 // model in capitals where it is a reserved word.
-#[derive(Drop)]
+#[derive(Clone, Copy)]
 pub struct Pin {
     pub name: Name,
     pub signal: Name,
@@ -277,35 +279,35 @@ pub struct Pin {
     pub capacitance: Cell,
 }
 
-#[derive(Drop)]
+#[derive(Clone, Copy)]
 pub struct Selector {
     pub section: usize,
     pub name: Name,
     pub choices: Span,
 }
 
-#[derive(Drop)]
+#[derive(Clone, Copy)]
 pub struct Choice {
     pub model: Name,
     pub description: Words,
 }
 
 // A table's rows in the row store, if the table is given.
-#[derive(Drop)]
+#[derive(Clone, Copy)]
 pub struct Table {
     pub given: bool,
     pub rows: Span,
 }
 
 // Three cells, if they are given.
-#[derive(Drop)]
+#[derive(Clone, Copy)]
 pub struct Range {
     pub given: bool,
     pub cells: Triple,
 }
 
 // The die capacitance by structure: C_comp_pullup, C_comp_pulldown, C_comp_power_clamp, C_comp_gnd_clamp.
-#[derive(Drop)]
+#[derive(Clone, Copy)]
 pub struct Split {
     pub pullup: Range,
     pub pulldown: Range,
@@ -313,7 +315,7 @@ pub struct Split {
     pub ground: Range,
 }
 
-#[derive(Drop)]
+#[derive(Clone, Copy)]
 pub struct RampTable {
     pub given: bool,
     pub rise: RampTriple,
@@ -321,7 +323,7 @@ pub struct RampTable {
     pub load: Cell,
 }
 
-#[derive(Drop)]
+#[derive(Clone, Copy)]
 pub struct Model {
     pub section: usize,
     pub name: Name,
@@ -346,7 +348,7 @@ pub struct Model {
     pub waveforms: Span,
 }
 
-#[derive(Drop)]
+#[derive(Clone, Copy)]
 pub struct Waveform {
     pub edge: Edge,
     pub rfixture: Cell,

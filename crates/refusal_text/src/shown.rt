@@ -7,7 +7,7 @@ ghost use Rattle.refusal_text.specs.Shown.{visible, blank_for, shown_as, visible
 use text_buffer::{put_byte, put_bytes};
 
 // A byte by itself, or the blank that is as wide.
-#[derive(Drop)]
+#[derive(Clone, Copy)]
 pub(crate) enum Showing {
     Plainly,
     AsBlank,

@@ -1,4 +1,6 @@
 // The state of a reading, for document 01's rules in specs/: what was given of a section so far, the list or table that is open, and what a line adds.
+#![tactic(auto)]
+
 ghost use Rattle.std.specs.Prelude.{◌≡◌};
 ghost use Rattle.rules.specs.Going.{stop, stop_at};
 
@@ -10,13 +12,13 @@ use records::{Fault, LineFault, ModelType};
 pub mod types; // types.rt: what a model's type asks of it
 
 // Vinl and Vinh of a model.
-#[derive(Drop)]
+#[derive(Clone, Copy)]
 pub struct Thresholds {
     pub vinl: Cell,
     pub vinh: Cell,
 }
 
-#[derive(Drop)]
+#[derive(Clone, Copy)]
 pub struct HeaderState {
     pub line: u64,
     pub text: bool,
@@ -24,7 +26,7 @@ pub struct HeaderState {
 }
 
 // The list that is open in a component, with the line of its keyword.
-#[derive(Drop)]
+#[derive(Clone, Copy)]
 pub enum ComponentList {
     ComponentFirst,
     ComponentShut,
@@ -32,7 +34,7 @@ pub enum ComponentList {
     PinRows { line: u64, long: bool, any: bool },
 }
 
-#[derive(Drop)]
+#[derive(Clone, Copy)]
 pub struct ComponentState {
     pub line: u64,
     pub first: Given,
@@ -40,14 +42,14 @@ pub struct ComponentState {
     pub list: ComponentList,
 }
 
-#[derive(Drop)]
+#[derive(Clone, Copy)]
 pub struct SelectorState {
     pub line: u64,
     pub any: bool,
 }
 
 // Rows of the open table: how many, the last one's number, and whether the first and the last typ are numbers.
-#[derive(Drop)]
+#[derive(Clone, Copy)]
 pub struct RowsSeen {
     pub count: u64,
     pub last: Decimal,
@@ -56,7 +58,7 @@ pub struct RowsSeen {
 }
 
 // The list or table that is open in a model, with the line of its keyword.
-#[derive(Drop)]
+#[derive(Clone, Copy)]
 pub enum ModelList {
     ModelFirst,
     ModelShut,
@@ -76,7 +78,7 @@ pub enum ModelList {
 }
 
 // The type, Vinl and Vinh are kept for the checks at the close.
-#[derive(Drop)]
+#[derive(Clone, Copy)]
 pub struct ModelState {
     pub line: u64,
     pub first: Given,
@@ -89,7 +91,7 @@ pub struct ModelState {
 }
 
 // Where a reading stands.
-#[derive(Drop)]
+#[derive(Clone, Copy)]
 pub enum Stage {
     BeforeVersion,
     InHeader(HeaderState),
@@ -101,7 +103,7 @@ pub enum Stage {
 
 // What a line adds to the file: nothing that is counted or named; a section; a pin row; a selector row; a waveform; a table row;
 // the end, with what its own line tells.
-#[derive(Drop)]
+#[derive(Clone, Copy)]
 pub enum Event {
     Quiet,
     Opened(Section),
@@ -113,7 +115,7 @@ pub enum Event {
 }
 
 // A line's step: the next stage and what the line adds, or the fault.
-#[derive(Drop)]
+#[derive(Clone, Copy)]
 pub enum Went {
     On(Stage, Event),
     Stop(Fault),

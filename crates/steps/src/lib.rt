@@ -1,4 +1,6 @@
 // The step of a text in any stage: first what it closes, inner table before section, then the line itself.
+#![tactic(auto)]
+
 ghost use Rattle.std.specs.Prelude.{◌≡◌, ◌≤◌, length, drop};
 ghost use Rattle.records.specs.Flaws.{told};
 ghost use Rattle.keywords.specs.Form.{argument};

@@ -1,4 +1,6 @@
 // The keyword that a person may have meant by one that nobody has, as a question in a lent buffer.
+#![tactic(auto)]
+
 ghost use Rattle.text_buffer.specs.Put.{Put};
 ghost use Rattle.near_names.specs.Near.{nearest};
 ghost use Rattle.hierarchy.specs.Hierarchy.{hierarchy};

@@ -1,4 +1,6 @@
 // Whether the word at fault is one too many: exactly if the line is no 10 without it and what follows it, which is asked of the reader itself.
+#![tactic(auto)]
+
 ghost use Rattle.std.specs.Prelude.{◌≡◌, ◌-◌, ◌≤◌, length};
 ghost use Rattle.surplus_word.specs.Surplus.{rest_in, rest_at, blanked, is_ten, is_surplus};
 

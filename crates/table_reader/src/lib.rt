@@ -1,4 +1,6 @@
 // The reader over tables in words: a file is checked first, and the lent tables are filled only when it is accepted; all of them, or those of a listing.
+#![tactic(auto)]
+
 ghost use Rattle.std.specs.Prelude.{◌≡◌, ◌/◌};
 ghost use Rattle.table_words.specs.Packed.{word_tables, list_tables};
 ghost use Rattle.table_reader.specs.ReadInWords.{room_in, ReadInWords};

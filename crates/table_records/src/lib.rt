@@ -1,5 +1,7 @@
 // The record at a place of a lent table of words: what was written comes back. At a place that the table does not have lies the record of no words:
 // its names are empty, its cells missing, its numbers 0.
+#![tactic(auto)]
+
 use records::Row;
 
 pub mod values; // values.rt: values in the words of a record
@@ -7,7 +9,7 @@ pub mod parts; // parts.rt: parts of records in their words
 pub mod tables; // tables.rt: the record at a place of each table
 
 // A row of the row store, or none.
-#[derive(Drop)]
+#[derive(Clone, Copy)]
 pub enum StoredRow {
     Kept(Row),
     NoRow,

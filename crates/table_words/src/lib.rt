@@ -1,4 +1,6 @@
 // The answer and the tables as words, for C: a record is as many words as its fields need, and a table has its records one after the other.
+#![tactic(auto)]
+
 ghost use Rattle.std.specs.Prelude.{◌≡◌};
 ghost use Rattle.table_words.specs.Packed.{fault_number, fault_line, fault_column, count_words, answer_words, word_tables, Room, filled};
 

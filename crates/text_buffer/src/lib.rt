@@ -1,5 +1,7 @@
 // What the programs print, as bytes in a lent buffer: bytes, numbers, names and cells. Each function answers the place behind what it wrote;
 // what has no room is left out, and the place stays at the buffer's end.
+#![tactic(auto)]
+
 pub mod bytes; // bytes.rt: bytes, names and texts
 pub mod hexadecimal; // hexadecimal.rt: numbers in hexadecimal digits
 pub mod listing; // listing.rt: the listing's lines

@@ -7,7 +7,7 @@ use crate::bytes::{put_byte, put_bytes, put_repeated};
 use decimal::{Cell, Decimal};
 
 // A number's digits: those of bytes from first on.
-#[derive(Drop)]
+#[derive(Clone, Copy)]
 pub(crate) struct Digits {
     pub(crate) bytes: [u8; 20],
     pub(crate) first: usize,

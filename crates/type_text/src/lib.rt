@@ -1,4 +1,6 @@
 // A model type as document 01 spells it, into a lent buffer.
+#![tactic(auto)]
+
 ghost use Rattle.text_buffer.specs.Put.{Put};
 ghost use Rattle.line_rules.specs.Tables.{type_name};
 

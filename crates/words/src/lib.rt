@@ -1,4 +1,6 @@
 // Blanks, words and names within a slice of bytes: scans that answer places, and comparisons.
+#![tactic(auto)]
+
 ghost use Rattle.std.specs.Prelude.{◌≡◌, map, ◌+◌, ◌≤◌, length, drop};
 ghost use Rattle.laws.specs.Bytes.{is_blank, capital, spelled_byte};
 ghost use Rattle.laws.specs.Lists.{front, trim, other, eqs};
@@ -7,7 +9,7 @@ ghost use Rattle.words.specs.Words.{is_ink};
 ghost use Rattle.words.specs.Spelled.{byte_as};
 
 // A word, from start up to end. Where no word is left, both are the end of the slice.
-#[derive(Drop)]
+#[derive(Clone, Copy)]
 pub struct Word {
     pub start: usize,
     pub end: usize,
@@ -15,7 +17,7 @@ pub struct Word {
 
 // How a text is spelled when it is compared with a name: as it stands; small letters as capitals; or as a keyword, capitals as small letters and
 // spaces as underscores.
-#[derive(Drop)]
+#[derive(Clone, Copy)]
 pub enum Spelling {
     AsItStands,
     InCapitals,

@@ -1,0 +1,38 @@
+-- By the answer; no double of a cell is a NaN.
+use mathlib.Core.Path.{sym, ap, ◌∙◌}
+use Rattle.doubles.specs.declared.DoubleRead.TheVariants.{Read}
+use Rattle.doubles.proofs.Faithful.{double-number}
+use Rattle.text_buffer.proofs.Laws.{put-kept}
+use Rattle.double_text.proofs.cells.put_double.Goals as goal
+
+pub float_to_bits-x : goal.float_to_bits-x
+float_to_bits-x c =
+    let a = c.before.before in
+    let b = a.before.before.before in
+    double-number _ _ (sym b.before.before.double-of.ensures ∙ b.read.given.1 ∙ ap Read a.read2.given.1)
+
+pub returns-in-Double : goal.returns-in-Double
+returns-in-Double c =
+    let a = c.before.before.before.before.before in
+    let b = a.before.before.before in
+    rw (sym b.before.before.double-of.ensures ∙ b.read.given.1 ∙ ap Read a.read2.given.1) c.put_hexadecimal.ensures
+
+pub returns-in-Missing : goal.returns-in-Missing
+returns-in-Missing c =
+    let a = c.before.before.before.before.before in
+    let b = a.before.before.before in
+    rw (sym b.before.before.double-of.ensures ∙ b.read.given.1 ∙ ap Read a.enum_told.given.1) c.put_bytes.ensures
+
+pub returns-in-Bad : goal.returns-in-Bad
+returns-in-Bad c =
+    let a = c.before.before.before.before.before in
+    rw (sym a.before.before.double-of.ensures ∙ a.fault.given.1) c.put_number.ensures
+
+pub shape_of-out-in-Double : goal.shape_of-out-in-Double
+shape_of-out-in-Double c = put-kept (returns c)
+
+pub shape_of-out-in-Missing : goal.shape_of-out-in-Missing
+shape_of-out-in-Missing c = put-kept (returns-2 c)
+
+pub shape_of-out-in-Bad : goal.shape_of-out-in-Bad
+shape_of-out-in-Bad c = put-kept (returns-3 c)

@@ -1,0 +1,23 @@
+-- By the case, one text behind another.
+use Rattle.dump_model_text.specs.Models.{ramp_dump}
+use Rattle.text_buffer.proofs.Laws.{put_then, put-kept}
+use Rattle.dump_model_text.proofs.ramp_lines.Goals as goal
+
+pub returns-then-ramp : goal.returns-then-ramp
+unfolding ramp_dump
+returns-then-ramp c =
+    let a = c.before.before in
+    let b = a.before.before.before.before.before in
+    let d = b.before.before.before.before.before in
+    let e = d.before.before.before.before.before in
+    rw c.if-ramp.true (put_then (put_then (put_then e.put-bytes.ensures d.slopes-line.ensures) b.slopes-line2.ensures) a.cell-line.ensures)
+
+pub returns : goal.returns
+unfolding ramp_dump
+returns c = rw c.if-ramp.false c.put_bytes.ensures
+
+pub shape_of-out-then-ramp : goal.shape_of-out-then-ramp
+shape_of-out-then-ramp c = put-kept (returns c)
+
+pub shape_of-out : goal.shape_of-out
+shape_of-out c = put-kept (returns-2 c)

@@ -1,0 +1,11 @@
+-- What stands behind the text depends on where it ends.
+use Rattle.explain_text.specs.Summaries.{gap_text, column}
+use Rattle.text_buffer.proofs.Laws.{put-filled, put-kept}
+use Rattle.explain_text.proofs.summaries.put_level_column.Goals as goal
+
+pub returns : goal.returns
+unfolding column
+returns c = put-filled (gap_text 8) c.put_level-end.ensures c.put_gap.ensures
+
+pub shape_of-out : goal.shape_of-out
+shape_of-out c = put-kept (returns c)

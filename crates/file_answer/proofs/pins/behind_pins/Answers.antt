@@ -1,0 +1,27 @@
+-- By the list that is open: behind the first pin row the stage stays.
+use Rattle.file_answer.proofs.PinLaws.{pins-stay, pins-on}
+use Rattle.file_answer.proofs.pins.behind_pins.Goals as goal
+
+pub returns-in_default : goal.returns-in_default
+returns-in_default c =
+    let f = c.before.before.before in
+    pins-stay f.args.l f.args.src.now f.args.notes.now f.args.x f.requires
+
+pub returns-in_default-list : goal.returns-in_default-list
+returns-in_default-list c =
+    let f = c.before.before.before.before.before.before in
+    pins-stay f.args.l f.args.src.now f.args.notes.now f.args.x f.requires
+
+pub pass_pins-p-requires : goal.pass_pins-p-requires
+pass_pins-p-requires c = c.requires
+
+pub returns-then-any : goal.returns-then-any
+returns-then-any c =
+    let a = c.args in
+    let passed = c.pass_pins-p in
+    pins-on a.l a.src.now a.notes.now a.x _ _ _ _ passed.new.0 passed.result c.in-InComponent.is c.in-PinRows.is c.if-any.true passed.ensures
+
+pub returns : goal.returns
+returns c =
+    let f = c.before.before.before.before.before.before.before.before.before in
+    pins-stay f.args.l f.args.src.now f.args.notes.now f.args.x f.requires

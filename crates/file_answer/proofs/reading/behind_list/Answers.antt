@@ -1,0 +1,16 @@
+-- Rows leave the store as it is.
+use Rattle.file_answer.proofs.reading.behind_list.Goals as goal
+
+pub behind_rows-requires : goal.behind_rows-requires
+behind_rows-requires c =
+    let p = c.requires in
+    record { placed = p.placed; within = p.within; rows = p.rows }
+
+pub returns-in-InModel : goal.returns-in-InModel
+returns-in-InModel c =
+    let f = c.before.before.before.before.before in
+    let p = c.behind_rows.ensures in
+    record { says = p.says f.args.l f.args.notes.now; sound = record { placed = p.steady.placed; reached = p.reached f.requires.reached; small = f.requires.small; store = f.requires.store; within = p.steady.within; filed = p.filed f.args.notes.now f.requires.filed; rows = p.steady.rows }; from = p.from }
+
+pub returns : goal.returns
+returns c = c.behind_pins.ensures

@@ -1,0 +1,134 @@
+-- The lines from here on, with what is noted so far, give what all lines give.
+use mathlib.Core.Path.{refl, sym, ap, ◌∙◌, subst}
+use native.Mathlib.Omega.{arith}
+use Rattle.cut_lines.specs.Cursors.{NextIs}
+use Rattle.noted_events.proofs.EventLaws.{names-small}
+use Rattle.file_answer.specs.Scans.{standing, run_from}
+use Rattle.file_answer.specs.declared.Standing.{Standing}
+use Rattle.file_answer.proofs.ScanLaws.{noted-going, noted-full, noted-sound, noted-names, text-stop, line_on, line-stop, line-sound, run_out, ready, first-sound, first_run}
+use Rattle.file_answer.proofs.reading.scan.Goals as goal
+
+pub loop-line-init : goal.loop-line-init
+loop-line-init c = (rw c.first-cursor.ensures rw c.nothing-tally.ensures (first-sound c.args.src.now c.args.notes.now c.requires.0.0 c.requires.0.1 c.requires.1), refl, refl)
+
+pub next_text-requires : goal.next_text-requires
+next_text-requires c = c.loop-line.invariant.0.placed
+
+pub slice_bounds-on_plain-count : goal.slice_bounds-on_plain-count
+slice_bounds-on_plain-count c =
+    let h = subst (NextIs c.args.src.now c.loop-line.cursor) c.in-Text.is c.next_text.ensures in
+    omega (arith, h.starts)
+
+pub slice_bounds-on_plain-start : goal.slice_bounds-on_plain-start
+slice_bounds-on_plain-start c =
+    let h = subst (NextIs c.args.src.now c.loop-line.cursor) c.in-Text.is c.next_text.ensures in
+    omega (arith, h.starts)
+
+pub slice_bounds-on_plain-end : goal.slice_bounds-on_plain-end
+slice_bounds-on_plain-end c =
+    let h = subst (NextIs c.args.src.now c.loop-line.cursor) c.in-Text.is c.next_text.ensures in
+    h.fits
+
+pub note_line-noted-requires : goal.note_line-noted-requires
+note_line-noted-requires c =
+    let a = c.args in
+    let i = c.loop-line in
+    let h = subst (NextIs a.src.now i.cursor) c.in-Text.is c.next_text.ensures in
+    rw c.spot_at-p.ensures (ready a.l a.src.now i.notes (standing i.stage i.cursor i.tally) _ i.invariant.0 h)
+
+pub shape_of-notes-then-fault-ne0 : goal.shape_of-notes-then-fault-ne0
+shape_of-notes-then-fault-ne0 c = c.notes-1.given ∙ c.loop-line.invariant.1
+
+pub returns-then-fault-ne0 : goal.returns-then-fault-ne0
+returns-then-fault-ne0 c =
+    let a = c.args in
+    let s = a.src.now in
+    let i = c.loop-line in
+    let n = c.note_line-noted in
+    let h = subst (NextIs s i.cursor) c.in-Text.is c.next_text.ensures in
+    (first_run a.l s a.notes.now _ _ c.first-cursor.ensures c.nothing-tally.ensures ∙ i.invariant.2 ∙ (rw c.broken_at.ensures (noted-full a.l s i.notes n.new.0 i.stage i.cursor i.tally _ c.spot_at-p.result c.spot_at-p.ensures h n.result _ n.ensures.0 _ (sym c.on_plain.ensures ∙ c.in-On.is) c.if-fault-ne0.true)), (rw c.broken_at.ensures (noted-names n.new.0 i.tally n.result n.ensures.1 c.if-fault-ne0.true), rw c.broken_at.ensures tt))
+
+pub behind_list-y-requires : goal.behind_list-y-requires
+behind_list-y-requires c =
+    let a = c.args in
+    let s = a.src.now in
+    let i = c.loop-line in
+    let n = c.note_line-noted in
+    let h = subst (NextIs s i.cursor) c.in-Text.is c.next_text.ensures in
+    rw c.stands-x.ensures (noted-sound a.l s i.notes n.new.0 i.stage i.cursor i.tally _ h n.result i.invariant.0 c.notes-1.given n.ensures.1 c.if-fault-ne0.false)
+
+pub loop-line-smaller-then-comes_in_numbers : goal.loop-line-smaller-then-comes_in_numbers
+loop-line-smaller-then-comes_in_numbers c =
+    let h = subst (NextIs c.args.src.now c.loop-line.cursor) c.in-Text.is c.next_text.ensures in
+    let q = c.behind_list-y.ensures in
+    omega (arith, h.goes.rises, q.from, ap (λ (x : Standing). x.cursor.at) c.stands-x.ensures, q.sound.placed.within)
+
+pub loop-line-preserved-then-comes_in_numbers : goal.loop-line-preserved-then-comes_in_numbers
+loop-line-preserved-then-comes_in_numbers c =
+    let a = c.args in
+    let s = a.src.now in
+    let i = c.loop-line in
+    let n = c.note_line-noted in
+    let h = subst (NextIs s i.cursor) c.in-Text.is c.next_text.ensures in
+    let q = c.behind_list-y.ensures in
+    (q.sound, c.notes-then-comes_in_numbers-1.given ∙ c.notes-1.given ∙ i.invariant.1, i.invariant.2 ∙ noted-going a.l s i.notes n.new.0 i.stage i.cursor i.tally _ c.spot_at-p.result c.spot_at-p.ensures h n.result _ n.ensures.0 _ (sym c.on_plain.ensures ∙ c.in-On.is) c.if-fault-ne0.false ∙ ap (run_from a.l s n.new.0) (sym c.stands-x.ensures) ∙ q.says)
+
+pub loop-line-smaller-else-comes_in_numbers : goal.loop-line-smaller-else-comes_in_numbers
+loop-line-smaller-else-comes_in_numbers c =
+    let h = subst (NextIs c.args.src.now c.loop-line.cursor) c.in-Text.is c.next_text.ensures in
+    omega (arith, h.goes.rises, h.goes.placed.within)
+
+pub loop-line-preserved-else-comes_in_numbers : goal.loop-line-preserved-else-comes_in_numbers
+loop-line-preserved-else-comes_in_numbers c =
+    let a = c.args in
+    let s = a.src.now in
+    let i = c.loop-line in
+    let n = c.note_line-noted in
+    let h = subst (NextIs s i.cursor) c.in-Text.is c.next_text.ensures in
+    (noted-sound a.l s i.notes n.new.0 i.stage i.cursor i.tally _ h n.result i.invariant.0 c.notes-1.given n.ensures.1 c.if-fault-ne0.false, c.notes-1.given ∙ i.invariant.1, i.invariant.2 ∙ noted-going a.l s i.notes n.new.0 i.stage i.cursor i.tally _ c.spot_at-p.result c.spot_at-p.ensures h n.result _ n.ensures.0 _ (sym c.on_plain.ensures ∙ c.in-On.is) c.if-fault-ne0.false)
+
+pub shape_of-notes-in-Stop : goal.shape_of-notes-in-Stop
+shape_of-notes-in-Stop c = c.loop-line.invariant.1
+
+pub returns-in-Stop : goal.returns-in-Stop
+returns-in-Stop c =
+    let a = c.args in
+    let s = a.src.now in
+    let i = c.loop-line in
+    let h = subst (NextIs s i.cursor) c.in-Text.is c.next_text.ensures in
+    (first_run a.l s a.notes.now _ _ c.first-cursor.ensures c.nothing-tally.ensures ∙ i.invariant.2 ∙ (rw c.broken.ensures (text-stop a.l s i.notes i.notes i.stage i.cursor i.tally _ h _ (sym c.on_plain.ensures ∙ c.in-Stop.is))), (rw c.broken.ensures (omega (arith, names-small i.tally i.invariant.0.within)), rw c.broken.ensures tt))
+
+pub loop-line-smaller : goal.loop-line-smaller
+loop-line-smaller c =
+    let h = subst (NextIs c.args.src.now c.loop-line.cursor) c.in-Change.is c.next_text.ensures in
+    omega (arith, h.goes.rises, h.goes.placed.within)
+
+pub loop-line-preserved : goal.loop-line-preserved
+loop-line-preserved c =
+    let a = c.args in
+    let s = a.src.now in
+    let i = c.loop-line in
+    let h = subst (NextIs s i.cursor) c.in-Change.is c.next_text.ensures in
+    (line-sound a.l s i.notes i.stage i.cursor i.tally _ _ _ h i.invariant.0, i.invariant.1, i.invariant.2 ∙ line_on a.l s i.notes i.stage i.cursor i.tally _ _ _ h _ _ (sym c.on_change.ensures ∙ c.in-On-on_change.is))
+
+pub shape_of-notes-in-Stop-on_change : goal.shape_of-notes-in-Stop-on_change
+shape_of-notes-in-Stop-on_change c = c.loop-line.invariant.1
+
+pub returns-in-Stop-on_change : goal.returns-in-Stop-on_change
+returns-in-Stop-on_change c =
+    let a = c.args in
+    let s = a.src.now in
+    let i = c.loop-line in
+    let h = subst (NextIs s i.cursor) c.in-Change.is c.next_text.ensures in
+    (first_run a.l s a.notes.now _ _ c.first-cursor.ensures c.nothing-tally.ensures ∙ i.invariant.2 ∙ (rw c.broken-in-Stop-on_change.ensures (line-stop a.l s i.notes i.stage i.cursor i.tally _ _ _ h _ (sym c.on_change.ensures ∙ c.in-Stop-on_change.is))), (rw c.broken-in-Stop-on_change.ensures (omega (arith, names-small i.tally i.invariant.0.within)), rw c.broken-in-Stop-on_change.ensures tt))
+
+pub shape_of-notes-in-Out : goal.shape_of-notes-in-Out
+shape_of-notes-in-Out c = c.loop-line.invariant.1
+
+pub returns-in-Out : goal.returns-in-Out
+returns-in-Out c =
+    let a = c.args in
+    let s = a.src.now in
+    let i = c.loop-line in
+    let h = subst (NextIs s i.cursor) c.in-Out.is c.next_text.ensures in
+    (first_run a.l s a.notes.now _ _ c.first-cursor.ensures c.nothing-tally.ensures ∙ i.invariant.2 ∙ run_out a.l s i.notes (standing i.stage i.cursor i.tally) _ h ∙ c.out_of_lines.ensures.0 s i.notes, (rw c.out_of_lines.ensures.1.0 (omega (arith, names-small i.tally i.invariant.0.within)), c.out_of_lines.ensures.1.1 i.notes (i.invariant.0.within, i.invariant.0.filed)))

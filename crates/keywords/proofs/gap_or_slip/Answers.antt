@@ -1,0 +1,14 @@
+-- A place in the table is found exactly if the name is one of its names.
+use mathlib.Core.Path.{sym, ap, ◌∙◌}
+use Rattle.laws.proofs.Tests.{cond_yes, cond_no}
+use Rattle.hierarchy.specs.Hierarchy.{is_found}
+use Rattle.keywords.specs.Form.{spelled}
+use Rattle.keywords.proofs.gap_or_slip.Goals as goal
+
+pub returns-in-At : goal.returns-in-At
+unfolding spelled
+returns-in-At c = sym (cond_yes _ _ (sym c.place.ensures.1 ∙ ap is_found c.in-At.is))
+
+pub returns-in-Nothing : goal.returns-in-Nothing
+unfolding spelled
+returns-in-Nothing c = sym (cond_no _ _ (sym c.place.ensures.1 ∙ ap is_found c.in-Nothing.is))

@@ -1,0 +1,24 @@
+-- `=` right behind the name is told; else what stands behind the name.
+use mathlib.Core.Path.{sym, ap, ◌∙◌}
+use Rattle.records.specs.Flaws.{told_in}
+use Rattle.line_rules.specs.Fields.{three_cells, cells_line}
+use Rattle.line_rules.specs.Answers.{triple_read}
+use Rattle.line_rules.specs.declared.TripleRead.TheVariants.{Flawed}
+use Rattle.line_rules.proofs.Told.{behind-equals, behind-words}
+use Rattle.line_faults.proofs.cells_line.Goals as goal
+
+pub returns-then-equals_at : goal.returns-then-equals_at
+unfolding cells_line
+returns-then-equals_at c =
+    let w = c.args.w.now in
+    let n = c.name_of-name.ensures in
+    ap Flawed c.at_fault.ensures
+    ∙ sym (ap triple_read (behind-equals three_cells w _ n.behind n.ends (sym c.equals_at.ensures ∙ c.if-equals_at.true)))
+
+pub returns : goal.returns
+unfolding cells_line
+returns c =
+    let w = c.args.w.now in
+    let n = c.name_of-name in
+    c.three_cells.ensures
+    ∙ sym (ap (λ x. triple_read (told_in w x)) (behind-words three_cells w n.result.end n.ensures.behind (sym c.equals_at.ensures ∙ c.if-equals_at.false)))

@@ -1,0 +1,16 @@
+-- By the word's place in its list, `line-flaw`.
+use mathlib.Core.Path.{refl, ap, ◌∙◌}
+use Rattle.laws.specs.Bytes.{is_blank}
+use Rattle.words.specs.Words.{words, grown, onto_word}
+use Rattle.records.specs.Flaws.{told}
+use Rattle.name_table.specs.Places.{names_of}
+use Rattle.name_table.specs.declared.NameList.TheVariants.{ModelTypes}
+use Rattle.line_rules.specs.Tables.{model_types}
+use Rattle.named_lines.proofs.TableLaws.{line-flaw}
+use Rattle.line_faults.proofs.type_fault.Goals as goal
+
+pub returns : goal.returns
+unfolding words grown onto_word is_blank names_of model_types
+returns c =
+    let w = c.args.w.now in
+    c.word_line_fault.ensures ∙ ap (told w) (line-flaw model_types ModelTypes refl w)

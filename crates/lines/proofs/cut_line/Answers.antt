@@ -1,0 +1,36 @@
+-- The text stops at its line's end or before it, at the comment; what `trimmed` leaves of it is what the definition leaves, by `cut-length`.
+use Prim.Native.Nat.{◌-◌, min}
+use mathlib.Core.Path.{◌≡◌, ◌∙◌}
+use native.Mathlib.Omega.{arith}
+use lib.ListN.{length, drop}
+use Rattle.laws.specs.Lists.{front, other}
+use Rattle.lines.proofs.Places.{cut-length}
+use Rattle.lines.proofs.Handed.{raw-handed, cut-read}
+use Rattle.lines.proofs.cut_line.Goals as goal
+
+pub line_to-whole-requires : goal.line_to-whole-requires
+line_to-whole-requires c = (c.requires, c.find.ensures.0 ∙ c.text_stop-stop.ensures.1.1)
+
+pub slice_bounds-trimmed-count : goal.slice_bounds-trimmed-count
+slice_bounds-trimmed-count c =
+    let b = c.before.before.before.before.before in
+    omega (arith, c.least-end.ensures, c.text_stop-stop.ensures.1.0, (raw-handed b.args.s.now b.args.at c.line_to-whole.result b.requires c.line_to-whole.ensures.0).starts)
+
+pub slice_bounds-trimmed-start : goal.slice_bounds-trimmed-start
+slice_bounds-trimmed-start c = sub-trimmed c
+
+pub slice_bounds-trimmed-end : goal.slice_bounds-trimmed-end
+slice_bounds-trimmed-end c = omega (arith, c.least-end.ensures, c.text_stop-stop.ensures.1.0)
+
+pub returns : goal.returns
+returns c =
+    let b = c.before.before.before.before.before.before.before in
+    let l = drop b.args.at b.args.s.now in
+    let whole = c.line_to-whole in
+    let stop = c.text_stop-stop in
+    let lf = c.find in
+    let end = c.least-end in
+    let m : end.result - b.args.at ≡ min (whole.result.end - b.args.at) (length (front (other b.args.comment) l)) =
+    omega (arith, end.ensures, stop.ensures.0, stop.ensures.1.1, lf.ensures.0, whole.ensures.1) in
+    cut-read b.args.s.now b.args.at b.args.comment whole.result c.trimmed-left.result whole.ensures.0
+    (c.trimmed-left.ensures.0 ∙ cut-length b.args.comment l (whole.result.end - b.args.at) (end.result - b.args.at) m)

@@ -1,0 +1,19 @@
+-- One scan, a byte a turn, from where `skip_eights` stands: a printed byte is allowed.
+use Rattle.words.proofs.Scans.{scan-more}
+use Rattle.lines.specs.Lines.{is_allowed}
+use Rattle.lines.proofs.Laws.{printed-allowed}
+use Rattle.lines.proofs.skip_printed.Goals as goal
+
+pub loop-i-init : goal.loop-i-init
+loop-i-init c = c.skip_eights-i.ensures
+
+pub returns-then-not-printed : goal.returns-then-not-printed
+returns-then-not-printed c = c.loop-i.invariant
+
+pub loop-i-preserved : goal.loop-i-preserved
+loop-i-preserved c =
+    let said = c.printed in
+    scan-more is_allowed _ _ _ c.loop-i.invariant c.loop-i-test.true (printed-allowed _ _ said.ensures (c.if-not-printed.false))
+
+pub returns : goal.returns
+returns c = c.loop-i.invariant

@@ -1,0 +1,15 @@
+-- Each arm by computing the list and the bytes of its numbers; past the last stands an empty name.
+use Rattle.laws.specs.Bytes.{is_blank}
+use Rattle.laws.specs.Eights.{bytes_from}
+use Rattle.laws.proofs.Numbers.{apart-le}
+use Rattle.words.specs.Words.{words, grown, onto_word}
+use Rattle.name_table.specs.Listed.{listed_name}
+use Rattle.name_table.specs.declared.NameList.TheVariants.{Locations}
+use Rattle.name_table.proofs.Laws.{name-past}
+use Rattle.name_table.proofs.lists.location.Goals as goal
+
+pub returns-in_default : goal.returns-in_default
+unfolding words grown onto_word is_blank bytes_from listed_name
+returns-in_default c =
+    let k = c.args.k in
+    name-past Locations k (apart-le 2 k c.in_default.in_default-own.rest)

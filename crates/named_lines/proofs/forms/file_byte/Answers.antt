@@ -1,0 +1,25 @@
+-- By the bounds of digits and small letters; else the search stops before the end exactly if the byte is one of the marks.
+use Prim.Native.Nat.{ℕ}
+use mathlib.Core.Path.{sym, ap, ◌∙◌}
+use mathlib.Core.Logic.{⊎_elim}
+use native.Mathlib.Omega.{arith}
+use native.Mathlib.Nat.{zero-add}
+use lib.ListN.{length}
+use lib.Dec.{ltb}
+use Rattle.laws.specs.Lists.{front, other}
+use Rattle.laws.proofs.Fronts.{among-found}
+use Rattle.named_lines.proofs.FormLaws.{file_marks, file-small, file-digit, file-low, file-between, file-high}
+use Rattle.named_lines.proofs.forms.file_byte.Goals as goal
+
+pub returns-in-97-to-122 : goal.returns-in-97-to-122
+returns-in-97-to-122 c = sym (file-digit c.args.b c.in-97-to-122.if-b-lt48-own.false (omega arith))
+
+pub returns-in-97-to-122-2 : goal.returns-in-97-to-122-2
+returns-in-97-to-122-2 c = sym (file-small c.args.b c.in-97-to-122.if-b-lt97-own.false (omega arith))
+
+pub returns-in_default : goal.returns-in_default
+returns-in_default c =
+    let b = c.args.b in
+    ap (λ (n : ℕ). ltb n 16) (c.find.ensures.0 ∙ zero-add (length (front (other b) file_marks)))
+    ∙ sym (among-found b file_marks)
+    ∙ sym (⊎_elim (λ w. file-low b w.taken) (⊎_elim (λ w. file-between b w.1.left w.2.taken) (λ w. file-high b w.3.left)) c.in_default.branch)

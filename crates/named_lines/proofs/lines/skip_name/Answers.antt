@@ -1,0 +1,18 @@
+-- The front from i on is the front from the start: `front-more` at a turn, `front-stop` and `front-end` at the ways out.
+use mathlib.Core.Path.{refl, sym, ◌∙◌}
+use native.Mathlib.Omega.{arith}
+use Rattle.named_lines.specs.Places.{is_name_byte}
+use Rattle.laws.proofs.Fronts.{front-more, front-stop, front-end}
+use Rattle.named_lines.proofs.lines.skip_name.Goals as goal
+
+pub loop-i-init : goal.loop-i-init
+loop-i-init c = (omega arith, refl)
+
+pub returns-then-not-name_byte : goal.returns-then-not-name_byte
+returns-then-not-name_byte c = (sym (front-stop is_name_byte _ _ 0 c.loop-i-test.true (sym c.name_byte.ensures ∙ c.if-not-name_byte.true)) ∙ c.loop-i.invariant.1, omega arith)
+
+pub loop-i-preserved : goal.loop-i-preserved
+loop-i-preserved c = (omega arith, front-more is_name_byte _ _ 0 c.loop-i-test.true (sym c.name_byte.ensures ∙ c.if-not-name_byte.false) ∙ c.loop-i.invariant.1)
+
+pub returns : goal.returns
+returns c = (sym (front-end is_name_byte _ _ c.loop-i-test.false) ∙ c.loop-i.invariant.1, omega arith)

@@ -1,0 +1,15 @@
+-- Past its end a table has no record.
+use mathlib.Core.Path.{ap, ◌∙◌}
+use lib.ListN.{length}
+use native.Mathlib.Nat.{div-le_self}
+use Rattle.table_records.specs.Records.{component_from}
+use Rattle.table_records.proofs.Places.{record-none}
+use Rattle.questions.proofs.values.package_of.Goals as goal
+
+pub returns-in-At : goal.returns-in-At
+returns-in-At c = rw c.in-At.is c.component_in.ensures
+
+pub returns-in-Nothing : goal.returns-in-Nothing
+returns-in-Nothing c =
+    let t = c.args.components.now in
+    rw c.in-Nothing.is (c.component_in-in-Nothing.ensures ∙ ap component_from (record-none 26 t (length t) (div-le_self (length t) 26)))

@@ -1,0 +1,11 @@
+-- One text behind another.
+use Rattle.refusal_text.specs.Hints.{range_hint}
+use Rattle.text_buffer.proofs.Laws.{put_then, put-kept}
+use Rattle.refusal_text.proofs.hints.put_range_hint.Goals as goal
+
+pub returns : goal.returns
+unfolding range_hint
+returns c = (put_then (put_then (put_then c.put_bytes-look.ensures c.put_quoted-named.ensures) c.put_bytes-said.ensures) c.put_hint.ensures)
+
+pub shape_of-out : goal.shape_of-out
+shape_of-out c = put-kept (returns c)

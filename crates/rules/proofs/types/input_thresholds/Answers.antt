@@ -1,0 +1,5 @@
+-- Number by number.
+use Rattle.rules.proofs.types.input_thresholds.Goals as goal
+
+pub returns : goal.returns
+returns c = rw (c.volts.ensures, c.volts-2.ensures)

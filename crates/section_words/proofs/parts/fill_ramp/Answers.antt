@@ -1,0 +1,5 @@
+-- The ramp that its lines say.
+use Rattle.section_words.proofs.parts.fill_ramp.Goals as goal
+
+pub returns : goal.returns
+returns c = (rw (c.put.ensures, c.ramp_words-words.ensures, c.ramp_lines-read.ensures.ramp), c.ramp_lines-read.ensures.stops)

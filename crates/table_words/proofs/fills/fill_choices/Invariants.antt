@@ -1,0 +1,13 @@
+-- A record a turn: `words-turn`.
+use Prim.Native.Nat.{ℕ, ◌-◌, ◌≤◌}
+use mathlib.Core.Path.{◌≡◌}
+use Rattle.records.specs.Stored.{over}
+use Rattle.from_notes.specs.Made.{joined_to, choice_at}
+use Rattle.record_words.specs.Records.{choice_words}
+use Rattle.table_words.proofs.fills.fill_choices.Given as goal
+
+abbrev pub invariant-loop-i : goal.invariant-loop-i
+invariant-loop-i l = (l.i ≤ l.n) × (l.out ≡ over l.initial.out (joined_to (λ (k : ℕ). choice_words (choice_at l.src l.notes k)) l.i))
+
+abbrev pub decreases-loop-i : goal.decreases-loop-i
+decreases-loop-i l = l.n - l.i

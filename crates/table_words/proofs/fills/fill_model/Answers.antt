@@ -1,0 +1,42 @@
+-- What stands behind the noted keyword line is what is noted: `model-behind`, `waveforms-noted`, `rows-noted`; a row's place is a word.
+use Prim.Native.Nat.{ℕ}
+use mathlib.Core.Path.{◌≡◌, ap, ◌∙◌}
+use native.Mathlib.Omega.{arith}
+use lib.ListN.{length}
+use Rattle.cut_lines.specs.Cursors.{rest}
+use Rattle.records.specs.Stored.{over}
+use Rattle.records.specs.declared.Model.{Model}
+use Rattle.record_words.specs.Records.{model_words}
+use Rattle.section_words.specs.Models.{waveforms_behind}
+use Rattle.table_words.specs.Packed.{waveform_words_at}
+use Rattle.table_words.proofs.Models.{model-behind, waveforms-noted, rows-noted}
+use Rattle.table_words.proofs.fills.fill_model.Goals as goal
+
+pub fill_model-requires : goal.fill_model-requires
+fill_model-requires c =
+    let f = c.before.before.before.before.before.before.before.before.before.before.before.before.before in
+    let s = f.args.src.now in
+    let ns = f.args.notes.now in
+    let h = c.section_noted-c.ensures in
+    let row = c.section_word-row in
+    let w : waveforms_behind row.result (rest s c.section_noted-c.result) ≡ waveform_words_at s ns f.args.i =
+    ap (λ (r : ℕ). waveforms_behind r (rest s c.section_noted-c.result)) row.ensures.0 ∙ waveforms-noted s ns f.args.i h
+    in
+    ((h.placed, omega (arith, row.ensures.1)), (f.requires.0, (rw w f.requires.1.0, rw (rows-noted s ns f.args.i h) f.requires.1.1)))
+
+pub returns : goal.returns
+returns c =
+    let a = c.args in
+    let s = a.src.now in
+    let ns = a.notes.now in
+    let texts = rest s c.section_noted-c.result in
+    let h = c.section_noted-c.ensures in
+    let f = c.fill_model.ensures in
+    let start = c.section_word-start in
+    let row = c.section_word-row in
+    let section = c.place_noted-section in
+    let name = c.name_noted in
+    let is = model-behind s ns a.i h section.ensures row.ensures.0 start.ensures.0 name.ensures in
+    let w : waveforms_behind row.result texts ≡ waveform_words_at s ns a.i = ap (λ (r : ℕ). waveforms_behind r texts) row.ensures.0 ∙ waveforms-noted s ns a.i h in
+    let v = rows-noted s ns a.i h in
+    (f.0 ∙ ap (λ (m : Model). over a.model.now (model_words m)) is, (f.1.0 ∙ ap (over a.waveforms.now) w, (f.1.1.0 ∙ ap (over a.rows.now) v, f.1.1.1 ∙ (λ k. record { waveforms = length (w k); rows = length (v k) }))))

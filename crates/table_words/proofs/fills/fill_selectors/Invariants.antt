@@ -1,0 +1,13 @@
+-- A record a turn: `words-turn`.
+use Prim.Native.Nat.{ℕ, ◌-◌, ◌≤◌}
+use mathlib.Core.Path.{◌≡◌}
+use Rattle.records.specs.Stored.{over}
+use Rattle.from_notes.specs.Made.{joined_to, selector_at}
+use Rattle.record_words.specs.Records.{selector_words}
+use Rattle.table_words.proofs.fills.fill_selectors.Given as goal
+
+abbrev pub invariant-loop-i : goal.invariant-loop-i
+invariant-loop-i l = (l.i ≤ l.n) × (l.out ≡ over l.initial.out (joined_to (λ (k : ℕ). selector_words (selector_at l.src l.notes k)) l.i))
+
+abbrev pub decreases-loop-i : goal.decreases-loop-i
+decreases-loop-i l = l.n - l.i

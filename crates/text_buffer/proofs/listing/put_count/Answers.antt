@@ -1,0 +1,14 @@
+-- One text behind another.
+use Rattle.text_buffer.specs.Lines.{count_text}
+use Rattle.text_buffer.proofs.Laws.{put_then, put-kept}
+use Rattle.text_buffer.proofs.listing.put_count.Goals as goal
+
+pub returns : goal.returns
+unfolding count_text
+returns c =
+    let a = c.before.before in
+    let b = a.before.before.before.before in
+    put_then b.put_byte.ensures a.put-number.ensures
+
+pub shape_of-out : goal.shape_of-out
+shape_of-out c = put-kept (returns c)
