@@ -15,7 +15,7 @@ returns-then-w-eq0 c = ap Wrong c.bare_fault.ensures ∙ to-unformed c.args.w.no
 pub returns-then-not-closed_at : goal.returns-then-not-closed_at
 returns-then-not-closed_at c =
     let w = c.args.w.now in
-    ap Wrong c.bare_fault-then-not-closed_at.ensures ∙ to-unformed w _ (change-unclosed w _ c.find-stop.ensures.0 (sym c.closed_at.ensures ∙ c.if-not-closed_at.true))
+    ap Wrong c.bare_fault-then-not-closed_at.ensures ∙ to-unformed w _ (change-unclosed w _ c.find-stop.ensures.value (sym c.closed_at.ensures ∙ c.if-not-closed_at.true))
 
 pub skip_blanks-requires : goal.skip_blanks-requires
 skip_blanks-requires c =
@@ -26,4 +26,4 @@ pub returns : goal.returns
 returns c =
     let w = c.args.w.now in
     let closed = sym c.closed_at.ensures ∙ c.if-not-closed_at.false in
-    c.change_to.ensures ∙ ap (λ (x : Reads ℕ). change_read (told_in w x)) (sym (change-closed w _ c.find-stop.ensures.0 _ closed c.skip_blanks.ensures.0))
+    c.change_to.ensures ∙ ap (λ (x : Reads ℕ). change_read (told_in w x)) (sym (change-closed w _ c.find-stop.ensures.value _ closed c.skip_blanks.ensures.value))

@@ -11,7 +11,7 @@ pub returns-then-w-ne91 : goal.returns-then-w-ne91
 returns-then-w-ne91 c = sym (change-other c.args.w.now (omega arith) c.if-w-ne91.true)
 
 pub returns-then-w-stop : goal.returns-then-w-stop
-returns-then-w-stop c = sym (change-open c.args.w.now _ c.find-stop.ensures.0 c.if-w-stop.true)
+returns-then-w-stop c = sym (change-open c.args.w.now _ c.find-stop.ensures.value c.if-w-stop.true)
 
 pub returns : goal.returns
-returns c = c.same_spelled.ensures ∙ sym (change-named c.args.w.now _ c.find-stop.ensures.0 (omega arith) c.if-w-ne91.false c.if-w-stop.false)
+returns c = c.same_spelled.ensures ∙ sym (change-named c.args.w.now _ c.find-stop.ensures.value (omega arith) c.if-w-ne91.false c.if-w-stop.false)

@@ -12,4 +12,4 @@ use Rattle.cut_lines.proofs.is_mark.Goals as goal
 pub returns : goal.returns
 returns c =
     let b = c.args.b in
-    ap (λ (n : ℕ). ltb n 24) (c.find.ensures.0 ∙ zero-add (length (front (other b) marks))) ∙ sym (among-found b marks)
+    ap (λ (n : ℕ). ltb n 24) (c.find.ensures.value ∙ zero-add (length (front (other b) marks))) ∙ sym (among-found b marks)

@@ -8,4 +8,7 @@ use Rattle.hierarchy.proofs.place.Goals as goal
 
 pub returns : goal.returns
 unfolding words grown onto_word is_blank hierarchy
-returns c = (c.place.ensures, ap is_found c.place.ensures ∙ found-one _ hierarchy 0)
+returns c = record {
+      value = c.place.ensures;
+      result_value = ap is_found c.place.ensures ∙ found-one _ hierarchy 0;
+    }

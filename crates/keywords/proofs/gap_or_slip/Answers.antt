@@ -7,8 +7,8 @@ use Rattle.keywords.proofs.gap_or_slip.Goals as goal
 
 pub returns-in-At : goal.returns-in-At
 unfolding spelled
-returns-in-At c = sym (cond_yes _ _ (sym c.place.ensures.1 ∙ ap is_found c.in-At.is))
+returns-in-At c = sym (cond_yes _ _ (sym c.place.ensures.result_value ∙ ap is_found c.in-At.is))
 
 pub returns-in-Nothing : goal.returns-in-Nothing
 unfolding spelled
-returns-in-Nothing c = sym (cond_no _ _ (sym c.place.ensures.1 ∙ ap is_found c.in-Nothing.is))
+returns-in-Nothing c = sym (cond_no _ _ (sym c.place.ensures.result_value ∙ ap is_found c.in-Nothing.is))

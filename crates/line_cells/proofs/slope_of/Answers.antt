@@ -5,16 +5,16 @@ use Rattle.line_cells.proofs.Laws.{slope-none, slope-two, slope-one}
 use Rattle.line_cells.proofs.slope_of.Goals as goal
 
 pub returns-then-w-slash : goal.returns-then-w-slash
-returns-then-w-slash c = slope-none c.args.w.now _ c.find-slash.ensures.0 c.if-w-slash.true
+returns-then-w-slash c = slope-none c.args.w.now _ c.find-slash.ensures.value c.if-w-slash.true
 
 pub returns-then-find-w : goal.returns-then-find-w
-returns-then-find-w c = slope-two c.args.w.now _ c.find-slash.ensures.0 c.if-w-slash.false _ c.find.ensures.0 c.if-find-w.true
+returns-then-find-w c = slope-two c.args.w.now _ c.find-slash.ensures.value c.if-w-slash.false _ c.find.ensures.value c.if-find-w.true
 
 pub slice_bounds-number_of-end : goal.slice_bounds-number_of-end
-slice_bounds-number_of-end c = sym (length-take-le _ _ c.find-slash.ensures.1.1)
+slice_bounds-number_of-end c = sym (length-take-le _ _ c.find-slash.ensures.lower_bound.1)
 
 pub returns : goal.returns
 returns c =
     c.ratio_of.ensures
-    ∙ slope-one c.args.w.now _ c.find-slash.ensures.0 c.if-w-slash.false _ c.find.ensures.0 c.if-find-w.false
+    ∙ slope-one c.args.w.now _ c.find-slash.ensures.value c.if-w-slash.false _ c.find.ensures.value c.if-find-w.false
     c.number_of.ensures c.number_of-2.ensures

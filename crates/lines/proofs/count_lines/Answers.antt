@@ -26,4 +26,7 @@ pub returns : goal.returns
 unfolding lines_of
 returns c =
     let i = c.loop-at.invariant in
-    (omega (arith, i.2, ap (λ (l : List ℕ). length (lines_of l)) (drop_of_length-le c.args.s.now c.loop-at-test.false)), omega (arith, i.0, i.1))
+    record {
+      value = omega (arith, i.2, ap (λ (l : List ℕ). length (lines_of l)) (drop_of_length-le c.args.s.now c.loop-at-test.false));
+      upper_bound = omega (arith, i.0, i.1);
+    }

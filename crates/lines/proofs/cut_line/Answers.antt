@@ -9,18 +9,21 @@ use Rattle.lines.proofs.Handed.{raw-handed, cut-read}
 use Rattle.lines.proofs.cut_line.Goals as goal
 
 pub line_to-whole-requires : goal.line_to-whole-requires
-line_to-whole-requires c = (c.requires, c.find.ensures.0 ∙ c.text_stop-stop.ensures.1.1)
+line_to-whole-requires c = record {
+      at_in_bounds = c.requires;
+      stop_value = c.find.ensures.value ∙ c.text_stop-stop.ensures.result_value;
+    }
 
 pub slice_bounds-trimmed-count : goal.slice_bounds-trimmed-count
 slice_bounds-trimmed-count c =
     let b = c.before.before.before.before.before in
-    omega (arith, c.least-end.ensures, c.text_stop-stop.ensures.1.0, (raw-handed b.args.s.now b.args.at c.line_to-whole.result b.requires c.line_to-whole.ensures.0).starts)
+    omega (arith, c.least-end.ensures, c.text_stop-stop.ensures.lower_bound, (raw-handed b.args.s.now b.args.at c.line_to-whole.result b.requires c.line_to-whole.ensures.value).starts)
 
 pub slice_bounds-trimmed-start : goal.slice_bounds-trimmed-start
 slice_bounds-trimmed-start c = sub-trimmed c
 
 pub slice_bounds-trimmed-end : goal.slice_bounds-trimmed-end
-slice_bounds-trimmed-end c = omega (arith, c.least-end.ensures, c.text_stop-stop.ensures.1.0)
+slice_bounds-trimmed-end c = omega (arith, c.least-end.ensures, c.text_stop-stop.ensures.lower_bound)
 
 pub returns : goal.returns
 returns c =
@@ -31,6 +34,6 @@ returns c =
     let lf = c.find in
     let end = c.least-end in
     let m : end.result - b.args.at ≡ min (whole.result.end - b.args.at) (length (front (other b.args.comment) l)) =
-    omega (arith, end.ensures, stop.ensures.0, stop.ensures.1.1, lf.ensures.0, whole.ensures.1) in
-    cut-read b.args.s.now b.args.at b.args.comment whole.result c.trimmed-left.result whole.ensures.0
-    (c.trimmed-left.ensures.0 ∙ cut-length b.args.comment l (whole.result.end - b.args.at) (end.result - b.args.at) m)
+    omega (arith, end.ensures, stop.ensures.value, stop.ensures.result_value, lf.ensures.value, whole.ensures.end_le_stop) in
+    cut-read b.args.s.now b.args.at b.args.comment whole.result c.trimmed-left.result whole.ensures.value
+    (c.trimmed-left.ensures.value ∙ cut-length b.args.comment l (whole.result.end - b.args.at) (end.result - b.args.at) m)

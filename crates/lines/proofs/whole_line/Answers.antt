@@ -6,7 +6,10 @@ pub returns-then-s-at : goal.returns-then-s-at
 returns-then-s-at c = hands_none c.args.s.now _ c.if-s-at.true
 
 pub line_to-requires : goal.line_to-requires
-line_to-requires c = (c.if-s-at.false, c.find.ensures.0)
+line_to-requires c = record {
+      at_in_bounds = c.if-s-at.false;
+      stop_value = c.find.ensures.value;
+    }
 
 pub returns : goal.returns
-returns c = c.line_to.ensures.0
+returns c = c.line_to.ensures.value

@@ -10,4 +10,4 @@ returns-then-not-bracketed c = sym (cond_no _ _ (sym c.bracketed.ensures ∙ c.i
 
 pub returns : goal.returns
 unfolding text_read
-returns c = c.key_of.ensures.0 ∙ sym (cond_yes _ _ (sym c.bracketed.ensures ∙ c.if-not-bracketed.false))
+returns c = c.key_of.ensures.value ∙ sym (cond_yes _ _ (sym c.bracketed.ensures ∙ c.if-not-bracketed.false))

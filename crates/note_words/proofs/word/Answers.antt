@@ -8,7 +8,13 @@ pub overflow_cast-result : goal.overflow_cast-result
 overflow_cast-result c = omega (arith, c.type_inv.notes c.args.k)
 
 pub returns-then-k-notes : goal.returns-then-k-notes
-returns-then-k-notes c = (refl, omega (arith, c.type_inv.notes c.args.k))
+returns-then-k-notes c = record {
+      value = refl;
+      upper_bound = omega (arith, c.type_inv.notes c.args.k);
+    }
 
 pub returns : goal.returns
-returns c = (sym (get_or-eq_default c.args.notes.now 0 c.if-k-notes.false), omega arith)
+returns c = record {
+      value = sym (get_or-eq_default c.args.notes.now 0 c.if-k-notes.false);
+      upper_bound = omega arith;
+    }

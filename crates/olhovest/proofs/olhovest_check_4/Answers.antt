@@ -9,4 +9,7 @@ use Rattle.olhovest.proofs.olhovest_check_4.Goals as goal
 pub returns : goal.returns
 returns c =
     let a = c.check-a.ensures ∙ ap (λ (l : Lengths). answer_of l c.args.src.now) c.lengths_are-l.ensures in
-    (c.fault_number.ensures ∙ ap (λ (x : Answer). fault_number x.verdict) a, c.put_answer.ensures ∙ ap answer_words a)
+    record {
+      value = c.fault_number.ensures ∙ ap (λ (x : Answer). fault_number x.verdict) a;
+      answer_after = c.put_answer.ensures ∙ ap answer_words a;
+    }

@@ -15,7 +15,7 @@ shape_of-out-then-line-eq0 c = put-kept (returns c)
 pub returns : goal.returns
 returns c =
     let line = c.args.line.now in
-    put_as (suggested line _ (inside-at line _ c.find-stop.ensures.0)) c.put_nearest-2.ensures
+    put_as (suggested line _ (inside-at line _ c.find-stop.ensures.value)) c.put_nearest-2.ensures
 
 pub shape_of-out : goal.shape_of-out
 shape_of-out c = put-kept (returns-2 c)

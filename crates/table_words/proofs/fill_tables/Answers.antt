@@ -7,10 +7,14 @@ use Rattle.table_words.proofs.fill_tables.Goals as goal
 pub fill_models-requires : goal.fill_models-requires
 fill_models-requires c =
     let a = c.args in
-    (c.requires.models, (c.requires.waveforms, rw (sym (rows_words a.src.now a.notes.now a.o.models)) c.requires.rows))
+    record {
+      n_in_bounds = c.requires.models;
+      n_in_bounds_2 = c.requires.waveforms;
+      n_in_bounds_3 = rw (sym (rows_words a.src.now a.notes.now a.o.models)) c.requires.rows;
+    }
 
 pub returns : goal.returns
 returns c =
     let a = c.args in
     let r = c.fill_models.ensures in
-    rw (c.fill_components.ensures, c.fill_pins.ensures, c.fill_selectors.ensures, c.fill_choices.ensures, r.0, r.1.0, r.1.1 ∙ ap (over a.rows.now) (sym (rows_words a.src.now a.notes.now a.o.models)))
+    rw (c.fill_components.ensures, c.fill_pins.ensures, c.fill_selectors.ensures, c.fill_choices.ensures, r.models_after, r.waveforms_after, r.rows_after ∙ ap (over a.rows.now) (sym (rows_words a.src.now a.notes.now a.o.models)))

@@ -14,10 +14,16 @@ loop-i-init c = (omega arith, ap (trim is_blank) (sym (take-length _)))
 pub returns-then-not-blank : goal.returns-then-not-blank
 returns-then-not-blank c =
     let v = c.loop-i.invariant in
-    (sym (ap length (v.1 ∙ trim-stop is_blank _ _ 0 c.loop-i-test.true v.0 (sym c.blank.ensures ∙ c.if-not-blank.true)) ∙ length-take-le _ _ v.0), v.0)
+    record {
+      value = sym (ap length (v.1 ∙ trim-stop is_blank _ _ 0 c.loop-i-test.true v.0 (sym c.blank.ensures ∙ c.if-not-blank.true)) ∙ length-take-le _ _ v.0);
+      upper_bound = v.0;
+    }
 
 pub loop-i-preserved : goal.loop-i-preserved
 loop-i-preserved c = (omega arith, c.loop-i.invariant.1 ∙ trim-more is_blank _ _ 0 c.loop-i-test.true c.loop-i.invariant.0 (sym c.blank.ensures ∙ c.if-not-blank.false))
 
 pub returns : goal.returns
-returns c = (sym (ap length c.loop-i.invariant.1 ∙ trim-none is_blank _ _ c.loop-i-test.false), c.loop-i.invariant.0)
+returns c = record {
+      value = sym (ap length c.loop-i.invariant.1 ∙ trim-none is_blank _ _ c.loop-i-test.false);
+      upper_bound = c.loop-i.invariant.0;
+    }

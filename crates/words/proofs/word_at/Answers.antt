@@ -13,10 +13,10 @@ returns-then-s-start c =
     let h = c.if-s-start.true in
     let e = sym (front-end is_ink s _ h) in
     record {
-      here = rest-here s _ _ a.0;
-      next = rest-next s _ _ _ a.0 e;
-      is = run-from s _ _ _ a.0 e;
-      none = λ g. words-none s _ _ a.0 g;
+      here = rest-here s _ _ a.value;
+      next = rest-next s _ _ _ a.value e;
+      is = run-from s _ _ _ a.value e;
+      none = λ g. words-none s _ _ a.value g;
       some = λ g. absurd (omega (arith, g, h));
       rises = λ g. absurd (omega (arith, g, h));
       from = omega arith;
@@ -28,14 +28,14 @@ pub returns : goal.returns
 returns c =
     let s = c.args.s.now in
     let a = c.skip_blanks-start.ensures in
-    let e = ink-goes s _ _ a.0 c.if-s-start.false _ c.skip_ink-end.ensures.0 in
+    let e = ink-goes s _ _ a.value c.if-s-start.false _ c.skip_ink-end.ensures.value in
     record {
-      here = rest-here s _ _ a.0;
-      next = rest-next s _ _ _ a.0 e;
-      is = run-from s _ _ _ a.0 e;
-      none = λ g. words-none s _ _ a.0 g;
-      some = λ g. words-some s _ _ a.0 g _ e;
-      rises = λ g. word-rises s _ _ a.0 g _ e;
+      here = rest-here s _ _ a.value;
+      next = rest-next s _ _ _ a.value e;
+      is = run-from s _ _ _ a.value e;
+      none = λ g. words-none s _ _ a.value g;
+      some = λ g. words-some s _ _ a.value g _ e;
+      rises = λ g. word-rises s _ _ a.value g _ e;
       from = omega arith;
       starts = omega arith;
       ends = omega arith;

@@ -35,7 +35,10 @@ slice_bounds-with_key-end c =
 pub with_key-read-requires : goal.with_key-read-requires
 with_key-read-requires c =
     let h = key-found c.in-Key.is c.next_key.ensures in
-    (h.placed, omega (arith, c.loop-keyword.invariant.1, h.rises))
+    record {
+      placed = h.placed;
+      pins_le_at = omega (arith, c.loop-keyword.invariant.1, h.rises);
+    }
 
 pub loop-keyword-smaller : goal.loop-keyword-smaller
 loop-keyword-smaller c =

@@ -12,5 +12,5 @@ returns c =
       keys = keys-stop b.stops;
       placed = b.stops.placed;
       rises = b.stops.rises;
-      bounded = omega (arith, c.requires.1, b.stops.rises);
+      bounded = omega (arith, c.requires.pins_le_at, b.stops.rises);
     }

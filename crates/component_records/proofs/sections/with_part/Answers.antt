@@ -8,9 +8,9 @@ returns-in-Manufacturer c =
     record {
       parts = rw (c.in-Manufacturer.is, c.name_of.ensures);
       keys = refl;
-      placed = c.requires.0;
+      placed = c.requires.placed;
       rises = omega arith;
-      bounded = c.requires.1;
+      bounded = c.requires.pins_le_at;
     }
 
 pub returns-in-Package : goal.returns-in-Package

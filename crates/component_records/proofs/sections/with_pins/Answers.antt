@@ -6,7 +6,7 @@ use Rattle.component_records.proofs.sections.with_pins.Goals as goal
 pub overflow_add-rows : goal.overflow_add-rows
 overflow_add-rows c =
     let l = c.count_lines-lines.ensures in
-    omega (arith, c.requires.1, l.bounded, l.stops.placed.within)
+    omega (arith, c.requires.pins_le_at, l.bounded, l.stops.placed.within)
 
 pub returns : goal.returns
 returns c =
@@ -17,5 +17,5 @@ returns c =
       keys = keys-stop l.stops;
       placed = l.stops.placed;
       rises = l.stops.rises;
-      bounded = omega (arith, c.requires.1, l.bounded);
+      bounded = omega (arith, c.requires.pins_le_at, l.bounded);
     }

@@ -9,19 +9,28 @@ pub returns-in-Quiet : goal.returns-in-Quiet
 returns-in-Quiet c =
     let f = c.before.before.before.before.before in
     let a = f.args in
-    (rw c.faultless.ensures rw c.in-Quiet.is refl, rw c.faultless.ensures (kept_same a.src.now a.notes.now a.l a.t a.p f.requires))
+    record {
+      e_value = rw c.faultless.ensures rw c.in-Quiet.is refl;
+      kept_by = rw c.faultless.ensures (kept_same a.src.now a.notes.now a.l a.t a.p f.requires);
+    }
 
 pub returns-in-Going : goal.returns-in-Going
 returns-in-Going c =
     let a = c.args in
     let n = c.note_event in
     let going = c.in-Going.is in
-    (rw c.faultless-in-Going.ensures (n.ensures.0 ∙ ap (told_is a.src.now n.new.0 a.p.line) going), rw c.faultless-in-Going.ensures (subst (KeptBy n.new.0 a.t) going n.ensures.1))
+    record {
+      e_value = rw c.faultless-in-Going.ensures (n.ensures.e_value ∙ ap (told_is a.src.now n.new.0 a.p.line) going);
+      kept_by = rw c.faultless-in-Going.ensures (subst (KeptBy n.new.0 a.t) going n.ensures.kept_by);
+    }
 
 pub returns-in-Full : goal.returns-in-Full
 returns-in-Full c =
     let a = c.args in
     let n = c.note_event in
-    let h = n.ensures.0 ∙ ap (told_is a.src.now n.new.0 a.p.line) c.in-Full.is in
+    let h = n.ensures.e_value ∙ ap (told_is a.src.now n.new.0 a.p.line) c.in-Full.is in
     let e = full-told a.l a.src.now a.notes.now n.new.0 a.t a.p a.e _ _ h in
-    (h ∙ ap (told_is a.src.now n.new.0 a.p.line) e, subst (KeptBy n.new.0 a.t) (c.in-Full.is ∙ e) n.ensures.1)
+    record {
+      e_value = h ∙ ap (told_is a.src.now n.new.0 a.p.line) e;
+      kept_by = subst (KeptBy n.new.0 a.t) (c.in-Full.is ∙ e) n.ensures.kept_by;
+    }

@@ -9,7 +9,7 @@ use Rattle.file_answer.proofs.ScanLaws.{noted-going, noted-full, noted-sound, no
 use Rattle.file_answer.proofs.reading.scan.Goals as goal
 
 pub loop-line-init : goal.loop-line-init
-loop-line-init c = (rw c.first-cursor.ensures rw c.nothing-tally.ensures (first-sound c.args.src.now c.args.notes.now c.requires.0.0 c.requires.0.1 c.requires.1), refl, refl)
+loop-line-init c = (rw c.first-cursor.ensures rw c.nothing-tally.ensures (first-sound c.args.src.now c.args.notes.now c.requires.src_len_bound.0 c.requires.src_len_bound.1 c.requires.clean_from), refl, refl)
 
 pub next_text-requires : goal.next_text-requires
 next_text-requires c = c.loop-line.invariant.0.placed
@@ -46,7 +46,10 @@ returns-then-fault-ne0 c =
     let i = c.loop-line in
     let n = c.note_line-noted in
     let h = subst (NextIs s i.cursor) c.in-Text.is c.next_text.ensures in
-    (first_run a.l s a.notes.now _ _ c.first-cursor.ensures c.nothing-tally.ensures ∙ i.invariant.2 ∙ (rw c.broken_at.ensures (noted-full a.l s i.notes n.new.0 i.stage i.cursor i.tally _ c.spot_at-p.result c.spot_at-p.ensures h n.result _ n.ensures.0 _ (sym c.on_plain.ensures ∙ c.in-On.is) c.if-fault-ne0.true)), (rw c.broken_at.ensures (noted-names n.new.0 i.tally n.result n.ensures.1 c.if-fault-ne0.true), rw c.broken_at.ensures tt))
+    record {
+      first_cursor_value = first_run a.l s a.notes.now _ _ c.first-cursor.ensures c.nothing-tally.ensures ∙ i.invariant.2 ∙ (rw c.broken_at.ensures (noted-full a.l s i.notes n.new.0 i.stage i.cursor i.tally _ c.spot_at-p.result c.spot_at-p.ensures h n.result _ n.ensures.e_value _ (sym c.on_plain.ensures ∙ c.in-On.is) c.if-fault-ne0.true));
+      names_le_most_names = (rw c.broken_at.ensures (noted-names n.new.0 i.tally n.result n.ensures.kept_by c.if-fault-ne0.true), rw c.broken_at.ensures tt);
+    }
 
 pub behind_list-y-requires : goal.behind_list-y-requires
 behind_list-y-requires c =
@@ -55,7 +58,7 @@ behind_list-y-requires c =
     let i = c.loop-line in
     let n = c.note_line-noted in
     let h = subst (NextIs s i.cursor) c.in-Text.is c.next_text.ensures in
-    rw c.stands-x.ensures (noted-sound a.l s i.notes n.new.0 i.stage i.cursor i.tally _ h n.result i.invariant.0 c.notes-1.given n.ensures.1 c.if-fault-ne0.false)
+    rw c.stands-x.ensures (noted-sound a.l s i.notes n.new.0 i.stage i.cursor i.tally _ h n.result i.invariant.0 c.notes-1.given n.ensures.kept_by c.if-fault-ne0.false)
 
 pub loop-line-smaller-then-comes_in_numbers : goal.loop-line-smaller-then-comes_in_numbers
 loop-line-smaller-then-comes_in_numbers c =
@@ -71,7 +74,7 @@ loop-line-preserved-then-comes_in_numbers c =
     let n = c.note_line-noted in
     let h = subst (NextIs s i.cursor) c.in-Text.is c.next_text.ensures in
     let q = c.behind_list-y.ensures in
-    (q.sound, c.notes-then-comes_in_numbers-1.given ∙ c.notes-1.given ∙ i.invariant.1, i.invariant.2 ∙ noted-going a.l s i.notes n.new.0 i.stage i.cursor i.tally _ c.spot_at-p.result c.spot_at-p.ensures h n.result _ n.ensures.0 _ (sym c.on_plain.ensures ∙ c.in-On.is) c.if-fault-ne0.false ∙ ap (run_from a.l s n.new.0) (sym c.stands-x.ensures) ∙ q.says)
+    (q.sound, c.notes-then-comes_in_numbers-1.given ∙ c.notes-1.given ∙ i.invariant.1, i.invariant.2 ∙ noted-going a.l s i.notes n.new.0 i.stage i.cursor i.tally _ c.spot_at-p.result c.spot_at-p.ensures h n.result _ n.ensures.e_value _ (sym c.on_plain.ensures ∙ c.in-On.is) c.if-fault-ne0.false ∙ ap (run_from a.l s n.new.0) (sym c.stands-x.ensures) ∙ q.says)
 
 pub loop-line-smaller-else-comes_in_numbers : goal.loop-line-smaller-else-comes_in_numbers
 loop-line-smaller-else-comes_in_numbers c =
@@ -85,7 +88,7 @@ loop-line-preserved-else-comes_in_numbers c =
     let i = c.loop-line in
     let n = c.note_line-noted in
     let h = subst (NextIs s i.cursor) c.in-Text.is c.next_text.ensures in
-    (noted-sound a.l s i.notes n.new.0 i.stage i.cursor i.tally _ h n.result i.invariant.0 c.notes-1.given n.ensures.1 c.if-fault-ne0.false, c.notes-1.given ∙ i.invariant.1, i.invariant.2 ∙ noted-going a.l s i.notes n.new.0 i.stage i.cursor i.tally _ c.spot_at-p.result c.spot_at-p.ensures h n.result _ n.ensures.0 _ (sym c.on_plain.ensures ∙ c.in-On.is) c.if-fault-ne0.false)
+    (noted-sound a.l s i.notes n.new.0 i.stage i.cursor i.tally _ h n.result i.invariant.0 c.notes-1.given n.ensures.kept_by c.if-fault-ne0.false, c.notes-1.given ∙ i.invariant.1, i.invariant.2 ∙ noted-going a.l s i.notes n.new.0 i.stage i.cursor i.tally _ c.spot_at-p.result c.spot_at-p.ensures h n.result _ n.ensures.e_value _ (sym c.on_plain.ensures ∙ c.in-On.is) c.if-fault-ne0.false)
 
 pub shape_of-notes-in-Stop : goal.shape_of-notes-in-Stop
 shape_of-notes-in-Stop c = c.loop-line.invariant.1
@@ -96,7 +99,10 @@ returns-in-Stop c =
     let s = a.src.now in
     let i = c.loop-line in
     let h = subst (NextIs s i.cursor) c.in-Text.is c.next_text.ensures in
-    (first_run a.l s a.notes.now _ _ c.first-cursor.ensures c.nothing-tally.ensures ∙ i.invariant.2 ∙ (rw c.broken.ensures (text-stop a.l s i.notes i.notes i.stage i.cursor i.tally _ h _ (sym c.on_plain.ensures ∙ c.in-Stop.is))), (rw c.broken.ensures (omega (arith, names-small i.tally i.invariant.0.within)), rw c.broken.ensures tt))
+    record {
+      first_cursor_value = first_run a.l s a.notes.now _ _ c.first-cursor.ensures c.nothing-tally.ensures ∙ i.invariant.2 ∙ (rw c.broken.ensures (text-stop a.l s i.notes i.notes i.stage i.cursor i.tally _ h _ (sym c.on_plain.ensures ∙ c.in-Stop.is)));
+      names_le_most_names = (rw c.broken.ensures (omega (arith, names-small i.tally i.invariant.0.within)), rw c.broken.ensures tt);
+    }
 
 pub loop-line-smaller : goal.loop-line-smaller
 loop-line-smaller c =
@@ -120,7 +126,10 @@ returns-in-Stop-on_change c =
     let s = a.src.now in
     let i = c.loop-line in
     let h = subst (NextIs s i.cursor) c.in-Change.is c.next_text.ensures in
-    (first_run a.l s a.notes.now _ _ c.first-cursor.ensures c.nothing-tally.ensures ∙ i.invariant.2 ∙ (rw c.broken-in-Stop-on_change.ensures (line-stop a.l s i.notes i.stage i.cursor i.tally _ _ _ h _ (sym c.on_change.ensures ∙ c.in-Stop-on_change.is))), (rw c.broken-in-Stop-on_change.ensures (omega (arith, names-small i.tally i.invariant.0.within)), rw c.broken-in-Stop-on_change.ensures tt))
+    record {
+      first_cursor_value = first_run a.l s a.notes.now _ _ c.first-cursor.ensures c.nothing-tally.ensures ∙ i.invariant.2 ∙ (rw c.broken-in-Stop-on_change.ensures (line-stop a.l s i.notes i.stage i.cursor i.tally _ _ _ h _ (sym c.on_change.ensures ∙ c.in-Stop-on_change.is)));
+      names_le_most_names = (rw c.broken-in-Stop-on_change.ensures (omega (arith, names-small i.tally i.invariant.0.within)), rw c.broken-in-Stop-on_change.ensures tt);
+    }
 
 pub shape_of-notes-in-Out : goal.shape_of-notes-in-Out
 shape_of-notes-in-Out c = c.loop-line.invariant.1
@@ -131,4 +140,7 @@ returns-in-Out c =
     let s = a.src.now in
     let i = c.loop-line in
     let h = subst (NextIs s i.cursor) c.in-Out.is c.next_text.ensures in
-    (first_run a.l s a.notes.now _ _ c.first-cursor.ensures c.nothing-tally.ensures ∙ i.invariant.2 ∙ run_out a.l s i.notes (standing i.stage i.cursor i.tally) _ h ∙ c.out_of_lines.ensures.0 s i.notes, (rw c.out_of_lines.ensures.1.0 (omega (arith, names-small i.tally i.invariant.0.within)), c.out_of_lines.ensures.1.1 i.notes (i.invariant.0.within, i.invariant.0.filed)))
+    record {
+      first_cursor_value = first_run a.l s a.notes.now _ _ c.first-cursor.ensures c.nothing-tally.ensures ∙ i.invariant.2 ∙ run_out a.l s i.notes (standing i.stage i.cursor i.tally) _ h ∙ c.out_of_lines.ensures.by_index s i.notes;
+      names_le_most_names = (rw c.out_of_lines.ensures.tally_value (omega (arith, names-small i.tally i.invariant.0.within)), c.out_of_lines.ensures.by_index_2 i.notes (i.invariant.0.within, i.invariant.0.filed));
+    }

@@ -9,21 +9,24 @@ pub scan-z-requires : goal.scan-z-requires
 scan-z-requires c =
     let f = c.before.before.before in
     let s = f.args.src.now in
-    ((small f.args.l s f.requires.0, f.requires.1), clean-first f.args.l s f.requires.0)
+    record {
+      src_len_bound = (small f.args.l s f.requires.0, f.requires.1);
+      clean_from = clean-first f.args.l s f.requires.0;
+    }
 
 pub first_clash-requires : goal.first_clash-requires
-first_clash-requires c = c.scan-z.ensures.1.0
+first_clash-requires c = c.scan-z.ensures.names_le_most_names.0
 
 pub last_checks-requires : goal.last_checks-requires
 last_checks-requires c =
     let a = c.args in
-    all_read a.l a.src.now c.scan-z.new.notes c.scan-z.result c.requires.0 c.scan-z.ensures.0 (no-clash _ (sym c.in-NoClash.is ∙ c.first_clash.ensures)) c.in-Whole.is c.scan-z.ensures.1.1
+    all_read a.l a.src.now c.scan-z.new.notes c.scan-z.result c.requires.0 c.scan-z.ensures.first_cursor_value (no-clash _ (sym c.in-NoClash.is ∙ c.first_clash.ensures)) c.in-Whole.is c.scan-z.ensures.names_le_most_names.1
 
 pub returns-in-At : goal.returns-in-At
 returns-in-At c =
     let a = c.args in
     let s = a.src.now in
-    refuses a.l s _ _ _ (twice a.l s c.scan-z.new.notes c.scan-z.result c.requires.0 c.scan-z.ensures.0 _ (found-clash _ _ (sym c.in-At.is ∙ c.first_clash.ensures))) c.refused_at.ensures
+    refuses a.l s _ _ _ (twice a.l s c.scan-z.new.notes c.scan-z.result c.requires.0 c.scan-z.ensures.first_cursor_value _ (found-clash _ _ (sym c.in-At.is ∙ c.first_clash.ensures))) c.refused_at.ensures
 
 pub returns-in-Whole : goal.returns-in-Whole
 returns-in-Whole c = c.last_checks.ensures
@@ -32,4 +35,4 @@ pub returns-in-Broken : goal.returns-in-Broken
 returns-in-Broken c =
     let a = c.args in
     let s = a.src.now in
-    refuses a.l s _ _ _ (broken a.l s c.scan-z.new.notes c.scan-z.result c.requires.0 c.scan-z.ensures.0 _ (no-clash _ (sym c.in-NoClash.is ∙ c.first_clash.ensures)) c.in-Broken.is) c.refused.ensures
+    refuses a.l s _ _ _ (broken a.l s c.scan-z.new.notes c.scan-z.result c.requires.0 c.scan-z.ensures.first_cursor_value _ (no-clash _ (sym c.in-NoClash.is ∙ c.first_clash.ensures)) c.in-Broken.is) c.refused.ensures

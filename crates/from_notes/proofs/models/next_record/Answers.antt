@@ -20,7 +20,10 @@ slice_bounds-take_keys-start c = omega (arith, room-here c.requires c.opening-fr
 pub take_keys-taken-requires : goal.take_keys-taken-requires
 take_keys-taken-requires c =
     let o = c.opening-from.ensures in
-    ((o.placed, o.fits), rest-room c.args.rows.now c.args.p.words _ (room-here c.requires o))
+    record {
+      placed = (o.placed, o.fits);
+      c_in_bounds = rest-room c.args.rows.now c.args.p.words _ (room-here c.requires o);
+    }
 
 pub overflow_add-used : goal.overflow_add-used
 overflow_add-used c = omega (arith, room-taken c.requires c.opening-from.ensures c.take_keys-taken.ensures, c.well_formed)

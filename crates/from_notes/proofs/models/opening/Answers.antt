@@ -20,6 +20,6 @@ returns c =
     let row = c.section_word-row.ensures in
     record {
       placed = f.stops.placed;
-      fits = rw c.bare_body.ensures (record { row = omega (arith, row.1); waveforms = omega arith });
-      partly = λ waves rowed r. opens a.src.now a.notes.now a.k c.section_noted.ensures f.stops c.first_lines-first.result.lines f.lines c.bare_body.result (c.bare_body.ensures ∙ ap bare_body row.0) (r.1 c.if-p.false);
+      fits = rw c.bare_body.ensures (record { row = omega (arith, row.upper_bound); waveforms = omega arith });
+      partly = λ waves rowed r. opens a.src.now a.notes.now a.k c.section_noted.ensures f.stops c.first_lines-first.result.lines f.lines c.bare_body.result (c.bare_body.ensures ∙ ap bare_body row.value) (r.1 c.if-p.false);
     }

@@ -3,4 +3,4 @@ use mathlib.Core.Path.{refl}
 use Rattle.from_notes.proofs.places.name_noted.Goals as goal
 
 pub returns : goal.returns
-returns c = rw (c.part_of.ensures, c.section_word-name.ensures.0, c.section_word-at.ensures.0) refl
+returns c = rw (c.part_of.ensures, c.section_word-name.ensures.value, c.section_word-at.ensures.value) refl

@@ -3,4 +3,4 @@ use mathlib.Core.Path.{refl}
 use Rattle.from_notes.proofs.places.row_noted.Goals as goal
 
 pub returns : goal.returns
-returns c = rw (c.part_of.ensures, c.row_word-length.ensures.0, c.row_word-at.ensures.0) refl
+returns c = rw (c.part_of.ensures, c.row_word-length.ensures.value, c.row_word-at.ensures.value) refl

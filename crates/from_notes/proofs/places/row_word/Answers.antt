@@ -8,4 +8,7 @@ use Rattle.from_notes.proofs.places.row_word.Goals as goal
 pub returns-then-notes-i : goal.returns-then-notes-i
 returns-then-notes-i c =
     let a = c.args in
-    (word-past a.notes.now (a.from + words_per_row * a.i + a.j) (omega arith), omega arith)
+    record {
+      value = word-past a.notes.now (a.from + words_per_row * a.i + a.j) (omega arith);
+      upper_bound = omega arith;
+    }

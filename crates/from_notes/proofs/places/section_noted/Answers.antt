@@ -5,5 +5,5 @@ use Rattle.from_notes.proofs.places.section_noted.Goals as goal
 
 pub returns : goal.returns
 returns c =
-    rw (sym c.section_word-place.ensures.0, sym c.section_word-at.ensures.0)
+    rw (sym c.section_word-place.ensures.value, sym c.section_word-at.ensures.value)
     (record { placed = c.behind_text.ensures.placed; texts = c.behind_text.ensures.texts ∙ ap (drop 1) c.cursor_at-c.ensures.texts })

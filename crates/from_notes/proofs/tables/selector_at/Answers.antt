@@ -9,5 +9,5 @@ pub returns : goal.returns
 unfolding selector_at
 returns c =
     let a = c.args in
-    rw (c.selector_of.ensures, c.name_noted-name.ensures, c.section_word-start.ensures.0, c.place_noted-section.ensures)
+    rw (c.selector_of.ensures, c.name_noted-name.ensures, c.section_word-start.ensures.value, c.place_noted-section.ensures)
     (selector-noted a.src.now a.notes.now (lies_at OfSelector a.i) c.section_noted-c.ensures)

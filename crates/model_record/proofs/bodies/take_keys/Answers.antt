@@ -7,13 +7,13 @@ use Rattle.model_record.proofs.Walks.{walks-start, walks-length, walks-fit, behi
 use Rattle.model_record.proofs.bodies.take_keys.Goals as goal
 
 pub loop-keyword-init : goal.loop-keyword-init
-loop-keyword-init c = walks-start _ _ _ _ c.requires.0.0 c.requires.0.1
+loop-keyword-init c = walks-start _ _ _ _ c.requires.placed.0 c.requires.placed.1
 
 pub next_key-requires : goal.next_key-requires
 next_key-requires c = c.loop-keyword.invariant.placed
 
 pub shape_of-rows-then-ends : goal.shape_of-rows-then-ends
-shape_of-rows-then-ends c = walks-length c.loop-keyword.invariant c.requires.1
+shape_of-rows-then-ends c = walks-length c.loop-keyword.invariant c.requires.c_in_bounds
 
 pub returns-then-ends : goal.returns-then-ends
 returns-then-ends c = walks-end c.loop-keyword.invariant (key-found c.in-Key.is c.next_key.ensures) c.no_waveform.ensures (sym c.ends.ensures ∙ c.if-ends.true)
@@ -21,17 +21,17 @@ returns-then-ends c = walks-end c.loop-keyword.invariant (key-found c.in-Key.is 
 pub offset_bounds-rows-words : goal.offset_bounds-rows-words
 offset_bounds-rows-words c =
     let l = key-found c.in-Key.is c.next_key.ensures in
-    omega (arith, walks-fit c.loop-keyword.invariant l (sym c.ends.ensures ∙ c.if-ends.false) c.requires.1, walks-length c.loop-keyword.invariant c.requires.1, c.well_formed)
+    omega (arith, walks-fit c.loop-keyword.invariant l (sym c.ends.ensures ∙ c.if-ends.false) c.requires.c_in_bounds, walks-length c.loop-keyword.invariant c.requires.c_in_bounds, c.well_formed)
 
 pub slice_bounds-take_key-count : goal.slice_bounds-take_key-count
 slice_bounds-take_key-count c =
     let l = key-found c.in-Key.is c.next_key.ensures in
-    omega (arith, walks-fit c.loop-keyword.invariant l (sym c.ends.ensures ∙ c.if-ends.false) c.requires.1)
+    omega (arith, walks-fit c.loop-keyword.invariant l (sym c.ends.ensures ∙ c.if-ends.false) c.requires.c_in_bounds)
 
 pub slice_bounds-take_key-start : goal.slice_bounds-take_key-start
 slice_bounds-take_key-start c =
     let l = key-found c.in-Key.is c.next_key.ensures in
-    omega (arith, walks-fit c.loop-keyword.invariant l (sym c.ends.ensures ∙ c.if-ends.false) c.requires.1)
+    omega (arith, walks-fit c.loop-keyword.invariant l (sym c.ends.ensures ∙ c.if-ends.false) c.requires.c_in_bounds)
 
 pub slice_bounds-take_key-count-in-Key : goal.slice_bounds-take_key-count-in-Key
 slice_bounds-take_key-count-in-Key c =
@@ -52,22 +52,25 @@ pub take_key-taken-requires : goal.take_key-taken-requires
 take_key-taken-requires c =
     let l = key-found c.in-Key.is c.next_key.ensures in
     let f = c.loop-keyword.invariant.fits in
-    ((l.placed, omega (arith, f.row, l.rises), omega (arith, f.waveforms, l.rises)), rest-room c.loop-keyword.rows c.loop-keyword.words _ (walks-fit c.loop-keyword.invariant l (sym c.ends.ensures ∙ c.if-ends.false) c.requires.1))
+    record {
+      placed = (l.placed, omega (arith, f.row, l.rises), omega (arith, f.waveforms, l.rises));
+      c_in_bounds = rest-room c.loop-keyword.rows c.loop-keyword.words _ (walks-fit c.loop-keyword.invariant l (sym c.ends.ensures ∙ c.if-ends.false) c.requires.c_in_bounds);
+    }
 
 pub overflow_add-words : goal.overflow_add-words
 overflow_add-words c =
     let l = key-found c.in-Key.is c.next_key.ensures in
-    omega (arith, walks-fit c.loop-keyword.invariant l (sym c.ends.ensures ∙ c.if-ends.false) c.requires.1, c.take_key-taken.ensures.rows.used, walks-length c.loop-keyword.invariant c.requires.1, c.well_formed)
+    omega (arith, walks-fit c.loop-keyword.invariant l (sym c.ends.ensures ∙ c.if-ends.false) c.requires.c_in_bounds, c.take_key-taken.ensures.rows.used, walks-length c.loop-keyword.invariant c.requires.c_in_bounds, c.well_formed)
 
 pub shape_of-rows-then-taken : goal.shape_of-rows-then-taken
 shape_of-rows-then-taken c =
     let l = key-found c.in-Key.is c.next_key.ensures in
-    behind-length c.loop-keyword.invariant l (sym c.ends.ensures ∙ c.if-ends.false) c.requires.1 c.take_key-taken.ensures refl
+    behind-length c.loop-keyword.invariant l (sym c.ends.ensures ∙ c.if-ends.false) c.requires.c_in_bounds c.take_key-taken.ensures refl
 
 pub returns-then-taken : goal.returns-then-taken
 returns-then-taken c =
     let l = key-found c.in-Key.is c.next_key.ensures in
-    walks-found c.loop-keyword.invariant l (sym c.ends.ensures ∙ c.if-ends.false) c.requires.1 c.take_key-taken.ensures refl c.if-taken.true
+    walks-found c.loop-keyword.invariant l (sym c.ends.ensures ∙ c.if-ends.false) c.requires.c_in_bounds c.take_key-taken.ensures refl c.if-taken.true
 
 pub loop-keyword-smaller : goal.loop-keyword-smaller
 loop-keyword-smaller c =
@@ -78,10 +81,10 @@ loop-keyword-smaller c =
 pub loop-keyword-preserved : goal.loop-keyword-preserved
 loop-keyword-preserved c =
     let l = key-found c.in-Key.is c.next_key.ensures in
-    walks-key c.loop-keyword.invariant l (sym c.ends.ensures ∙ c.if-ends.false) c.requires.1 c.take_key-taken.ensures refl c.if-taken.false
+    walks-key c.loop-keyword.invariant l (sym c.ends.ensures ∙ c.if-ends.false) c.requires.c_in_bounds c.take_key-taken.ensures refl c.if-taken.false
 
 pub shape_of-rows-in-NoKey : goal.shape_of-rows-in-NoKey
-shape_of-rows-in-NoKey c = walks-length c.loop-keyword.invariant c.requires.1
+shape_of-rows-in-NoKey c = walks-length c.loop-keyword.invariant c.requires.c_in_bounds
 
 pub returns-in-NoKey : goal.returns-in-NoKey
 returns-in-NoKey c = walks-out c.loop-keyword.invariant c.no_waveform-in-NoKey.ensures (key-out _ _ c.in-NoKey.is c.next_key.ensures)

@@ -19,20 +19,26 @@ use Rattle.model_record.proofs.bodies.take_part.Goals as goal
 pub take_current-requires : goal.take_current-requires
 take_current-requires c =
     let a = c.args in
-    (c.requires.0, subst (λ (p : ModelPart). length (stored (key_rows (InModel p) (under (rest a.src.now a.c)))) ≤ length a.rows.now) c.in-Current.is c.requires.1)
+    record {
+      placed = c.requires.placed;
+      c_in_bounds = subst (λ (p : ModelPart). length (stored (key_rows (InModel p) (under (rest a.src.now a.c)))) ≤ length a.rows.now) c.in-Current.is c.requires.c_in_bounds;
+    }
 
 pub ramp_lines-read-requires : goal.ramp_lines-read-requires
-ramp_lines-read-requires c = c.requires.0.0
+ramp_lines-read-requires c = c.requires.placed.0
 
 pub take_waveform-requires : goal.take_waveform-requires
 take_waveform-requires c =
     let a = c.args in
-    (c.requires.0, subst (λ (p : ModelPart). length (stored (key_rows (InModel p) (under (rest a.src.now a.c)))) ≤ length a.rows.now) c.in-Waveform.is c.requires.1)
+    record {
+      placed = c.requires.placed;
+      c_in_bounds = subst (λ (p : ModelPart). length (stored (key_rows (InModel p) (under (rest a.src.now a.c)))) ≤ length a.rows.now) c.in-Waveform.is c.requires.c_in_bounds;
+    }
 
 pub returns-in-VoltageRange : goal.returns-in-VoltageRange
 returns-in-VoltageRange c =
     let a = c.args in
-    let p = c.requires.0 in
+    let p = c.requires.placed in
     none-takes (InModel VoltageRange) (ap InModel c.in-VoltageRange.is) a.rows.now
     (taken (InModel VoltageRange) c.with_voltage.result a.c refl (c.with_voltage.ensures no_ramp 0 ∙ ap (λ (t : _). part_on a.b VoltageRange t no_ramp 0) c.cells_of.ensures)
     (record { row = p.1; waveforms = omega (arith, p.2) }) refl p.0 (omega arith))
@@ -41,7 +47,7 @@ returns-in-VoltageRange c =
 pub returns-in-TemperatureRange : goal.returns-in-TemperatureRange
 returns-in-TemperatureRange c =
     let a = c.args in
-    let p = c.requires.0 in
+    let p = c.requires.placed in
     none-takes (InModel TemperatureRange) (ap InModel c.in-TemperatureRange.is) a.rows.now
     (taken (InModel TemperatureRange) c.with_temperature.result a.c refl (c.with_temperature.ensures no_ramp 0 ∙ ap (λ (t : _). part_on a.b TemperatureRange t no_ramp 0) c.cells_of-in-TemperatureRange.ensures)
     (record { row = p.1; waveforms = omega (arith, p.2) }) refl p.0 (omega arith))
@@ -55,7 +61,7 @@ returns-in-Current c =
 pub returns-in-Ramp : goal.returns-in-Ramp
 returns-in-Ramp c =
     let a = c.args in
-    let p = c.requires.0 in
+    let p = c.requires.placed in
     let n = c.ramp_lines-read.ensures in
     none-takes (InModel Ramp) (ap InModel c.in-Ramp.is) a.rows.now
     (taken (InModel Ramp) c.with_ramp.result c.ramp_lines-read.result.next refl (c.with_ramp.ensures no_cells 0 ∙ ap (λ (r : _). part_on a.b Ramp no_cells r 0) n.ramp)

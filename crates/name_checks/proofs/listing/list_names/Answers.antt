@@ -13,10 +13,13 @@ pub loop-i-preserved : goal.loop-i-preserved
 loop-i-preserved c =
     let a = c.args in
     let p = c.loop-i in
-    (omega arith, after_turn (with_key a.src.now a.notes.now) a.seen.now p.i p.seen _ p.invariant.1 c.list_name.ensures.0, after_turn (with_slot a.src.now a.notes.now) a.slots.now p.i p.slots _ p.invariant.2 c.list_name.ensures.1)
+    (omega arith, after_turn (with_key a.src.now a.notes.now) a.seen.now p.i p.seen _ p.invariant.1 c.list_name.ensures.seen_after, after_turn (with_slot a.src.now a.notes.now) a.slots.now p.i p.slots _ p.invariant.2 c.list_name.ensures.slots_after)
 
 pub returns : goal.returns
 returns c =
     let a = c.args in
     let p = c.loop-i in
-    (after-end (with_key a.src.now a.notes.now) a.seen.now p.i a.n p.seen p.invariant.0 c.loop-i-test.false p.invariant.1, after-end (with_slot a.src.now a.notes.now) a.slots.now p.i a.n p.slots p.invariant.0 c.loop-i-test.false p.invariant.2)
+    record {
+      seen_after = after-end (with_key a.src.now a.notes.now) a.seen.now p.i a.n p.seen p.invariant.0 c.loop-i-test.false p.invariant.1;
+      slots_after = after-end (with_slot a.src.now a.notes.now) a.slots.now p.i a.n p.slots p.invariant.0 c.loop-i-test.false p.invariant.2;
+    }

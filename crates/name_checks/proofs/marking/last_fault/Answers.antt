@@ -5,7 +5,11 @@ use Rattle.name_checks.proofs.marking.last_fault.Goals as goal
 pub mark_targets-missing-requires : goal.mark_targets-missing-requires
 mark_targets-missing-requires c =
     let f = c.before.before.before in
-    (f.requires.0, (f.requires.1, none-marked f.args.n f.requires.0))
+    record {
+      n_le_names_held = f.requires.0;
+      n_value = f.requires.1;
+      clear = none-marked f.args.n f.requires.0;
+    }
 
 pub returns-then-missing-n : goal.returns-then-missing-n
 returns-then-missing-n c =

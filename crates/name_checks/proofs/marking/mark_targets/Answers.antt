@@ -7,18 +7,21 @@ use Rattle.name_checks.proofs.marking.mark_targets.Goals as goal
 pub loop-i-init : goal.loop-i-init
 loop-i-init c =
     let a = c.args in
-    (omega arith, marking-none a.src.now a.notes.now a.marks.now a.n c.requires.1.1)
+    (omega arith, marking-none a.src.now a.notes.now a.marks.now a.n c.requires.clear)
 
 pub mark_target-first-requires : goal.mark_target-first-requires
 mark_target-first-requires c =
     let a = c.args in
-    ((c.requires.0, omega arith), (c.requires.1.0, listed-all a.src.now a.notes.now a.n _ c.list_names.ensures.0))
+    record {
+      n_le_names_held = (c.requires.n_le_names_held, omega arith);
+      n_value = (c.requires.n_value, listed-all a.src.now a.notes.now a.n _ c.list_names.ensures.seen_after);
+    }
 
 pub loop-i-preserved : goal.loop-i-preserved
 loop-i-preserved c =
     let a = c.args in
     let p = c.loop-i in
-    (omega arith, marking-turn a.src.now a.notes.now a.n p.i p.first p.marks c.requires.1.0 p.invariant.1 c.loop-i-test.true p.invariant.0 c.mark_target-first.result _ c.mark_target-first.ensures.0 c.mark_target-first.ensures.1)
+    (omega arith, marking-turn a.src.now a.notes.now a.n p.i p.first p.marks c.requires.n_value p.invariant.1 c.loop-i-test.true p.invariant.0 c.mark_target-first.result _ c.mark_target-first.ensures.value c.mark_target-first.ensures.marks_after)
 
 pub returns : goal.returns
 returns c =

@@ -8,4 +8,4 @@ use Rattle.name_checks.proofs.places.kind_at.Goals as goal
 
 pub returns : goal.returns
 unfolding place_at
-returns c = c.kind_by.ensures ∙ ap (λ (a : ℕ). place (kind_by a)) c.word.ensures.0
+returns c = c.kind_by.ensures ∙ ap (λ (a : ℕ). place (kind_by a)) c.word.ensures.value

@@ -8,4 +8,4 @@ use Rattle.name_checks.proofs.places.line_at.Goals as goal
 pub returns : goal.returns
 returns c =
     let a = c.args in
-    c.line_number.ensures ∙ ap (line_at a.src.now) (c.word-at.ensures.0 ∙ ap (λ (k : ℕ). word_of a.notes.now k 0) c.word-a.ensures.0)
+    c.line_number.ensures ∙ ap (line_at a.src.now) (c.word-at.ensures.value ∙ ap (λ (k : ℕ). word_of a.notes.now k 0) c.word-a.ensures.value)

@@ -13,6 +13,6 @@ pub returns : goal.returns
 returns c =
     let a = c.args in
     let xs = a.notes.now in
-    ap (λ (at : ℕ). part_of at c.word-w.result) c.word-at.ensures.0
-    ∙ ap (λ (w : ℕ). part_of (word_of xs c.word-a.result 0) w) c.word-w.ensures.0
-    ∙ ap (λ (k : ℕ). part_of (word_of xs k 0) (word_of xs k a.j)) c.word-a.ensures.0
+    ap (λ (at : ℕ). part_of at c.word-w.result) c.word-at.ensures.value
+    ∙ ap (λ (w : ℕ). part_of (word_of xs c.word-a.result 0) w) c.word-w.ensures.value
+    ∙ ap (λ (k : ℕ). part_of (word_of xs k 0) (word_of xs k a.j)) c.word-a.ensures.value

@@ -14,4 +14,4 @@ pub returns : goal.returns
 returns c =
     let a = c.args in
     c.surplus_fault.ensures
-    ∙ sym (argument-right (has_form a.form) a.w.now a.at _ c.word_at-word.ensures _ (sym c.has_form.ensures ∙ c.if-not-has_form.false) c.skip_blanks.ensures.0)
+    ∙ sym (argument-right (has_form a.form) a.w.now a.at _ c.word_at-word.ensures _ (sym c.has_form.ensures ∙ c.if-not-has_form.false) c.skip_blanks.ensures.value)

@@ -20,6 +20,6 @@ returns-in-97-to-122-2 c = sym (file-small c.args.b c.in-97-to-122.if-b-lt97-own
 pub returns-in_default : goal.returns-in_default
 returns-in_default c =
     let b = c.args.b in
-    ap (λ (n : ℕ). ltb n 16) (c.find.ensures.0 ∙ zero-add (length (front (other b) file_marks)))
+    ap (λ (n : ℕ). ltb n 16) (c.find.ensures.value ∙ zero-add (length (front (other b) file_marks)))
     ∙ sym (among-found b file_marks)
     ∙ sym (⊎_elim (λ w. file-low b w.taken) (⊎_elim (λ w. file-between b w.1.left w.2.taken) (λ w. file-high b w.3.left)) c.in_default.branch)

@@ -11,7 +11,7 @@ use Rattle.named_lines.proofs.FormLaws.{file-sized, file-ended}
 use Rattle.named_lines.proofs.forms.file_name.Goals as goal
 
 pub returns-then-not-sized : goal.returns-then-not-sized
-returns-then-not-sized c = sym (file-sized c.args.w.now _ c.skip_file_bytes-end.ensures.0 (sym c.sized.ensures ∙ c.if-not-sized.true))
+returns-then-not-sized c = sym (file-sized c.args.w.now _ c.skip_file_bytes-end.ensures.value (sym c.sized.ensures ∙ c.if-not-sized.true))
 
 pub returns : goal.returns
 returns c =
@@ -19,4 +19,4 @@ returns c =
     let e = c.skip_file_bytes-end.result in
     c.same.ensures
     ∙ ap (λ (x : List ℕ). eqs x (bytes ".ibs")) (take_all (length w - e) (drop e w) (omega (arith, length-drop e w)))
-    ∙ sym (file-ended w e c.skip_file_bytes-end.ensures.0 (sym c.sized.ensures ∙ c.if-not-sized.false))
+    ∙ sym (file-ended w e c.skip_file_bytes-end.ensures.value (sym c.sized.ensures ∙ c.if-not-sized.false))

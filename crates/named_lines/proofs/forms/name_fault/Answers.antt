@@ -11,4 +11,4 @@ pub returns : goal.returns
 returns c =
     let w = c.args.w.now in
     let s = c.skip_blanks.ensures in
-    c.at_fault.ensures ∙ sym (ap (λ (v : List ℕ). told w (flaw 10 v)) (rest-here w 0 _ s.0) ∙ ten-at w _ s.1.1)
+    c.at_fault.ensures ∙ sym (ap (λ (v : List ℕ). told w (flaw 10 v)) (rest-here w 0 _ s.value) ∙ ten-at w _ s.lower_bound.1)

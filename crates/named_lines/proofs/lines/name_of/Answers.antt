@@ -7,4 +7,4 @@ returns c =
     let w = c.args.w.now in
     let s = c.skip_blanks-start.ensures in
     let n = c.skip_name-end.ensures in
-    record { text = name-text w _ s.0 _ n.0; behind = name-behind w _ s.0 _ n.0; starts = n.1.0; ends = n.1.1 }
+    record { text = name-text w _ s.value _ n.value; behind = name-behind w _ s.value _ n.value; starts = n.lower_bound.0; ends = n.lower_bound.1 }

@@ -12,7 +12,7 @@ returns-then-not-equals_at c =
     let w = c.args.w.now in
     let s = c.skip_blanks-at.ensures in
     ap Misstated c.at_fault.ensures
-    ∙ sym (ap line_cell (assigned-other w _ _ c.name_of-name.ensures.behind s.0 s.1.1 (sym c.equals_at.ensures ∙ c.if-not-equals_at.true)))
+    ∙ sym (ap line_cell (assigned-other w _ _ c.name_of-name.ensures.behind s.value s.lower_bound.1 (sym c.equals_at.ensures ∙ c.if-not-equals_at.true)))
 
 pub sole_number-requires : goal.sole_number-requires
 sole_number-requires c = omega (arith, equals-within c.args.w.now c.skip_blanks-at.result (sym c.equals_at.ensures ∙ c.if-not-equals_at.false))
@@ -22,4 +22,4 @@ returns c =
     let w = c.args.w.now in
     let s = c.skip_blanks-at.ensures in
     c.sole_number.ensures
-    ∙ sym (ap (λ x. line_cell (told_in w x)) (assigned-equals w _ _ c.name_of-name.ensures.behind s.0 (sym c.equals_at.ensures ∙ c.if-not-equals_at.false)))
+    ∙ sym (ap (λ x. line_cell (told_in w x)) (assigned-equals w _ _ c.name_of-name.ensures.behind s.value (sym c.equals_at.ensures ∙ c.if-not-equals_at.false)))

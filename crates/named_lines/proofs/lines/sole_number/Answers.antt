@@ -19,7 +19,7 @@ returns-then-w-start c =
     let at = c.args.at in
     let s = c.skip_blanks-next.ensures in
     ap Misstated c.at_fault.ensures
-    ∙ sym (ap line_cell (sole_none (word_by given_cell 0 (drop at w)) w at _ c.word_at-word.ensures _ s.0 s.1.1 c.if-w-start.true))
+    ∙ sym (ap line_cell (sole_none (word_by given_cell 0 (drop at w)) w at _ c.word_at-word.ensures _ s.value s.lower_bound.1 c.if-w-start.true))
 
 pub returns-then-next-w : goal.returns-then-next-w
 returns-then-next-w c =
@@ -27,7 +27,7 @@ returns-then-next-w c =
     let at = c.args.at in
     let s = c.skip_blanks-next.ensures in
     ap Misstated c.at_fault-then-next-w.ensures
-    ∙ sym (ap line_cell (sole-more (word_by given_cell 0 (drop at w)) w at _ c.word_at-word.ensures _ s.0 s.1.1 c.if-w-start.false c.if-next-w.true))
+    ∙ sym (ap line_cell (sole-more (word_by given_cell 0 (drop at w)) w at _ c.word_at-word.ensures _ s.value s.lower_bound.1 c.if-w-start.false c.if-next-w.true))
 
 pub returns : goal.returns
 returns c =
@@ -38,4 +38,4 @@ returns c =
     c.cell_there.ensures
     ∙ ap (λ x. line_cell (said_there r.result.start x)) (cell-said _ (given_cell (part r.result.start r.result.end w)) c.given_cell.ensures)
     ∙ ap line_cell (sym (word-told w at _ r.ensures given_cell (given-columns _)))
-    ∙ sym (ap (λ x. line_cell (told_in w x)) (sole-one (word_by given_cell 0 (drop at w)) w at _ r.ensures _ s.0 s.1.1 c.if-w-start.false c.if-next-w.false))
+    ∙ sym (ap (λ x. line_cell (told_in w x)) (sole-one (word_by given_cell 0 (drop at w)) w at _ r.ensures _ s.value s.lower_bound.1 c.if-w-start.false c.if-next-w.false))

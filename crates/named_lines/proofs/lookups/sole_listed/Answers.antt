@@ -15,9 +15,9 @@ pub returns-then-next-w : goal.returns-then-next-w
 returns-then-next-w c =
     let a = c.args in
     ap Unlisted c.at_fault-then-next-w.ensures
-    ∙ sym (ap listed_read (listed_more a.list a.w.now a.at _ c.word_at-word.ensures c.place.ensures c.in-At.is _ c.skip_blanks-next.ensures.0 c.if-next-w.true))
+    ∙ sym (ap listed_read (listed_more a.list a.w.now a.at _ c.word_at-word.ensures c.place.ensures c.in-At.is _ c.skip_blanks-next.ensures.value c.if-next-w.true))
 
 pub returns : goal.returns
 returns c =
     let a = c.args in
-    sym (ap listed_read (listed-alone a.list a.w.now a.at _ c.word_at-word.ensures c.place.ensures c.in-At.is _ c.skip_blanks-next.ensures.0 c.if-next-w.false))
+    sym (ap listed_read (listed-alone a.list a.w.now a.at _ c.word_at-word.ensures c.place.ensures c.in-At.is _ c.skip_blanks-next.ensures.value c.if-next-w.false))

@@ -9,4 +9,7 @@ overflow_add-d c = let h = c.requires in omega (arith, h.rows, h.text.starts, h.
 pub returns : goal.returns
 returns c =
     let a = c.args in
-    (row-going a.src.now a.notes.now a.l a.t a.p c.requires, kept_row a.src.now a.notes.now a.l a.t a.p c.requires)
+    record {
+      p_value = row-going a.src.now a.notes.now a.l a.t a.p c.requires;
+      kept_by = kept_row a.src.now a.notes.now a.l a.t a.p c.requires;
+    }

@@ -9,7 +9,7 @@ pub returns-then-waveform_bound-j : goal.returns-then-waveform_bound-j
 returns-then-waveform_bound-j c =
     let a = c.args in
     let h : min most_waveforms a.l.waveforms ≤ a.t.counts.waveforms = omega (arith, c.if-waveform_bound-j.true, c.waveform_bound.ensures) in
-    rw c.no_room.ensures (waveform-full a.src.now a.notes.now a.l a.t a.p c.requires h, omega (arith, names-small a.t c.requires.within))
+    let old : _ × (_ = rw c.no_room.ensures (waveform-full a.src.now a.notes.now a.l a.t a.p c.requires h, omega (arith, names-small a.t c.requires.within)) in record { p_value = old.0; kept_by = old.1; }
 
 pub overflow_add-d : goal.overflow_add-d
 overflow_add-d c = omega (arith, c.requires.within.waveforms)
@@ -19,4 +19,7 @@ returns c =
     let a = c.args in
     let r = c.requires in
     let h : a.t.counts.waveforms < min most_waveforms a.l.waveforms = omega (arith, c.if-waveform_bound-j.false, c.waveform_bound.ensures) in
-    (waveform-going a.src.now a.notes.now a.l a.t a.p r h, kept-waveform a.src.now a.notes.now a.l a.t a.p r h)
+    record {
+      p_value = waveform-going a.src.now a.notes.now a.l a.t a.p r h;
+      kept_by = kept-waveform a.src.now a.notes.now a.l a.t a.p r h;
+    }

@@ -9,14 +9,20 @@ use Rattle.noted_events.proofs.events.end_file.Goals as goal
 pub returns-then-c-eq0 : goal.returns-then-c-eq0
 returns-then-c-eq0 c =
     let a = c.args in
-    rw c.no_room.ensures (end_none a.src.now a.notes.now a.l a.t a.p c.requires a.f c.if-c-eq0.true, omega (arith, names-small a.t c.requires.within))
+    let old : _ × (_ = rw c.no_room.ensures (end_none a.src.now a.notes.now a.l a.t a.p c.requires a.f c.if-c-eq0.true, omega (arith, names-small a.t c.requires.within)) in record { f_value = old.0; kept_by = old.1; }
 
 pub returns-then-f-eq0 : goal.returns-then-f-eq0
 returns-then-f-eq0 c =
     let a = c.args in
-    (end-some a.src.now a.notes.now a.l a.t a.p c.requires a.f c.if-c-eq0.false ∙ cond_yes _ _ (eq-eqb a.f.number 0 c.if-f-eq0.true), kept_same a.src.now a.notes.now a.l a.t a.p c.requires)
+    record {
+      f_value = end-some a.src.now a.notes.now a.l a.t a.p c.requires a.f c.if-c-eq0.false ∙ cond_yes _ _ (eq-eqb a.f.number 0 c.if-f-eq0.true);
+      kept_by = kept_same a.src.now a.notes.now a.l a.t a.p c.requires;
+    }
 
 pub returns : goal.returns
 returns c =
     let a = c.args in
-    (end-some a.src.now a.notes.now a.l a.t a.p c.requires a.f c.if-c-eq0.false ∙ cond_no _ _ (ne_eqb a.f.number 0 c.if-f-eq0.false), omega (arith, names-small a.t c.requires.within))
+    record {
+      f_value = end-some a.src.now a.notes.now a.l a.t a.p c.requires a.f c.if-c-eq0.false ∙ cond_no _ _ (ne_eqb a.f.number 0 c.if-f-eq0.false);
+      kept_by = omega (arith, names-small a.t c.requires.within);
+    }

@@ -6,22 +6,43 @@ use Rattle.noted_events.proofs.events.note_event.Goals as goal
 pub returns-in-Quiet : goal.returns-in-Quiet
 returns-in-Quiet c =
     let a = c.args in
-    (rw c.in-Quiet.is refl, kept_same a.src.now a.notes.now a.l a.t a.p c.requires)
+    record {
+      e_value = rw c.in-Quiet.is refl;
+      kept_by = kept_same a.src.now a.notes.now a.l a.t a.p c.requires;
+    }
 
 pub returns-in-Opened : goal.returns-in-Opened
-returns-in-Opened c = (rw c.in-Opened.is c.note_section.ensures.0, c.note_section.ensures.1)
+returns-in-Opened c = record {
+      e_value = rw c.in-Opened.is c.note_section.ensures.o_value;
+      kept_by = c.note_section.ensures.kept_by;
+    }
 
 pub returns-in-PinRow : goal.returns-in-PinRow
-returns-in-PinRow c = (rw c.in-PinRow.is c.note_pin.ensures.0, c.note_pin.ensures.1)
+returns-in-PinRow c = record {
+      e_value = rw c.in-PinRow.is c.note_pin.ensures.p_value;
+      kept_by = c.note_pin.ensures.kept_by;
+    }
 
 pub returns-in-ChoiceRow : goal.returns-in-ChoiceRow
-returns-in-ChoiceRow c = (rw c.in-ChoiceRow.is c.note_choice.ensures.0, c.note_choice.ensures.1)
+returns-in-ChoiceRow c = record {
+      e_value = rw c.in-ChoiceRow.is c.note_choice.ensures.p_value;
+      kept_by = c.note_choice.ensures.kept_by;
+    }
 
 pub returns-in-WaveformOpened : goal.returns-in-WaveformOpened
-returns-in-WaveformOpened c = (rw c.in-WaveformOpened.is c.count_waveform.ensures.0, c.count_waveform.ensures.1)
+returns-in-WaveformOpened c = record {
+      e_value = rw c.in-WaveformOpened.is c.count_waveform.ensures.p_value;
+      kept_by = c.count_waveform.ensures.kept_by;
+    }
 
 pub returns-in-TableRow : goal.returns-in-TableRow
-returns-in-TableRow c = (rw c.in-TableRow.is c.count_row.ensures.0, c.count_row.ensures.1)
+returns-in-TableRow c = record {
+      e_value = rw c.in-TableRow.is c.count_row.ensures.p_value;
+      kept_by = c.count_row.ensures.kept_by;
+    }
 
 pub returns-in-Ended : goal.returns-in-Ended
-returns-in-Ended c = (rw c.in-Ended.is c.end_file.ensures.0, c.end_file.ensures.1)
+returns-in-Ended c = record {
+      e_value = rw c.in-Ended.is c.end_file.ensures.f_value;
+      kept_by = c.end_file.ensures.kept_by;
+    }

@@ -14,7 +14,10 @@ section_note-x-requires c =
     let a = c.args in
     let r = c.requires in
     let d = c.argument_in-a in
-    (omega (arith, r.within.components, r.within.selectors, r.within.models), section-fits a.src.now a.notes.now a.l a.t a.p r d.result a.p.end a.t.counts.pins 0 d.ensures.from d.ensures.ends (omega arith) (omega (arith, r.within.pins)) (omega arith))
+    record {
+      models_bound = omega (arith, r.within.components, r.within.selectors, r.within.models);
+      section_fits = section-fits a.src.now a.notes.now a.l a.t a.p r d.result a.p.end a.t.counts.pins 0 d.ensures.from d.ensures.ends (omega arith) (omega (arith, r.within.pins)) (omega arith);
+    }
 
 pub section_note-x-requires-in-Selector : goal.section_note-x-requires-in-Selector
 section_note-x-requires-in-Selector c =
@@ -22,7 +25,10 @@ section_note-x-requires-in-Selector c =
     let r = c.requires in
     let d = c.argument_in-a in
     let w = c.first_in-w in
-    (omega (arith, r.within.components, r.within.selectors, r.within.models), section-fits a.src.now a.notes.now a.l a.t a.p r w.result.start w.result.end a.t.counts.choices 0 (omega (arith, d.ensures.from, w.ensures.from)) w.ensures.starts w.ensures.ends (omega (arith, r.within.choices)) (omega arith))
+    record {
+      models_bound = omega (arith, r.within.components, r.within.selectors, r.within.models);
+      section_fits = section-fits a.src.now a.notes.now a.l a.t a.p r w.result.start w.result.end a.t.counts.choices 0 (omega (arith, d.ensures.from, w.ensures.from)) w.ensures.starts w.ensures.ends (omega (arith, r.within.choices)) (omega arith);
+    }
 
 pub section_note-x-requires-in-Model : goal.section_note-x-requires-in-Model
 section_note-x-requires-in-Model c =
@@ -30,7 +36,10 @@ section_note-x-requires-in-Model c =
     let r = c.requires in
     let d = c.argument_in-a in
     let w = c.first_in-w in
-    (omega (arith, r.within.components, r.within.selectors, r.within.models), section-fits a.src.now a.notes.now a.l a.t a.p r w.result.start w.result.end a.t.counts.waveforms a.t.counts.rows (omega (arith, d.ensures.from, w.ensures.from)) w.ensures.starts w.ensures.ends (omega (arith, r.within.waveforms)) (omega (arith, r.rows, r.text.starts, r.text.fits, r.small)))
+    record {
+      models_bound = omega (arith, r.within.components, r.within.selectors, r.within.models);
+      section_fits = section-fits a.src.now a.notes.now a.l a.t a.p r w.result.start w.result.end a.t.counts.waveforms a.t.counts.rows (omega (arith, d.ensures.from, w.ensures.from)) w.ensures.starts w.ensures.ends (omega (arith, r.within.waveforms)) (omega (arith, r.rows, r.text.starts, r.text.fits, r.small));
+    }
 
 pub returns-in-Component : goal.returns-in-Component
 unfolding log_in
@@ -38,8 +47,8 @@ returns-in-Component c =
     let a = c.args in
     let argument = c.argument_in-a in
     let note = c.section_note-x in
-    rw c.in-Component.is
-    (told-section a.src.now a.notes.now a.l a.t a.p c.requires OfComponent argument.result a.p.end a.t.counts.pins 0 _ refl note.ensures.0 note.ensures.1 refl argument.ensures.text c.put_section.ensures c.count_name.ensures)
+    let old : _ × (_ = rw c.in-Component.is
+    (told-section a.src.now a.notes.now a.l a.t a.p c.requires OfComponent argument.result a.p.end a.t.counts.pins 0 _ refl note.ensures.0 note.ensures.1 refl argument.ensures.text c.put_section.ensures c.count_name.ensures) in record { o_value = old.0; kept_by = old.1; }
 
 pub returns-in-Selector : goal.returns-in-Selector
 unfolding log_in
@@ -48,8 +57,8 @@ returns-in-Selector c =
     let argument = c.argument_in-a in
     let w = c.first_in-w in
     let note = c.section_note-x-in-Selector in
-    rw c.in-Selector.is
-    (told-section a.src.now a.notes.now a.l a.t a.p c.requires OfSelector w.result.start w.result.end a.t.counts.choices 0 _ refl note.ensures.0 note.ensures.1 refl (w.ensures.text ∙ ap (λ (v : List ℕ). word 0 (words v)) argument.ensures.text) c.put_section-in-Selector.ensures c.count_name-in-Selector.ensures)
+    let old : _ × (_ = rw c.in-Selector.is
+    (told-section a.src.now a.notes.now a.l a.t a.p c.requires OfSelector w.result.start w.result.end a.t.counts.choices 0 _ refl note.ensures.0 note.ensures.1 refl (w.ensures.text ∙ ap (λ (v : List ℕ). word 0 (words v)) argument.ensures.text) c.put_section-in-Selector.ensures c.count_name-in-Selector.ensures) in record { o_value = old.0; kept_by = old.1; }
 
 pub returns-in-Model : goal.returns-in-Model
 unfolding log_in
@@ -58,5 +67,5 @@ returns-in-Model c =
     let argument = c.argument_in-a in
     let w = c.first_in-w in
     let note = c.section_note-x-in-Model in
-    rw c.in-Model.is
-    (told-section a.src.now a.notes.now a.l a.t a.p c.requires OfModel w.result.start w.result.end a.t.counts.waveforms a.t.counts.rows _ refl note.ensures.0 note.ensures.1 refl (w.ensures.text ∙ ap (λ (v : List ℕ). word 0 (words v)) argument.ensures.text) c.put_section-in-Model.ensures c.count_name-in-Model.ensures)
+    let old : _ × (_ = rw c.in-Model.is
+    (told-section a.src.now a.notes.now a.l a.t a.p c.requires OfModel w.result.start w.result.end a.t.counts.waveforms a.t.counts.rows _ refl note.ensures.0 note.ensures.1 refl (w.ensures.text ∙ ap (λ (v : List ℕ). word 0 (words v)) argument.ensures.text) c.put_section-in-Model.ensures c.count_name-in-Model.ensures) in record { o_value = old.0; kept_by = old.1; }

@@ -7,4 +7,4 @@ use Rattle.noted_events.proofs.events.section_note.Goals as goal
 pub returns : goal.returns
 returns c =
     let byte : c.args.p.next.comment < 256 = omega (arith, c.struct_known-1.given) in
-    (refl, c.requires.1 byte)
+    (refl, c.requires.section_fits byte)

@@ -7,9 +7,15 @@ use Rattle.olhovest.proofs.asked.olhovest_row_at.Goals as goal
 pub returns-in-Kept : goal.returns-in-Kept
 returns-in-Kept c =
     let is = sym c.in-Kept.is ∙ c.row_in.ensures in
-    (ap row_number is, c.row_words.ensures ∙ ap (λ (f : StoredRow). row_left f c.args.row.now) is)
+    record {
+      value = ap row_number is;
+      row_after = c.row_words.ensures ∙ ap (λ (f : StoredRow). row_left f c.args.row.now) is;
+    }
 
 pub returns-in-NoRow : goal.returns-in-NoRow
 returns-in-NoRow c =
     let is = sym c.in-NoRow.is ∙ c.row_in.ensures in
-    (ap row_number is, ap (λ (f : StoredRow). row_left f c.args.row.now) is)
+    record {
+      value = ap row_number is;
+      row_after = ap (λ (f : StoredRow). row_left f c.args.row.now) is;
+    }

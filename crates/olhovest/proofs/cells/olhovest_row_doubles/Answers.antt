@@ -8,16 +8,19 @@ use Rattle.olhovest.proofs.cells.olhovest_row_doubles.Goals as goal
 pub returns-in-Kept : goal.returns-in-Kept
 returns-in-Kept c =
     let is = sym c.in-Kept.is ∙ c.row_in.ensures in
-    let a = c.args in (
-      ap row_number is,
-      (
-        c.put_row.ensures.0 ∙ ap (λ (f : StoredRow). values_left f a.values.now) is,
-        c.put_row.ensures.1 ∙ ap (λ (f : StoredRow). answers_left f a.answers.now) is,
-      ),
-    )
+    let a = c.args in
+    record {
+      value = ap row_number is;
+      values_after = c.put_row.ensures.values_after ∙ ap (λ (f : StoredRow). values_left f a.values.now) is;
+      answers_after = c.put_row.ensures.answers_after ∙ ap (λ (f : StoredRow). answers_left f a.answers.now) is;
+    }
 
 pub returns-in-NoRow : goal.returns-in-NoRow
 returns-in-NoRow c =
     let is = sym c.in-NoRow.is ∙ c.row_in.ensures in
     let a = c.args in
-    (ap row_number is, (ap (λ (f : StoredRow). values_left f a.values.now) is, ap (λ (f : StoredRow). answers_left f a.answers.now) is))
+    record {
+      value = ap row_number is;
+      values_after = ap (λ (f : StoredRow). values_left f a.values.now) is;
+      answers_after = ap (λ (f : StoredRow). answers_left f a.answers.now) is;
+    }

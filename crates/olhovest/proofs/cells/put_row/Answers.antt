@@ -11,7 +11,8 @@ returns c =
     let number = b.before.before.before.double-of.ensures in
     let typ = b.before.before.double-of2.ensures in
     let min = b.before.double-of3.ensures in
-    let max = b.double-of4.ensures in (
-      rw (c.put_value-4.ensures, c.put_value-3.ensures, c.put_value-2.ensures, c.put_value.ensures, number, typ, min, max) refl,
-      rw (a.answer-number4.ensures, a.before.answer-number3.ensures, a.before.before.answer-number2.ensures, a.before.before.before.answer-number.ensures, number, typ, min, max) refl,
-    )
+    let max = b.double-of4.ensures in
+    record {
+      values_after = rw (c.put_value-4.ensures, c.put_value-3.ensures, c.put_value-2.ensures, c.put_value.ensures, number, typ, min, max) refl;
+      answers_after = rw (a.answer-number4.ensures, a.before.answer-number3.ensures, a.before.before.answer-number2.ensures, a.before.before.before.answer-number.ensures, number, typ, min, max) refl;
+    }

@@ -8,4 +8,4 @@ use Rattle.program_output.proofs.tables.used.Goals as goal
 pub returns : goal.returns
 returns c =
     let z : c.words_in-n.result - 0 ≡ c.words_in-n.result = omega arith in
-    ap (λ (n : ℕ). take n c.args.table.now) (z ∙ c.words_in-n.ensures.0)
+    ap (λ (n : ℕ). take n c.args.table.now) (z ∙ c.words_in-n.ensures.value)

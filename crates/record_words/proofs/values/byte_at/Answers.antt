@@ -7,4 +7,7 @@ pub overflow_cast-result : goal.overflow_cast-result
 overflow_cast-result c = omega (arith, c.type_inv.bytes c.args.i)
 
 pub returns : goal.returns
-returns c = (refl, omega (arith, c.type_inv.bytes c.args.i))
+returns c = record {
+      value = refl;
+      upper_bound = omega (arith, c.type_inv.bytes c.args.i);
+    }

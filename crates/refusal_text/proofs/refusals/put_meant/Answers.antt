@@ -14,7 +14,7 @@ returns-then-fault-eq0 c = put_as (line-none first_suggestion c.args.src.now c.a
 
 pub returns : goal.returns
 returns c =
-    let line = line-text first_suggestion c.args.src.now c.args.fault.line c.skip_lines-start.result (omega (arith, c.if-fault-eq0.false)) c.skip_lines-start.ensures.0 in
+    let line = line-text first_suggestion c.args.src.now c.args.fault.line c.skip_lines-start.result (omega (arith, c.if-fault-eq0.false)) c.skip_lines-start.ensures.value in
     put_as (line ∙ meant-slip c.args.src.now c.args.fault c.if-fault-ne21.false) c.put_first_suggestion.ensures
 
 pub shape_of-out-then-fault-ne21 : goal.shape_of-out-then-fault-ne21

@@ -17,7 +17,7 @@ returns c =
     let a = c.args in
     let m = a.model.now in
     let k = c.fill_table-filled.result.words / 4 in
-    current-filled c.fill_table-filled.ensures b (omega (arith, i, c.requires.0.1)) l w a.table m c.fill_span.new.model waves
+    current-filled c.fill_table-filled.ensures b (omega (arith, i, c.requires.placed.1)) l w a.table m c.fill_span.new.model waves
     (c.fill_span.ensures
-    ∙ ap (λ (n : ℕ). cond (eqb (get_or m n 0) 0) (sets m n (1 ∷ a.row ∷ k ∷ [])) m) c.table_from.ensures.0
+    ∙ ap (λ (n : ℕ). cond (eqb (get_or m n 0) 0) (sets m n (1 ∷ a.row ∷ k ∷ [])) m) c.table_from.ensures.value
     ∙ ap (λ (x : ℕ). cond (eqb (get_or m (table_from a.table) 0) 0) (sets m (table_from a.table) (1 ∷ x ∷ k ∷ [])) m) (sym i))

@@ -13,10 +13,17 @@ use Rattle.section_words.proofs.Written.{none_filled, lines-filled}
 use Rattle.section_words.proofs.keys.fill_part.Goals as goal
 
 pub fill_current-requires : goal.fill_current-requires
-fill_current-requires c = (c.requires.0, rw c.in-Current.is at c.requires.1.1)
+fill_current-requires c = record {
+      placed = c.requires.placed;
+      c_in_bounds = rw c.in-Current.is at c.requires.part_in_bounds;
+    }
 
 pub fill_wave-requires : goal.fill_wave-requires
-fill_wave-requires c = ((c.requires.0.0, c.requires.0.1), (rw c.in-Waveform.is at c.requires.1.0, rw c.in-Waveform.is at c.requires.1.1))
+fill_wave-requires c = record {
+      placed = (c.requires.placed.0, c.requires.placed.1);
+      waveform_size_in_bounds = rw c.in-Waveform.is at c.requires.row_in_bounds;
+      c_in_bounds = rw c.in-Waveform.is at c.requires.part_in_bounds;
+    }
 
 pub returns-in-VoltageRange : goal.returns-in-VoltageRange
 returns-in-VoltageRange c =
@@ -24,7 +31,7 @@ returns-in-VoltageRange c =
     let a = c.args in
     let w = a.argument.now in
     rw (c.no_tables.ensures, c.in-VoltageRange.is)
-    (none_filled a.src.now b a.argument.now a.c (InModel VoltageRange) a.model.now a.waveforms.now a.rows.now refl refl c.requires.0.0 (record { row = omega (arith, i, c.requires.0.1); waveforms = omega (arith, l) }) c.fill_voltage.new.model _ c.fill_voltage.ensures
+    (none_filled a.src.now b a.argument.now a.c (InModel VoltageRange) a.model.now a.waveforms.now a.rows.now refl refl c.requires.placed.0 (record { row = omega (arith, i, c.requires.placed.1); waveforms = omega (arith, l) }) c.fill_voltage.new.model _ c.fill_voltage.ensures
     (voltage-turns b (or_else no_cells (three_cells w)) w (under (rest a.src.now a.c)) 0 a.model.now))
 
 pub returns-in-TemperatureRange : goal.returns-in-TemperatureRange
@@ -33,7 +40,7 @@ returns-in-TemperatureRange c =
     let a = c.args in
     let w = a.argument.now in
     rw (c.no_tables-in-TemperatureRange.ensures, c.in-TemperatureRange.is)
-    (none_filled a.src.now b a.argument.now a.c (InModel TemperatureRange) a.model.now a.waveforms.now a.rows.now refl refl c.requires.0.0 (record { row = omega (arith, i, c.requires.0.1); waveforms = omega (arith, l) }) c.fill_temperature.new.model _ c.fill_temperature.ensures
+    (none_filled a.src.now b a.argument.now a.c (InModel TemperatureRange) a.model.now a.waveforms.now a.rows.now refl refl c.requires.placed.0 (record { row = omega (arith, i, c.requires.placed.1); waveforms = omega (arith, l) }) c.fill_temperature.new.model _ c.fill_temperature.ensures
     (temperature-turns b (or_else no_cells (three_cells w)) w (under (rest a.src.now a.c)) 0 a.model.now))
 
 pub returns-in-Current : goal.returns-in-Current
@@ -44,9 +51,9 @@ returns-in-Ramp c =
     λ b i l.
     let a = c.args in
     let w = a.argument.now in
-    let h = c.fill_ramp-next.ensures.1 in
+    let h = c.fill_ramp-next.ensures.stops_at in
     rw (c.no_tables-in-Ramp.ensures, c.in-Ramp.is)
-    (lines-filled a.src.now b a.argument.now a.c (InModel Ramp) a.model.now a.waveforms.now a.rows.now refl refl h (record { row = omega (arith, i, h.rises, c.requires.0.1); waveforms = omega (arith, l, h.rises) }) c.fill_ramp-next.new.model _ c.fill_ramp-next.ensures.0
+    (lines-filled a.src.now b a.argument.now a.c (InModel Ramp) a.model.now a.waveforms.now a.rows.now refl refl h (record { row = omega (arith, i, h.rises, c.requires.placed.1); waveforms = omega (arith, l, h.rises) }) c.fill_ramp-next.new.model _ c.fill_ramp-next.ensures.model_after
     (ramp-turns b (or_else no_cells (three_cells w)) w (under (rest a.src.now a.c)) 0 a.model.now))
 
 pub returns-in-Waveform : goal.returns-in-Waveform

@@ -12,5 +12,5 @@ pub returns : goal.returns
 returns c =
     λ b w model i l.
     let a = c.args in
-    wave-filled c.fill_waveform-read.ensures.1 b (omega (arith, i, c.requires.0.1)) l w a.edge model a.waveforms.now c.put.new.out c.waveform_words-waveform.result c.requires.1.0 c.put.ensures
-    (c.waveform_words-waveform.ensures ∙ ap waveform_words c.fill_waveform-read.ensures.0 ∙ ap (λ (row : ℕ). waveform_words (waveform_in row a.edge (under (rest a.src.now a.c)))) (sym i))
+    wave-filled c.fill_waveform-read.ensures.fill_is b (omega (arith, i, c.requires.placed.1)) l w a.edge model a.waveforms.now c.put.new.out c.waveform_words-waveform.result c.requires.waveform_size_in_bounds c.put.ensures
+    (c.waveform_words-waveform.ensures ∙ ap waveform_words c.fill_waveform-read.ensures.waveform_value ∙ ap (λ (row : ℕ). waveform_words (waveform_in row a.edge (under (rest a.src.now a.c)))) (sym i))

@@ -8,7 +8,7 @@ use Rattle.section_words.proofs.Fills.{fills-start, wave-room, place-fits, fille
 use Rattle.section_words.proofs.models.fill_body.Goals as goal
 
 pub loop-keyword-init : goal.loop-keyword-init
-loop-keyword-init c = fills-start _ _ _ _ _ _ c.requires.0.0 c.requires.0.1
+loop-keyword-init c = fills-start _ _ _ _ _ _ c.requires.placed.0 c.requires.placed.1
 
 pub next_key-requires : goal.next_key-requires
 next_key-requires c = c.loop-keyword.invariant.walks.placed
@@ -17,10 +17,10 @@ pub shape_of-model-then-ends : goal.shape_of-model-then-ends
 shape_of-model-then-ends c = c.loop-keyword.invariant.sized
 
 pub shape_of-waveforms-then-ends : goal.shape_of-waveforms-then-ends
-shape_of-waveforms-then-ends c = waves-length c.loop-keyword.invariant.walks c.requires.1.0 c.requires.1.1
+shape_of-waveforms-then-ends c = waves-length c.loop-keyword.invariant.walks c.requires.c_in_bounds c.requires.c_in_bounds_2
 
 pub shape_of-rows-then-ends : goal.shape_of-rows-then-ends
-shape_of-rows-then-ends c = rows-length c.loop-keyword.invariant.walks c.requires.1.0 c.requires.1.1
+shape_of-rows-then-ends c = rows-length c.loop-keyword.invariant.walks c.requires.c_in_bounds c.requires.c_in_bounds_2
 
 pub returns-then-ends : goal.returns-then-ends
 returns-then-ends c = fills-whole c.loop-keyword.invariant (walks-end c.loop-keyword.invariant.walks (key-found c.in-Key.is c.next_key.ensures) (sym c.ends.ensures ∙ c.if-ends.true))
@@ -28,32 +28,32 @@ returns-then-ends c = fills-whole c.loop-keyword.invariant (walks-end c.loop-key
 pub offset_bounds-waveforms-waves : goal.offset_bounds-waveforms-waves
 offset_bounds-waveforms-waves c =
     let l = key-found c.in-Key.is c.next_key.ensures in
-    omega (arith, waves-fit c.loop-keyword.invariant.walks c.requires.1.0 c.requires.1.1 l (sym c.ends.ensures ∙ c.if-ends.false), waves-length c.loop-keyword.invariant.walks c.requires.1.0 c.requires.1.1, c.well_formed)
+    omega (arith, waves-fit c.loop-keyword.invariant.walks c.requires.c_in_bounds c.requires.c_in_bounds_2 l (sym c.ends.ensures ∙ c.if-ends.false), waves-length c.loop-keyword.invariant.walks c.requires.c_in_bounds c.requires.c_in_bounds_2, c.well_formed)
 
 pub slice_bounds-fill_key-count : goal.slice_bounds-fill_key-count
 slice_bounds-fill_key-count c =
     let l = key-found c.in-Key.is c.next_key.ensures in
-    omega (arith, waves-fit c.loop-keyword.invariant.walks c.requires.1.0 c.requires.1.1 l (sym c.ends.ensures ∙ c.if-ends.false))
+    omega (arith, waves-fit c.loop-keyword.invariant.walks c.requires.c_in_bounds c.requires.c_in_bounds_2 l (sym c.ends.ensures ∙ c.if-ends.false))
 
 pub slice_bounds-fill_key-start : goal.slice_bounds-fill_key-start
 slice_bounds-fill_key-start c =
     let l = key-found c.in-Key.is c.next_key.ensures in
-    omega (arith, waves-fit c.loop-keyword.invariant.walks c.requires.1.0 c.requires.1.1 l (sym c.ends.ensures ∙ c.if-ends.false))
+    omega (arith, waves-fit c.loop-keyword.invariant.walks c.requires.c_in_bounds c.requires.c_in_bounds_2 l (sym c.ends.ensures ∙ c.if-ends.false))
 
 pub offset_bounds-rows-words : goal.offset_bounds-rows-words
 offset_bounds-rows-words c =
     let l = key-found c.in-Key.is c.next_key.ensures in
-    omega (arith, rows_fit c.loop-keyword.invariant.walks c.requires.1.0 c.requires.1.1 l (sym c.ends.ensures ∙ c.if-ends.false), rows-length c.loop-keyword.invariant.walks c.requires.1.0 c.requires.1.1, c.well_formed)
+    omega (arith, rows_fit c.loop-keyword.invariant.walks c.requires.c_in_bounds c.requires.c_in_bounds_2 l (sym c.ends.ensures ∙ c.if-ends.false), rows-length c.loop-keyword.invariant.walks c.requires.c_in_bounds c.requires.c_in_bounds_2, c.well_formed)
 
 pub slice_bounds-fill_key-count-in-Key : goal.slice_bounds-fill_key-count-in-Key
 slice_bounds-fill_key-count-in-Key c =
     let l = key-found c.in-Key.is c.next_key.ensures in
-    omega (arith, rows_fit c.loop-keyword.invariant.walks c.requires.1.0 c.requires.1.1 l (sym c.ends.ensures ∙ c.if-ends.false))
+    omega (arith, rows_fit c.loop-keyword.invariant.walks c.requires.c_in_bounds c.requires.c_in_bounds_2 l (sym c.ends.ensures ∙ c.if-ends.false))
 
 pub slice_bounds-fill_key-start-in-Key : goal.slice_bounds-fill_key-start-in-Key
 slice_bounds-fill_key-start-in-Key c =
     let l = key-found c.in-Key.is c.next_key.ensures in
-    omega (arith, rows_fit c.loop-keyword.invariant.walks c.requires.1.0 c.requires.1.1 l (sym c.ends.ensures ∙ c.if-ends.false))
+    omega (arith, rows_fit c.loop-keyword.invariant.walks c.requires.c_in_bounds c.requires.c_in_bounds_2 l (sym c.ends.ensures ∙ c.if-ends.false))
 
 pub slice_bounds-fill_key-count-in-Key-2 : goal.slice_bounds-fill_key-count-in-Key-2
 slice_bounds-fill_key-count-in-Key-2 c = omega (arith, (key-found c.in-Key.is c.next_key.ensures).starts)
@@ -68,7 +68,11 @@ pub fill_key-filled-requires : goal.fill_key-filled-requires
 fill_key-filled-requires c =
     let l = key-found c.in-Key.is c.next_key.ensures in
     let p = c.loop-keyword.invariant in
-    ((l.placed, place-fits p l (sym c.ends.ensures ∙ c.if-ends.false), omega (arith, p.sized, c.requires.0.2)), (rest-room c.loop-keyword.waveforms c.loop-keyword.waves _ (wave-room p l (sym c.ends.ensures ∙ c.if-ends.false) (waves-fit p.walks c.requires.1.0 c.requires.1.1 l (sym c.ends.ensures ∙ c.if-ends.false))), rest-room c.loop-keyword.rows c.loop-keyword.words _ (rows_fit p.walks c.requires.1.0 c.requires.1.1 l (sym c.ends.ensures ∙ c.if-ends.false))))
+    record {
+      placed = (l.placed, place-fits p l (sym c.ends.ensures ∙ c.if-ends.false), omega (arith, p.sized, c.requires.placed.2));
+      row_in_bounds = rest-room c.loop-keyword.waveforms c.loop-keyword.waves _ (wave-room p l (sym c.ends.ensures ∙ c.if-ends.false) (waves-fit p.walks c.requires.c_in_bounds c.requires.c_in_bounds_2 l (sym c.ends.ensures ∙ c.if-ends.false)));
+      k_in_bounds = rest-room c.loop-keyword.rows c.loop-keyword.words _ (rows_fit p.walks c.requires.c_in_bounds c.requires.c_in_bounds_2 l (sym c.ends.ensures ∙ c.if-ends.false));
+    }
 
 pub overflow_add-place : goal.overflow_add-place
 overflow_add-place c =
@@ -81,13 +85,13 @@ pub overflow_add-waves : goal.overflow_add-waves
 overflow_add-waves c =
     let l = key-found c.in-Key.is c.next_key.ensures in
     let p = c.loop-keyword.invariant in
-    omega (arith, waves-fit p.walks c.requires.1.0 c.requires.1.1 l (sym c.ends.ensures ∙ c.if-ends.false), (filled p l (sym c.ends.ensures ∙ c.if-ends.false) c.fill_key-filled.ensures).waveform.used, waves-length p.walks c.requires.1.0 c.requires.1.1, c.well_formed)
+    omega (arith, waves-fit p.walks c.requires.c_in_bounds c.requires.c_in_bounds_2 l (sym c.ends.ensures ∙ c.if-ends.false), (filled p l (sym c.ends.ensures ∙ c.if-ends.false) c.fill_key-filled.ensures).waveform.used, waves-length p.walks c.requires.c_in_bounds c.requires.c_in_bounds_2, c.well_formed)
 
 pub overflow_add-words : goal.overflow_add-words
 overflow_add-words c =
     let l = key-found c.in-Key.is c.next_key.ensures in
     let p = c.loop-keyword.invariant in
-    omega (arith, rows_fit p.walks c.requires.1.0 c.requires.1.1 l (sym c.ends.ensures ∙ c.if-ends.false), (filled p l (sym c.ends.ensures ∙ c.if-ends.false) c.fill_key-filled.ensures).rows.used, rows-length p.walks c.requires.1.0 c.requires.1.1, c.well_formed)
+    omega (arith, rows_fit p.walks c.requires.c_in_bounds c.requires.c_in_bounds_2 l (sym c.ends.ensures ∙ c.if-ends.false), (filled p l (sym c.ends.ensures ∙ c.if-ends.false) c.fill_key-filled.ensures).rows.used, rows-length p.walks c.requires.c_in_bounds c.requires.c_in_bounds_2, c.well_formed)
 
 pub loop-keyword-smaller : goal.loop-keyword-smaller
 loop-keyword-smaller c =
@@ -98,16 +102,16 @@ loop-keyword-smaller c =
 pub loop-keyword-preserved : goal.loop-keyword-preserved
 loop-keyword-preserved c =
     let l = key-found c.in-Key.is c.next_key.ensures in
-    fills-key c.loop-keyword.invariant l (sym c.ends.ensures ∙ c.if-ends.false) c.fill_key-filled.ensures c.requires.1.0 c.requires.1.1 refl refl c.model-1.given
+    fills-key c.loop-keyword.invariant l (sym c.ends.ensures ∙ c.if-ends.false) c.fill_key-filled.ensures c.requires.c_in_bounds c.requires.c_in_bounds_2 refl refl c.model-1.given
 
 pub shape_of-model-in-NoKey : goal.shape_of-model-in-NoKey
 shape_of-model-in-NoKey c = c.loop-keyword.invariant.sized
 
 pub shape_of-waveforms-in-NoKey : goal.shape_of-waveforms-in-NoKey
-shape_of-waveforms-in-NoKey c = waves-length c.loop-keyword.invariant.walks c.requires.1.0 c.requires.1.1
+shape_of-waveforms-in-NoKey c = waves-length c.loop-keyword.invariant.walks c.requires.c_in_bounds c.requires.c_in_bounds_2
 
 pub shape_of-rows-in-NoKey : goal.shape_of-rows-in-NoKey
-shape_of-rows-in-NoKey c = rows-length c.loop-keyword.invariant.walks c.requires.1.0 c.requires.1.1
+shape_of-rows-in-NoKey c = rows-length c.loop-keyword.invariant.walks c.requires.c_in_bounds c.requires.c_in_bounds_2
 
 pub returns-in-NoKey : goal.returns-in-NoKey
 returns-in-NoKey c = fills-whole c.loop-keyword.invariant (walks-out c.loop-keyword.invariant.walks (key-out _ _ c.in-NoKey.is c.next_key.ensures))

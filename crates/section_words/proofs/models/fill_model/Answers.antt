@@ -10,9 +10,13 @@ use Rattle.section_words.proofs.models.fill_model.Goals as goal
 
 pub fill_body-used-requires : goal.fill_body-used-requires
 fill_body-used-requires c =
-    let h = c.put_firsts-next.ensures.1 in
+    let h = c.put_firsts-next.ensures.stops_at in
     let p = c.requires in
-    ((h.placed, p.0.1, omega (arith, c.model-1.given, p.1.0)), (rw (waves-ahead h c.args.row) at p.1.1.0, rw (rows-ahead h c.args.row) at p.1.1.1))
+    record {
+      placed = (h.placed, p.0.1, omega (arith, c.model-1.given, p.1.0));
+      c_in_bounds = rw (waves-ahead h c.args.row) at p.1.1.0;
+      c_in_bounds_2 = rw (rows-ahead h c.args.row) at p.1.1.1;
+    }
 
 pub shape_of-model : goal.shape_of-model
 shape_of-model c = search (rules, c.model-2-1.given, c.model-1.given)
@@ -22,6 +26,11 @@ returns c =
     let a = c.args in
     let r = c.put_firsts-next.ensures in
     let f = c.fill_body-used.ensures in
-    let w = waves-ahead r.1 a.row in
-    let v = rows-ahead r.1 a.row in
-    (counted-lies a.src.now a.c a.section a.row a.start a.name.now a.model.now r.1 c.put_firsts-next.new.model c.fill_body-used.new.model r.0 f, (f.waveforms.store ∙ ap (over a.waveforms.now) (sym w), (f.rows.store ∙ ap (over a.rows.now) (sym v), (λ i. record { waveforms = (f.waveforms.used ∙ ap length (sym w)) i; rows = (f.rows.used ∙ ap length (sym v)) i }))))
+    let w = waves-ahead r.stops_at a.row in
+    let v = rows-ahead r.stops_at a.row in
+    record {
+      model_after = counted-lies a.src.now a.c a.section a.row a.start a.name.now a.model.now r.stops_at c.put_firsts-next.new.model c.fill_body-used.new.model r.model_after f;
+      waveforms_after = f.waveforms.store ∙ ap (over a.waveforms.now) (sym w);
+      rows_after = f.rows.store ∙ ap (over a.rows.now) (sym v);
+      value = (λ i. record { waveforms = (f.waveforms.used ∙ ap length (sym w)) i; rows = (f.rows.used ∙ ap length (sym v)) i });
+    }

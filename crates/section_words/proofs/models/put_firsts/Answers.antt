@@ -21,4 +21,7 @@ returns c =
     let is : c.model_over-bare.result ≡ listed =
     rw (c.model_over-bare.ensures, c.name_of.ensures, c.first_lines-first.ensures.lines, c.bare_body.ensures) (listed-bare a.section a.start a.name.now texts 0)
     in
-    (c.put_model.ensures ∙ ap (λ (m : Model). sets a.model.now 0 (model_words m)) is ∙ sets-front a.model.now (model_words listed) c.requires.1, c.first_lines-first.ensures.stops)
+    record {
+      model_after = c.put_model.ensures ∙ ap (λ (m : Model). sets a.model.now 0 (model_words m)) is ∙ sets-front a.model.now (model_words listed) c.requires.1;
+      stops_at = c.first_lines-first.ensures.stops;
+    }

@@ -11,10 +11,10 @@ use Rattle.table_rows.proofs.rows.fill_table.Goals as goal
 -- there is room for a row, and the store is as long as it was
 room : (c : goal.Then-row-eq0) → (c.loop-start.used + 4 ≤ length c.loop-start.rows) × (length c.loop-start.rows ≡ length c.args.rows.now)
 room c =
-    (fills-fit c.loop-start.invariant c.in-Line.is c.next_line.ensures c.row_words-row.ensures c.if-row-eq0.true c.requires.1, fills-length c.loop-start.invariant c.requires.1)
+    (fills-fit c.loop-start.invariant c.in-Line.is c.next_line.ensures c.row_words-row.ensures c.if-row-eq0.true c.requires.c_in_bounds, fills-length c.loop-start.invariant c.requires.c_in_bounds)
 
 pub loop-start-init : goal.loop-start-init
-loop-start-init c = fills-start _ _ _ c.requires.0
+loop-start-init c = fills-start _ _ _ c.requires.placed
 
 pub next_line-requires : goal.next_line-requires
 next_line-requires c = c.loop-start.invariant.gathers.along.placed
@@ -47,7 +47,7 @@ pub loop-start-smaller-then-row-eq0 : goal.loop-start-smaller-then-row-eq0
 loop-start-smaller-then-row-eq0 c = line-less c.loop-start.invariant.gathers c.in-Line.is c.next_line.ensures
 
 pub loop-start-preserved-then-row-eq0 : goal.loop-start-preserved-then-row-eq0
-loop-start-preserved-then-row-eq0 c = rw c.put_row.ensures (fills-row c.loop-start.invariant c.in-Line.is c.next_line.ensures c.row_words-row.ensures c.if-row-eq0.true c.requires.1)
+loop-start-preserved-then-row-eq0 c = rw c.put_row.ensures (fills-row c.loop-start.invariant c.in-Line.is c.next_line.ensures c.row_words-row.ensures c.if-row-eq0.true c.requires.c_in_bounds)
 
 pub loop-start-smaller : goal.loop-start-smaller
 loop-start-smaller c = line-less c.loop-start.invariant.gathers c.in-Line.is c.next_line.ensures
@@ -56,7 +56,7 @@ pub loop-start-preserved : goal.loop-start-preserved
 loop-start-preserved c = fills-none c.loop-start.invariant c.in-Line.is c.next_line.ensures c.row_words-row.ensures c.if-row-eq0.false
 
 pub shape_of-rows-in-NoLine : goal.shape_of-rows-in-NoLine
-shape_of-rows-in-NoLine c = fills-length c.loop-start.invariant c.requires.1
+shape_of-rows-in-NoLine c = fills-length c.loop-start.invariant c.requires.c_in_bounds
 
 pub returns-in-NoLine : goal.returns-in-NoLine
 returns-in-NoLine c = fills-end c.loop-start.invariant c.in-NoLine.is c.next_line.ensures

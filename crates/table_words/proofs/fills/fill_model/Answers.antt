@@ -20,9 +20,14 @@ fill_model-requires c =
     let h = c.section_noted-c.ensures in
     let row = c.section_word-row in
     let w : waveforms_behind row.result (rest s c.section_noted-c.result) ≡ waveform_words_at s ns f.args.i =
-    ap (λ (r : ℕ). waveforms_behind r (rest s c.section_noted-c.result)) row.ensures.0 ∙ waveforms-noted s ns f.args.i h
+    ap (λ (r : ℕ). waveforms_behind r (rest s c.section_noted-c.result)) row.ensures.value ∙ waveforms-noted s ns f.args.i h
     in
-    ((h.placed, omega (arith, row.ensures.1)), (f.requires.0, (rw w f.requires.1.0, rw (rows-noted s ns f.args.i h) f.requires.1.1)))
+    record {
+      placed = (h.placed, omega (arith, row.ensures.upper_bound));
+      model_size_in_bounds = f.requires.0;
+      c_in_bounds = rw w f.requires.1.0;
+      c_in_bounds_2 = rw (rows-noted s ns f.args.i h) f.requires.1.1;
+    }
 
 pub returns : goal.returns
 returns c =
@@ -36,7 +41,12 @@ returns c =
     let row = c.section_word-row in
     let section = c.place_noted-section in
     let name = c.name_noted in
-    let is = model-behind s ns a.i h section.ensures row.ensures.0 start.ensures.0 name.ensures in
-    let w : waveforms_behind row.result texts ≡ waveform_words_at s ns a.i = ap (λ (r : ℕ). waveforms_behind r texts) row.ensures.0 ∙ waveforms-noted s ns a.i h in
+    let is = model-behind s ns a.i h section.ensures row.ensures.value start.ensures.value name.ensures in
+    let w : waveforms_behind row.result texts ≡ waveform_words_at s ns a.i = ap (λ (r : ℕ). waveforms_behind r texts) row.ensures.value ∙ waveforms-noted s ns a.i h in
     let v = rows-noted s ns a.i h in
-    (f.0 ∙ ap (λ (m : Model). over a.model.now (model_words m)) is, (f.1.0 ∙ ap (over a.waveforms.now) w, (f.1.1.0 ∙ ap (over a.rows.now) v, f.1.1.1 ∙ (λ k. record { waveforms = length (w k); rows = length (v k) }))))
+    record {
+      model_after = f.model_after ∙ ap (λ (m : Model). over a.model.now (model_words m)) is;
+      waveforms_after = f.waveforms_after ∙ ap (over a.waveforms.now) w;
+      rows_after = f.rows_after ∙ ap (over a.rows.now) v;
+      value = f.value ∙ (λ k. record { waveforms = length (w k); rows = length (v k) });
+    }

@@ -23,4 +23,4 @@ returns c =
     c.list_model.ensures
     ∙ ap (λ (m : Model). over a.model.now (model_words m))
     (listed-behind section.result start.result name.result.now (rest s c.section_noted-c.result) row
-    ∙ ap listed_model (model-behind s ns a.i c.section_noted-c.ensures section.ensures refl start.ensures.0 name.ensures))
+    ∙ ap listed_model (model-behind s ns a.i c.section_noted-c.ensures section.ensures refl start.ensures.value name.ensures))

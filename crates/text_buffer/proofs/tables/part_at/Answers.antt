@@ -15,7 +15,7 @@ returns-then-left-eq0 c =
     let a = c.args in
     let l = c.loop-start in
     let f = c.find-end.ensures in
-    part-here a.table.now a.separator l.start _ c.loop-start-test.true f.0 a.place f.1.1
+    part-here a.table.now a.separator l.start _ c.loop-start-test.true f.value a.place f.lower_bound.1
     (ap (λ (n : ℕ). drop n (parts a.separator (drop l.start a.table.now))) (sym c.if-left-eq0.true) ∙ l.invariant.0)
     (ap (start_from a.separator a.table.now l.start) (sym c.if-left-eq0.true) ∙ l.invariant.1)
 
@@ -24,8 +24,8 @@ loop-start-preserved c =
     let a = c.args in
     let l = c.loop-start in
     let q : 0 < l.left = search rules in (
-      sym (parts-turn a.table.now a.separator l.start _ c.loop-start-test.true c.find-end.ensures.0 l.left q) ∙ l.invariant.0,
-      start-turn a.separator a.table.now l.start _ l.left c.find-end.ensures.0 q ∙ l.invariant.1,
+      sym (parts-turn a.table.now a.separator l.start _ c.loop-start-test.true c.find-end.ensures.value l.left q) ∙ l.invariant.0,
+      start-turn a.separator a.table.now l.start _ l.left c.find-end.ensures.value q ∙ l.invariant.1,
     )
 
 pub returns : goal.returns
