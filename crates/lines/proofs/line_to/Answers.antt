@@ -22,7 +22,7 @@ pub returns : goal.returns
 returns c =
     let s = c.args.s.now in
     let f = c.requires.stop_value in
-    let old : _ × (_ = ⊎_elim
+    let old : _ × _ = ⊎_elim
     (λ w. ((hands-other s _ _ f c.if-s-stop.false w.0.taken w.2.left).1, omega arith))
     (λ w. ((hands-empty s _ _ f c.if-s-stop.false w.left).1, omega arith))
     c.if-at-stop.branch in record { value = old.0; end_le_stop = old.1; }

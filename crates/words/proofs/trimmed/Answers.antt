@@ -24,6 +24,6 @@ loop-i-preserved c = (omega arith, c.loop-i.invariant.1 ∙ trim-more is_blank _
 
 pub returns : goal.returns
 returns c = record {
-      value = sym (ap length c.loop-i.invariant.1 ∙ trim-none is_blank _ _ c.loop-i-test.false);
-      upper_bound = c.loop-i.invariant.0;
-    }
+  value = sym (ap length c.loop-i.invariant.1 ∙ trim-none is_blank _ _ c.loop-i-test.false);
+  upper_bound = c.loop-i.invariant.0;
+}

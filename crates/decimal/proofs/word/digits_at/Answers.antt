@@ -23,9 +23,9 @@ loop-i-preserved c =
     let l = c.loop-i in
     let t = c.loop-i-test.true in
     elim c.match-byte.branch [
-      in-48 w ↦ rw (w.read-is, w.waiting-is) (passed-zero _ _ _ _ _ _ _ l.invariant t w.in-48.is)
-    | in-49-to-57 w ↦ rw (w.read-is, w.waiting-is)
-        (passed-digit _ _ _ _ _ _ _ l.invariant w.grow.result w.push-read.result t (omega (arith, w.in-49-to-57.in_default-own.rest.1)) (omega (arith, w.in-49-to-57.if-byte-lt58-own.true)) w.grow.ensures w.push-read.ensures)
+      | in-48 w ↦ rw (w.read-is, w.waiting-is) (passed-zero _ _ _ _ _ _ _ l.invariant t w.in-48.is)
+      | in-49-to-57 w ↦ rw (w.read-is, w.waiting-is)
+          (passed-digit _ _ _ _ _ _ _ l.invariant w.grow.result w.push-read.result t (omega (arith, w.in-49-to-57.in_default-own.rest.1)) (omega (arith, w.in-49-to-57.if-byte-lt58-own.true)) w.grow.ensures w.push-read.ensures)
     ]
 
 pub returns-after-loop-i : goal.returns-after-loop-i

@@ -13,6 +13,6 @@ pub returns : goal.returns
 returns c =
     let d = c.digits_at-whole in
     elim c.if-point-w.branch [
-      then-point-w+else-w-point-eq46 w ↦ mantissa-plain _ _ d.result d.ensures (places-none _ _ w.if-point-w.true w.if-w-point-eq46.false)
-    | else-point-w w ↦ mantissa-plain _ _ d.result d.ensures (places-end _ _ w.if-point-w.false)
+      | then-point-w+else-w-point-eq46 w ↦ mantissa-plain _ _ d.result d.ensures (places-none _ _ w.if-point-w.true w.if-w-point-eq46.false)
+      | else-point-w w ↦ mantissa-plain _ _ d.result d.ensures (places-end _ _ w.if-point-w.false)
     ]

@@ -23,6 +23,6 @@ pub returns : goal.returns
 returns c =
     let d = c.plain_at-whole in
     elim c.if-point-w.branch [
-      then-point-w+else-w-point-eq46 w ↦ short-plain _ _ c.requires.1 d.result d.ensures (places-none _ _ w.if-point-w.true w.if-w-point-eq46.false)
-    | else-point-w w ↦ short-plain _ _ c.requires.1 d.result d.ensures (places-end _ _ w.if-point-w.false)
+      | then-point-w+else-w-point-eq46 w ↦ short-plain _ _ c.requires.1 d.result d.ensures (places-none _ _ w.if-point-w.true w.if-w-point-eq46.false)
+      | else-point-w w ↦ short-plain _ _ c.requires.1 d.result d.ensures (places-end _ _ w.if-point-w.false)
     ]
