@@ -29,10 +29,10 @@ returns-in-Bad c =
     rw (sym a.before.before.double-of.ensures ∙ a.fault.given.1) c.put_number.ensures
 
 pub shape_of-out-in-Double : goal.shape_of-out-in-Double
-shape_of-out-in-Double c = put-kept (returns c)
+shape_of-out-in-Double c = put-kept (returns-in-Double c)
 
 pub shape_of-out-in-Missing : goal.shape_of-out-in-Missing
-shape_of-out-in-Missing c = put-kept (returns-2 c)
+shape_of-out-in-Missing c = put-kept (returns-in-Missing c)
 
 pub shape_of-out-in-Bad : goal.shape_of-out-in-Bad
-shape_of-out-in-Bad c = put-kept (returns-3 c)
+shape_of-out-in-Bad c = put-kept (returns-in-Bad c)

@@ -19,7 +19,7 @@ unfolding ramp_cells cell_lines
 returns c = rw c.if-ramp.false c.put_bytes.ensures
 
 pub shape_of-out-then-ramp : goal.shape_of-out-then-ramp
-shape_of-out-then-ramp c = put-kept (returns c)
+shape_of-out-then-ramp c = put-kept (returns-then-ramp c)
 
 pub shape_of-out : goal.shape_of-out
-shape_of-out c = put-kept (returns-2 c)
+shape_of-out c = put-kept (returns c)

@@ -15,7 +15,7 @@ returns-in-AtDie c =
     rw c.in-AtDie.is (put_then b.put-bytes.ensures a.put-bytes3.ensures)
 
 pub shape_of-out-in-AtPin : goal.shape_of-out-in-AtPin
-shape_of-out-in-AtPin c = put-kept (returns c)
+shape_of-out-in-AtPin c = put-kept (returns-in-AtPin c)
 
 pub shape_of-out-in-AtDie : goal.shape_of-out-in-AtDie
-shape_of-out-in-AtDie c = put-kept (returns-2 c)
+shape_of-out-in-AtDie c = put-kept (returns-in-AtDie c)

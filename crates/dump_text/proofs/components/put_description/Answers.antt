@@ -16,7 +16,7 @@ returns c =
     rw (ne_eqb c.args.words.len 0 c.if-words-eq0.false) (put_then b.put_byte.ensures a.put-words.ensures)
 
 pub shape_of-out-then-words-eq0 : goal.shape_of-out-then-words-eq0
-shape_of-out-then-words-eq0 c = put-kept (returns c)
+shape_of-out-then-words-eq0 c = put-kept (returns-then-words-eq0 c)
 
 pub shape_of-out : goal.shape_of-out
-shape_of-out c = put-kept (returns-2 c)
+shape_of-out c = put-kept (returns c)

@@ -15,7 +15,7 @@ returns c =
     rw c.if-range.false (put_then b.put-bytes.ensures a.put-bytes2.ensures)
 
 pub shape_of-out-then-range : goal.shape_of-out-then-range
-shape_of-out-then-range c = put-kept (returns c)
+shape_of-out-then-range c = put-kept (returns-then-range c)
 
 pub shape_of-out : goal.shape_of-out
-shape_of-out c = put-kept (returns-2 c)
+shape_of-out c = put-kept (returns c)
