@@ -4,11 +4,7 @@ use Rattle.dump_model_text.proofs.put_slope.Goals as goal
 
 pub returns-in-Ratio : goal.returns-in-Ratio
 returns-in-Ratio c =
-    let a = c.before.before in
-    let b = a.before.before.before.before in
-    let d = b.before.before.before.before in
-    let e = d.before.before.before.before in
-    rw c.in-Ratio.is (put_then (put_then (put_then e.put_byte.ensures d.put-decimal.ensures) b.put-byte2.ensures) a.put-decimal2.ensures)
+    rw c.in-Ratio.is (put_then (put_then (put_then c.put_byte-space.ensures c.put_decimal-above.ensures) c.put_byte-bar.ensures) c.put_decimal.ensures)
 
 pub returns-in-Absent : goal.returns-in-Absent
 returns-in-Absent c = rw c.in-Absent.is c.put_bytes.ensures
