@@ -33,10 +33,10 @@ returns c =
     rw (ne_eqb args.d.digits 0 zero.if1.false) rw (le-ltb args.d.power args.unit large.if2.false) (put_then d.put-sign.ensures (put_then b.put-number.ensures a.put-repeated.ensures))
 
 pub shape_of-out-then-d-eq0 : goal.shape_of-out-then-d-eq0
-shape_of-out-then-d-eq0 c = put-kept (returns c)
+shape_of-out-then-d-eq0 c = put-kept (returns-then-d-eq0 c)
 
 pub shape_of-out-then-d-unit : goal.shape_of-out-then-d-unit
-shape_of-out-then-d-unit c = put-kept (returns-2 c)
+shape_of-out-then-d-unit c = put-kept (returns-then-d-unit c)
 
 pub shape_of-out : goal.shape_of-out
-shape_of-out c = put-kept (returns-3 c)
+shape_of-out c = put-kept (returns c)
