@@ -12,10 +12,10 @@ pub returns-in-ActiveLow : goal.returns-in-ActiveLow
 returns-in-ActiveLow c = rw c.in-ActiveLow.is c.put_bytes-in-ActiveLow.ensures
 
 pub shape_of-out-in-NoEnable : goal.shape_of-out-in-NoEnable
-shape_of-out-in-NoEnable c = put-kept (returns c)
+shape_of-out-in-NoEnable c = put-kept (returns-in-NoEnable c)
 
 pub shape_of-out-in-ActiveHigh : goal.shape_of-out-in-ActiveHigh
-shape_of-out-in-ActiveHigh c = put-kept (returns-2 c)
+shape_of-out-in-ActiveHigh c = put-kept (returns-in-ActiveHigh c)
 
 pub shape_of-out-in-ActiveLow : goal.shape_of-out-in-ActiveLow
-shape_of-out-in-ActiveLow c = put-kept (returns-3 c)
+shape_of-out-in-ActiveLow c = put-kept (returns-in-ActiveLow c)

@@ -6,13 +6,7 @@ use Rattle.dump_model_text.proofs.fixture_lines.Goals as goal
 pub returns : goal.returns
 unfolding fixture_lines
 returns c =
-    let a = c.before.before in
-    let b = a.before.before.before.before.before in
-    let d = b.before.before.before.before.before in
-    let e = d.before.before.before.before.before in
-    let f = e.before.before.before.before.before in
-    let g = f.before.before.before.before.before in
-    put_then (put_then (put_then (put_then (put_then g.cell-line.ensures f.cell-line2.ensures) e.cell-line3.ensures) d.cell-line4.ensures) b.cell-line5.ensures) a.cell-line6.ensures
+    put_then (put_then (put_then (put_then (put_then c.cell_line-first.ensures c.cell_line-second.ensures) c.cell_line-third.ensures) c.cell_line-fourth.ensures) c.cell_line-fifth.ensures) c.cell_line.ensures
 
 pub shape_of-out : goal.shape_of-out
 shape_of-out c = put-kept (returns c)

@@ -6,12 +6,7 @@ use Rattle.dump_model_text.proofs.head_lines.Goals as goal
 pub returns : goal.returns
 unfolding head_lines
 returns c =
-    let a = c.before.before in
-    let b = a.before.before.before.before.before in
-    let d = b.before.before.before.before in
-    let e = d.before.before.before.before in
-    let f = e.before.before.before.before in
-    put_then (put_then (put_then (put_then f.section-line.ensures e.type-line.ensures) d.polarity-line.ensures) b.enable-line.ensures) a.triple-line.ensures
+    put_then (put_then (put_then (put_then c.section_line-first.ensures c.type_line-second.ensures) c.polarity_line-third.ensures) c.enable_line-fourth.ensures) c.triple_line.ensures
 
 pub shape_of-out : goal.shape_of-out
 shape_of-out c = put-kept (returns c)

@@ -12,10 +12,10 @@ pub returns-in-NonInverting : goal.returns-in-NonInverting
 returns-in-NonInverting c = rw c.in-NonInverting.is c.put_bytes-in-NonInverting.ensures
 
 pub shape_of-out-in-NoPolarity : goal.shape_of-out-in-NoPolarity
-shape_of-out-in-NoPolarity c = put-kept (returns c)
+shape_of-out-in-NoPolarity c = put-kept (returns-in-NoPolarity c)
 
 pub shape_of-out-in-Inverting : goal.shape_of-out-in-Inverting
-shape_of-out-in-Inverting c = put-kept (returns-2 c)
+shape_of-out-in-Inverting c = put-kept (returns-in-Inverting c)
 
 pub shape_of-out-in-NonInverting : goal.shape_of-out-in-NonInverting
-shape_of-out-in-NonInverting c = put-kept (returns-3 c)
+shape_of-out-in-NonInverting c = put-kept (returns-in-NonInverting c)

@@ -9,7 +9,7 @@ pub returns-in-Falling : goal.returns-in-Falling
 returns-in-Falling c = rw c.in-Falling.is c.put_bytes-in-Falling.ensures
 
 pub shape_of-out-in-Rising : goal.shape_of-out-in-Rising
-shape_of-out-in-Rising c = put-kept (returns c)
+shape_of-out-in-Rising c = put-kept (returns-in-Rising c)
 
 pub shape_of-out-in-Falling : goal.shape_of-out-in-Falling
-shape_of-out-in-Falling c = put-kept (returns-2 c)
+shape_of-out-in-Falling c = put-kept (returns-in-Falling c)

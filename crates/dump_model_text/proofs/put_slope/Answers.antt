@@ -4,17 +4,13 @@ use Rattle.dump_model_text.proofs.put_slope.Goals as goal
 
 pub returns-in-Ratio : goal.returns-in-Ratio
 returns-in-Ratio c =
-    let a = c.before.before in
-    let b = a.before.before.before.before in
-    let d = b.before.before.before.before in
-    let e = d.before.before.before.before in
-    rw c.in-Ratio.is (put_then (put_then (put_then e.put_byte.ensures d.put-decimal.ensures) b.put-byte2.ensures) a.put-decimal2.ensures)
+    rw c.in-Ratio.is (put_then (put_then (put_then c.put_byte-space.ensures c.put_decimal-above.ensures) c.put_byte-bar.ensures) c.put_decimal.ensures)
 
 pub returns-in-Absent : goal.returns-in-Absent
 returns-in-Absent c = rw c.in-Absent.is c.put_bytes.ensures
 
 pub shape_of-out-in-Ratio : goal.shape_of-out-in-Ratio
-shape_of-out-in-Ratio c = put-kept (returns c)
+shape_of-out-in-Ratio c = put-kept (returns-in-Ratio c)
 
 pub shape_of-out-in-Absent : goal.shape_of-out-in-Absent
-shape_of-out-in-Absent c = put-kept (returns-2 c)
+shape_of-out-in-Absent c = put-kept (returns-in-Absent c)

@@ -12,7 +12,7 @@ unfolding table_text
 returns c = rw c.if-table.false c.put_bytes.ensures
 
 pub shape_of-out-then-table : goal.shape_of-out-then-table
-shape_of-out-then-table c = put-kept (returns c)
+shape_of-out-then-table c = put-kept (returns-then-table c)
 
 pub shape_of-out : goal.shape_of-out
-shape_of-out c = put-kept (returns-2 c)
+shape_of-out c = put-kept (returns c)

@@ -6,18 +6,14 @@ use Rattle.dump_model_text.proofs.ramp_lines.Goals as goal
 pub returns-then-ramp : goal.returns-then-ramp
 unfolding ramp_dump
 returns-then-ramp c =
-    let a = c.before.before in
-    let b = a.before.before.before.before.before in
-    let d = b.before.before.before.before.before in
-    let e = d.before.before.before.before.before in
-    rw c.if-ramp.true (put_then (put_then (put_then e.put-bytes.ensures d.slopes-line.ensures) b.slopes-line2.ensures) a.cell-line.ensures)
+    rw c.if-ramp.true (put_then (put_then (put_then c.put_bytes-first.ensures c.slopes_line-rise.ensures) c.slopes_line-fall.ensures) c.cell_line.ensures)
 
 pub returns : goal.returns
 unfolding ramp_dump
 returns c = rw c.if-ramp.false c.put_bytes.ensures
 
 pub shape_of-out-then-ramp : goal.shape_of-out-then-ramp
-shape_of-out-then-ramp c = put-kept (returns c)
+shape_of-out-then-ramp c = put-kept (returns-then-ramp c)
 
 pub shape_of-out : goal.shape_of-out
-shape_of-out c = put-kept (returns-2 c)
+shape_of-out c = put-kept (returns c)

@@ -6,9 +6,7 @@ use Rattle.dump_model_text.proofs.range_lines.Goals as goal
 pub returns : goal.returns
 unfolding range_lines
 returns c =
-    let a = c.before.before in
-    let b = a.before.before.before.before.before in
-    put_then b.triple-line.ensures a.range-line.ensures
+    put_then c.triple_line-voltage.ensures c.range_line.ensures
 
 pub shape_of-out : goal.shape_of-out
 shape_of-out c = put-kept (returns c)

@@ -6,13 +6,7 @@ use Rattle.dump_model_text.proofs.row_line.Goals as goal
 pub returns : goal.returns
 unfolding row_dump
 returns c =
-    let a = c.before.before in
-    let b = a.before.before.before.before in
-    let d = b.before.before.before.before in
-    let e = d.before.before.before.before in
-    let f = e.before.before.before.before in
-    let g = f.before.before.before.before in
-    put_then (put_then (put_then (put_then (put_then g.put-bytes.ensures f.put_word.ensures) e.put-word2.ensures) d.put-word3.ensures) b.put-word4.ensures) a.put_byte.ensures
+    put_then (put_then (put_then (put_then (put_then c.put_bytes-kind.ensures c.put_word-first.ensures) c.put_word-second.ensures) c.put_word-third.ensures) c.put_word-fourth.ensures) c.put_byte.ensures
 
 pub shape_of-out : goal.shape_of-out
 shape_of-out c = put-kept (returns c)

@@ -6,11 +6,7 @@ use Rattle.dump_model_text.proofs.split_lines.Goals as goal
 pub returns : goal.returns
 unfolding split_lines
 returns c =
-    let a = c.before.before in
-    let b = a.before.before.before.before.before in
-    let d = b.before.before.before.before.before in
-    let e = d.before.before.before.before.before in
-    put_then (put_then (put_then e.range-line.ensures d.range-line2.ensures) b.range-line3.ensures) a.range-line4.ensures
+    put_then (put_then (put_then c.range_line-first.ensures c.range_line-second.ensures) c.range_line-third.ensures) c.range_line.ensures
 
 pub shape_of-out : goal.shape_of-out
 shape_of-out c = put-kept (returns c)

@@ -13,11 +13,11 @@ unfolding words grown onto_word is_blank hierarchy spelled
 returns-in-At c = put_as (ap asked (sym c.in-At.is ∙ c.nearest.ensures)) c.put_question.ensures
 
 pub shape_of-out-in-At : goal.shape_of-out-in-At
-shape_of-out-in-At c = put-kept (returns c)
+shape_of-out-in-At c = put-kept (returns-in-At c)
 
 pub returns-in-Nothing : goal.returns-in-Nothing
 unfolding words grown onto_word is_blank hierarchy spelled
 returns-in-Nothing c = put_as (ap asked (sym c.in-Nothing.is ∙ c.nearest.ensures)) c.put_bytes.ensures
 
 pub shape_of-out-in-Nothing : goal.shape_of-out-in-Nothing
-shape_of-out-in-Nothing c = put-kept (returns-2 c)
+shape_of-out-in-Nothing c = put-kept (returns-in-Nothing c)

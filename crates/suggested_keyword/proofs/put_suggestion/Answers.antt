@@ -10,7 +10,7 @@ returns-then-line-eq0 c =
     put_as (suggested line line (inside-none line c.if-line-eq0.true)) c.put_nearest.ensures
 
 pub shape_of-out-then-line-eq0 : goal.shape_of-out-then-line-eq0
-shape_of-out-then-line-eq0 c = put-kept (returns c)
+shape_of-out-then-line-eq0 c = put-kept (returns-then-line-eq0 c)
 
 pub returns : goal.returns
 returns c =
@@ -18,4 +18,4 @@ returns c =
     put_as (suggested line _ (inside-at line _ c.find-stop.ensures.value)) c.put_nearest-2.ensures
 
 pub shape_of-out : goal.shape_of-out
-shape_of-out c = put-kept (returns-2 c)
+shape_of-out c = put-kept (returns c)

@@ -7,32 +7,25 @@ use Rattle.double_text.proofs.cells.put_double.Goals as goal
 
 pub float_to_bits-x : goal.float_to_bits-x
 float_to_bits-x c =
-    let a = c.before.before in
-    let b = a.before.before.before in
-    double-number _ _ (sym b.before.before.double-of.ensures ∙ b.read.given.1 ∙ ap Read a.read2.given.1)
+    double-number _ _ (sym c.double_of.ensures ∙ c.in-Read.is ∙ ap Read c.in-Double.is)
 
 pub returns-in-Double : goal.returns-in-Double
 returns-in-Double c =
-    let a = c.before.before.before.before.before in
-    let b = a.before.before.before in
-    rw (sym b.before.before.double-of.ensures ∙ b.read.given.1 ∙ ap Read a.read2.given.1) c.put_hexadecimal.ensures
+    rw (sym c.double_of.ensures ∙ c.in-Read.is ∙ ap Read c.in-Double.is) c.put_hexadecimal.ensures
 
 pub returns-in-Missing : goal.returns-in-Missing
 returns-in-Missing c =
-    let a = c.before.before.before.before.before in
-    let b = a.before.before.before in
-    rw (sym b.before.before.double-of.ensures ∙ b.read.given.1 ∙ ap Read a.enum_told.given.1) c.put_bytes.ensures
+    rw (sym c.double_of.ensures ∙ c.in-Read.is ∙ ap Read c.in-Missing.is) c.put_bytes.ensures
 
 pub returns-in-Bad : goal.returns-in-Bad
 returns-in-Bad c =
-    let a = c.before.before.before.before.before in
-    rw (sym a.before.before.double-of.ensures ∙ a.fault.given.1) c.put_number.ensures
+    rw (sym c.double_of.ensures ∙ c.in-Bad.is) c.put_number.ensures
 
 pub shape_of-out-in-Double : goal.shape_of-out-in-Double
-shape_of-out-in-Double c = put-kept (returns c)
+shape_of-out-in-Double c = put-kept (returns-in-Double c)
 
 pub shape_of-out-in-Missing : goal.shape_of-out-in-Missing
-shape_of-out-in-Missing c = put-kept (returns-2 c)
+shape_of-out-in-Missing c = put-kept (returns-in-Missing c)
 
 pub shape_of-out-in-Bad : goal.shape_of-out-in-Bad
-shape_of-out-in-Bad c = put-kept (returns-3 c)
+shape_of-out-in-Bad c = put-kept (returns-in-Bad c)

@@ -11,7 +11,7 @@ unfolding cell_lines
 returns c = rw c.if-range.false c.put_bytes.ensures
 
 pub shape_of-out-then-range : goal.shape_of-out-then-range
-shape_of-out-then-range c = put-kept (returns c)
+shape_of-out-then-range c = put-kept (returns-then-range c)
 
 pub shape_of-out : goal.shape_of-out
-shape_of-out c = put-kept (returns-2 c)
+shape_of-out c = put-kept (returns c)

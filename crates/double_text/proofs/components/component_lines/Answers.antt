@@ -7,10 +7,7 @@ use Rattle.double_text.proofs.components.component_lines.Goals as goal
 pub returns : goal.returns
 unfolding component_cells
 returns c =
-    let a = c.before.before in
-    let b = a.before.before.before.before in
-    let d = b.before.before.before.before in
-    put-so (put_then (put_then d.triple-lines.ensures b.triple-lines2.ensures) a.triple-lines3.ensures) (simp (lines-append))
+    put-so (put_then (put_then c.triple_lines-resistance.ensures c.triple_lines-inductance.ensures) c.triple_lines.ensures) (simp (lines-append))
 
 pub shape_of-out : goal.shape_of-out
 shape_of-out c = put-kept (returns c)

@@ -8,10 +8,7 @@ use Rattle.double_text.proofs.models.device_lines.Goals as goal
 pub returns : goal.returns
 unfolding device_cells cell_lines
 returns c =
-    let a = c.before.before in
-    let b = a.before.before.before.before in
-    let d = b.before.before.before.before in
-    put-so (put_then (put_then d.double-line.ensures b.double-line2.ensures) a.double-line3.ensures) (simp (append_assoc, append-nil))
+    put-so (put_then (put_then c.double_line-first.ensures c.double_line-second.ensures) c.double_line.ensures) (simp (append_assoc, append-nil))
 
 pub shape_of-out : goal.shape_of-out
 shape_of-out c = put-kept (returns c)

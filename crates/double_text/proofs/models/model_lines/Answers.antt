@@ -7,12 +7,7 @@ use Rattle.double_text.proofs.models.model_lines.Goals as goal
 pub returns : goal.returns
 unfolding model_cells
 returns c =
-    let a = c.before.before in
-    let b = a.before.before.before.before in
-    let d = b.before.before.before.before in
-    let e = d.before.before.before.before in
-    let f = e.before.before.before.before in
-    put-so (put_then (put_then (put_then (put_then f.triple-lines.ensures e.split-lines.ensures) d.level-lines.ensures) b.triple-lines2.ensures) a.range-lines.ensures) (simp (lines-append))
+    put-so (put_then (put_then (put_then (put_then c.triple_lines-comp.ensures c.split_lines-split.ensures) c.level_lines-levels.ensures) c.triple_lines-voltage.ensures) c.range_lines.ensures) (simp (lines-append))
 
 pub shape_of-out : goal.shape_of-out
 shape_of-out c = put-kept (returns c)

@@ -9,17 +9,14 @@ use Rattle.double_text.proofs.models.ramp_lines.Goals as goal
 pub returns-then-ramp : goal.returns-then-ramp
 unfolding ramp_cells cell_lines
 returns-then-ramp c =
-    let a = c.before.before in
-    let b = a.before.before.before.before in
-    let d = b.before.before.before.before in
-    rw d.before.before.if1.true (put-so (put_then (put_then d.slopes-lines.ensures b.slopes-lines2.ensures) a.double-line.ensures) (simp (lines-append, append-nil)))
+    rw c.if-ramp.true (put-so (put_then (put_then c.slopes_lines-rise.ensures c.slopes_lines-fall.ensures) c.double_line.ensures) (simp (lines-append, append-nil)))
 
 pub returns : goal.returns
 unfolding ramp_cells cell_lines
 returns c = rw c.if-ramp.false c.put_bytes.ensures
 
 pub shape_of-out-then-ramp : goal.shape_of-out-then-ramp
-shape_of-out-then-ramp c = put-kept (returns c)
+shape_of-out-then-ramp c = put-kept (returns-then-ramp c)
 
 pub shape_of-out : goal.shape_of-out
-shape_of-out c = put-kept (returns-2 c)
+shape_of-out c = put-kept (returns c)

@@ -13,7 +13,7 @@ unfolding cell_lines
 returns-in-Absent c = rw c.in-Absent.is (put-so c.double_line-in-Absent.ensures (simp (append-nil)))
 
 pub shape_of-out-in-Ratio : goal.shape_of-out-in-Ratio
-shape_of-out-in-Ratio c = put-kept (returns c)
+shape_of-out-in-Ratio c = put-kept (returns-in-Ratio c)
 
 pub shape_of-out-in-Absent : goal.shape_of-out-in-Absent
-shape_of-out-in-Absent c = put-kept (returns-2 c)
+shape_of-out-in-Absent c = put-kept (returns-in-Absent c)

@@ -7,10 +7,7 @@ use Rattle.double_text.proofs.models.slopes_lines.Goals as goal
 pub returns : goal.returns
 unfolding slopes_cells
 returns c =
-    let a = c.before.before in
-    let b = a.before.before.before.before in
-    let d = b.before.before.before.before in
-    put-so (put_then (put_then d.slope-lines.ensures b.slope-lines2.ensures) a.slope-lines3.ensures) (simp (lines-append))
+    put-so (put_then (put_then c.slope_lines-first.ensures c.slope_lines-second.ensures) c.slope_lines.ensures) (simp (lines-append))
 
 pub shape_of-out : goal.shape_of-out
 shape_of-out c = put-kept (returns c)

@@ -7,11 +7,7 @@ use Rattle.double_text.proofs.models.split_lines.Goals as goal
 pub returns : goal.returns
 unfolding split_cells
 returns c =
-    let a = c.before.before in
-    let b = a.before.before.before.before in
-    let d = b.before.before.before.before in
-    let e = d.before.before.before.before in
-    put-so (put_then (put_then (put_then e.range-lines.ensures d.range-lines2.ensures) b.range-lines3.ensures) a.range-lines4.ensures) (simp (lines-append))
+    put-so (put_then (put_then (put_then c.range_lines-pullup.ensures c.range_lines-pulldown.ensures) c.range_lines-power.ensures) c.range_lines.ensures) (simp (lines-append))
 
 pub shape_of-out : goal.shape_of-out
 shape_of-out c = put-kept (returns c)

@@ -7,9 +7,7 @@ use Rattle.double_text.proofs.models.waveform_lines.Goals as goal
 pub returns : goal.returns
 unfolding waveform_cells
 returns c =
-    let a = c.before.before in
-    let b = a.before.before.before.before in
-    put-so (put_then b.fixture-lines.ensures a.device-lines.ensures) (simp (lines-append))
+    put-so (put_then c.fixture_lines-fixtures.ensures c.device_lines.ensures) (simp (lines-append))
 
 pub shape_of-out : goal.shape_of-out
 shape_of-out c = put-kept (returns c)

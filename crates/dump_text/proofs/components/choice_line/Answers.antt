@@ -6,11 +6,7 @@ use Rattle.dump_text.proofs.components.choice_line.Goals as goal
 pub returns : goal.returns
 unfolding choice_line
 returns c =
-    let a = c.before.before in
-    let b = a.before.before.before.before in
-    let d = b.before.before.before.before in
-    let e = d.before.before.before.before in
-    put_then (put_then (put_then e.put-bytes.ensures d.put-name.ensures) b.put-description.ensures) a.put_byte.ensures
+    put_then (put_then (put_then c.put_bytes-kind.ensures c.put_name-model.ensures) c.put_description-described.ensures) c.put_byte.ensures
 
 pub shape_of-out : goal.shape_of-out
 shape_of-out c = put-kept (returns c)

@@ -6,12 +6,7 @@ use Rattle.dump_text.proofs.components.component_lines.Goals as goal
 pub returns : goal.returns
 unfolding component_dump
 returns c =
-    let a = c.before.before in
-    let b = a.before.before.before.before.before in
-    let d = b.before.before.before.before in
-    let e = d.before.before.before.before.before in
-    let f = e.before.before.before.before in
-    put_then (put_then (put_then (put_then f.section-line.ensures e.place-lines.ensures) d.name-line.ensures) b.package-lines.ensures) a.count-line.ensures
+    put_then (put_then (put_then (put_then c.section_line-first.ensures c.place_lines-places.ensures) c.name_line-maker.ensures) c.package_lines-package.ensures) c.count_line.ensures
 
 pub shape_of-out : goal.shape_of-out
 shape_of-out c = put-kept (returns c)

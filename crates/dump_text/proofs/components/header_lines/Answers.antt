@@ -6,9 +6,7 @@ use Rattle.dump_text.proofs.components.header_lines.Goals as goal
 pub returns : goal.returns
 unfolding header_lines
 returns c =
-    let a = c.before.before in
-    let b = a.before.before.before.before.before in
-    put_then b.words-line.ensures a.words-line2.ensures
+    put_then c.words_line-name.ensures c.words_line.ensures
 
 pub shape_of-out : goal.shape_of-out
 shape_of-out c = put-kept (returns c)

@@ -4,18 +4,14 @@ use Rattle.dump_text.proofs.components.location_line.Goals as goal
 
 pub returns-in-AtPin : goal.returns-in-AtPin
 returns-in-AtPin c =
-    let a = c.before.before in
-    let b = a.before.before.before.before.before.before.before in
-    rw c.in-AtPin.is (put_then b.put-bytes.ensures a.put-bytes2.ensures)
+    rw c.in-AtPin.is (put_then c.put_bytes-named.ensures c.put_bytes.ensures)
 
 pub returns-in-AtDie : goal.returns-in-AtDie
 returns-in-AtDie c =
-    let a = c.before.before in
-    let b = a.before.before.before.before.before.before.before in
-    rw c.in-AtDie.is (put_then b.put-bytes.ensures a.put-bytes3.ensures)
+    rw c.in-AtDie.is (put_then c.put_bytes-named.ensures c.put_bytes-in-AtDie.ensures)
 
 pub shape_of-out-in-AtPin : goal.shape_of-out-in-AtPin
-shape_of-out-in-AtPin c = put-kept (returns c)
+shape_of-out-in-AtPin c = put-kept (returns-in-AtPin c)
 
 pub shape_of-out-in-AtDie : goal.shape_of-out-in-AtDie
-shape_of-out-in-AtDie c = put-kept (returns-2 c)
+shape_of-out-in-AtDie c = put-kept (returns-in-AtDie c)

@@ -6,9 +6,7 @@ use Rattle.dump_text.proofs.components.place_lines.Goals as goal
 pub returns : goal.returns
 unfolding place_lines
 returns c =
-    let a = c.before.before in
-    let b = a.before.before.before.before.before in
-    put_then b.location-line.ensures a.location-line2.ensures
+    put_then c.location_line-first.ensures c.location_line.ensures
 
 pub shape_of-out : goal.shape_of-out
 shape_of-out c = put-kept (returns c)

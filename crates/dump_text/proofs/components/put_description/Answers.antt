@@ -11,12 +11,10 @@ returns-then-words-eq0 c = rw (eq-eqb c.args.words.len 0 c.if-words-eq0.true) c.
 pub returns : goal.returns
 unfolding description_text
 returns c =
-    let a = c.before.before in
-    let b = a.before.before.before.before in
-    rw (ne_eqb c.args.words.len 0 c.if-words-eq0.false) (put_then b.put_byte.ensures a.put-words.ensures)
+    rw (ne_eqb c.args.words.len 0 c.if-words-eq0.false) (put_then c.put_byte-space.ensures c.put_words.ensures)
 
 pub shape_of-out-then-words-eq0 : goal.shape_of-out-then-words-eq0
-shape_of-out-then-words-eq0 c = put-kept (returns c)
+shape_of-out-then-words-eq0 c = put-kept (returns-then-words-eq0 c)
 
 pub shape_of-out : goal.shape_of-out
-shape_of-out c = put-kept (returns-2 c)
+shape_of-out c = put-kept (returns c)

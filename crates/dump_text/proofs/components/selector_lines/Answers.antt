@@ -6,9 +6,7 @@ use Rattle.dump_text.proofs.components.selector_lines.Goals as goal
 pub returns : goal.returns
 unfolding selector_lines
 returns c =
-    let a = c.before.before in
-    let b = a.before.before.before.before.before in
-    put_then b.section-line.ensures a.count-line.ensures
+    put_then c.section_line-first.ensures c.count_line.ensures
 
 pub shape_of-out : goal.shape_of-out
 shape_of-out c = put-kept (returns c)

@@ -6,10 +6,7 @@ use Rattle.dump_text.proofs.labelled.cell_line.Goals as goal
 pub returns : goal.returns
 unfolding cell_line
 returns c =
-    let a = c.before.before in
-    let b = a.before.before.before.before in
-    let d = b.before.before.before.before in
-    put_then (put_then d.put-bytes.ensures b.put-next-cell.ensures) a.put_byte.ensures
+    put_then (put_then c.put_bytes-named.ensures c.put_next_cell-value.ensures) c.put_byte.ensures
 
 pub shape_of-out : goal.shape_of-out
 shape_of-out c = put-kept (returns c)

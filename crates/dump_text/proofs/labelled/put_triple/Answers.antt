@@ -6,10 +6,7 @@ use Rattle.dump_text.proofs.labelled.put_triple.Goals as goal
 pub returns : goal.returns
 unfolding triple_text
 returns c =
-    let a = c.before.before in
-    let b = a.before.before.before.before in
-    let d = b.before.before.before.before in
-    put_then (put_then d.put-next-cell.ensures b.put-next-cell2.ensures) a.put-next-cell3.ensures
+    put_then (put_then c.put_next_cell-first.ensures c.put_next_cell-second.ensures) c.put_next_cell.ensures
 
 pub shape_of-out : goal.shape_of-out
 shape_of-out c = put-kept (returns c)

@@ -10,12 +10,10 @@ returns-then-range c = rw c.if-range.true c.triple_line.ensures
 pub returns : goal.returns
 unfolding range_line
 returns c =
-    let a = c.before.before in
-    let b = a.before.before.before.before.before in
-    rw c.if-range.false (put_then b.put-bytes.ensures a.put-bytes2.ensures)
+    rw c.if-range.false (put_then c.put_bytes-named.ensures c.put_bytes.ensures)
 
 pub shape_of-out-then-range : goal.shape_of-out-then-range
-shape_of-out-then-range c = put-kept (returns c)
+shape_of-out-then-range c = put-kept (returns-then-range c)
 
 pub shape_of-out : goal.shape_of-out
-shape_of-out c = put-kept (returns-2 c)
+shape_of-out c = put-kept (returns c)

@@ -6,11 +6,7 @@ use Rattle.dump_text.proofs.labelled.words_line.Goals as goal
 pub returns : goal.returns
 unfolding words_line
 returns c =
-    let a = c.before.before in
-    let b = a.before.before.before.before in
-    let d = b.before.before.before.before in
-    let e = d.before.before.before.before in
-    put_then (put_then (put_then e.put-bytes.ensures d.put_byte.ensures) b.put-words.ensures) a.put-byte2.ensures
+    put_then (put_then (put_then c.put_bytes-named.ensures c.put_byte-space.ensures) c.put_words-text.ensures) c.put_byte.ensures
 
 pub shape_of-out : goal.shape_of-out
 shape_of-out c = put-kept (returns c)

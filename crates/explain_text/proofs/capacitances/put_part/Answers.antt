@@ -12,7 +12,7 @@ unfolding part_text
 returns c = rw c.if-part.false c.put_bytes.ensures
 
 pub shape_of-out-then-part : goal.shape_of-out-then-part
-shape_of-out-then-part c = put-kept (returns c)
+shape_of-out-then-part c = put-kept (returns-then-part c)
 
 pub shape_of-out : goal.shape_of-out
-shape_of-out c = put-kept (returns-2 c)
+shape_of-out c = put-kept (returns c)

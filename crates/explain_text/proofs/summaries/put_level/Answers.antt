@@ -9,7 +9,7 @@ pub returns-in-Missing : goal.returns-in-Missing
 returns-in-Missing c = rw c.in-Missing.is c.put_bytes.ensures
 
 pub shape_of-out-in-Number : goal.shape_of-out-in-Number
-shape_of-out-in-Number c = put-kept (returns c)
+shape_of-out-in-Number c = put-kept (returns-in-Number c)
 
 pub shape_of-out-in-Missing : goal.shape_of-out-in-Missing
-shape_of-out-in-Missing c = put-kept (returns-2 c)
+shape_of-out-in-Missing c = put-kept (returns-in-Missing c)

@@ -14,7 +14,7 @@ unfolding selector_text
 returns c = put_as (sym (cond_no _ _ (sym c.same_name.ensures ∙ c.if-same_name.false))) (put_then c.put_bytes-label.ensures c.put_name.ensures)
 
 pub shape_of-out-then-same_name : goal.shape_of-out-then-same_name
-shape_of-out-then-same_name c = put-kept (returns c)
+shape_of-out-then-same_name c = put-kept (returns-then-same_name c)
 
 pub shape_of-out : goal.shape_of-out
-shape_of-out c = put-kept (returns-2 c)
+shape_of-out c = put-kept (returns c)

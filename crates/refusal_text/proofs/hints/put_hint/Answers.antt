@@ -19,7 +19,7 @@ pub returns : goal.returns
 returns c = put_as (told-hint c.args.src.now c.args.fault c.args.surplus _ c.find_text-text.ensures.is c.if-fault-eq0.false) c.put_hint_in.ensures
 
 pub shape_of-out-then-fault-eq0 : goal.shape_of-out-then-fault-eq0
-shape_of-out-then-fault-eq0 c = put-kept (returns c)
+shape_of-out-then-fault-eq0 c = put-kept (returns-then-fault-eq0 c)
 
 pub shape_of-out : goal.shape_of-out
-shape_of-out c = put-kept (returns-2 c)
+shape_of-out c = put-kept (returns c)

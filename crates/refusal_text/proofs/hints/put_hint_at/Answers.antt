@@ -16,13 +16,13 @@ pub returns : goal.returns
 returns c = put_as (at_none c.args.w.now c.args.word.now c.args.number c.args.surplus c.if-number-eq10.false c.if-number-eq11.false c.if-number-eq12.false) c.put_hint.ensures
 
 pub shape_of-out-then-number-eq10 : goal.shape_of-out-then-number-eq10
-shape_of-out-then-number-eq10 c = put-kept (returns c)
+shape_of-out-then-number-eq10 c = put-kept (returns-then-number-eq10 c)
 
 pub shape_of-out-then-number-eq11 : goal.shape_of-out-then-number-eq11
-shape_of-out-then-number-eq11 c = put-kept (returns-2 c)
+shape_of-out-then-number-eq11 c = put-kept (returns-then-number-eq11 c)
 
 pub shape_of-out-then-number-eq12 : goal.shape_of-out-then-number-eq12
-shape_of-out-then-number-eq12 c = put-kept (returns-3 c)
+shape_of-out-then-number-eq12 c = put-kept (returns-then-number-eq12 c)
 
 pub shape_of-out : goal.shape_of-out
-shape_of-out c = put-kept (returns-4 c)
+shape_of-out c = put-kept (returns c)

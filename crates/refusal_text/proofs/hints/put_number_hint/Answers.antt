@@ -14,10 +14,10 @@ pub returns : goal.returns
 returns c = put_as (number-hint c.args.w.now c.args.word.now (sym c.same_capitals.ensures ∙ c.if-same_capitals.false) (sym c.has_slopes.ensures ∙ c.if-has_slopes.false)) c.put_no_number.ensures
 
 pub shape_of-out-then-same_capitals : goal.shape_of-out-then-same_capitals
-shape_of-out-then-same_capitals c = put-kept (returns c)
+shape_of-out-then-same_capitals c = put-kept (returns-then-same_capitals c)
 
 pub shape_of-out-then-has_slopes : goal.shape_of-out-then-has_slopes
-shape_of-out-then-has_slopes c = put-kept (returns-2 c)
+shape_of-out-then-has_slopes c = put-kept (returns-then-has_slopes c)
 
 pub shape_of-out : goal.shape_of-out
-shape_of-out c = put-kept (returns-3 c)
+shape_of-out c = put-kept (returns c)

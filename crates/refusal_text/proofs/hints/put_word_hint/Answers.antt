@@ -16,13 +16,13 @@ pub returns : goal.returns
 returns c = put_as (wrong-hint c.args.surplus c.args.word.now c.if-word-eq0.false c.if-surplus.false c.if-word-eq61.false) c.put_wrong.ensures
 
 pub shape_of-out-then-word-eq0 : goal.shape_of-out-then-word-eq0
-shape_of-out-then-word-eq0 c = put-kept (returns c)
+shape_of-out-then-word-eq0 c = put-kept (returns-then-word-eq0 c)
 
 pub shape_of-out-then-surplus : goal.shape_of-out-then-surplus
-shape_of-out-then-surplus c = put-kept (returns-2 c)
+shape_of-out-then-surplus c = put-kept (returns-then-surplus c)
 
 pub shape_of-out-then-word-eq61 : goal.shape_of-out-then-word-eq61
-shape_of-out-then-word-eq61 c = put-kept (returns-3 c)
+shape_of-out-then-word-eq61 c = put-kept (returns-then-word-eq61 c)
 
 pub shape_of-out : goal.shape_of-out
-shape_of-out c = put-kept (returns-4 c)
+shape_of-out c = put-kept (returns c)

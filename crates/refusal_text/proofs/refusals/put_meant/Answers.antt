@@ -18,10 +18,10 @@ returns c =
     put_as (line ∙ meant-slip c.args.src.now c.args.fault c.if-fault-ne21.false) c.put_first_suggestion.ensures
 
 pub shape_of-out-then-fault-ne21 : goal.shape_of-out-then-fault-ne21
-shape_of-out-then-fault-ne21 c = put-kept (returns c)
+shape_of-out-then-fault-ne21 c = put-kept (returns-then-fault-ne21 c)
 
 pub shape_of-out-then-fault-eq0 : goal.shape_of-out-then-fault-eq0
-shape_of-out-then-fault-eq0 c = put-kept (returns-2 c)
+shape_of-out-then-fault-eq0 c = put-kept (returns-then-fault-eq0 c)
 
 pub shape_of-out : goal.shape_of-out
-shape_of-out c = put-kept (returns-3 c)
+shape_of-out c = put-kept (returns c)

@@ -15,7 +15,7 @@ unfolding place_text
 returns c = put_as (sym (cond_no _ _ (ne_eqb c.args.number 0 c.if-number-eq0.false))) (put_then c.put_bytes-colon.ensures c.put_number.ensures)
 
 pub shape_of-out-then-number-eq0 : goal.shape_of-out-then-number-eq0
-shape_of-out-then-number-eq0 c = put-kept (returns c)
+shape_of-out-then-number-eq0 c = put-kept (returns-then-number-eq0 c)
 
 pub shape_of-out : goal.shape_of-out
-shape_of-out c = put-kept (returns-2 c)
+shape_of-out c = put-kept (returns c)

@@ -12,7 +12,7 @@ pub returns : goal.returns
 returns c = put_as (line-text (first_text c.args.fault.column) c.args.src.now c.args.fault.line c.skip_lines-start.result (omega (arith, c.if-fault-eq0.false)) c.skip_lines-start.ensures.value) c.put_first_line.ensures
 
 pub shape_of-out-then-fault-eq0 : goal.shape_of-out-then-fault-eq0
-shape_of-out-then-fault-eq0 c = put-kept (returns c)
+shape_of-out-then-fault-eq0 c = put-kept (returns-then-fault-eq0 c)
 
 pub shape_of-out : goal.shape_of-out
-shape_of-out c = put-kept (returns-2 c)
+shape_of-out c = put-kept (returns c)

@@ -17,7 +17,7 @@ pub returns : goal.returns
 returns c = put_as (ap (map blank_for) (sym (take_all c.args.count c.args.line.now c.if-count-line.false))) c.put_shown-2.ensures
 
 pub shape_of-out-then-count-line : goal.shape_of-out-then-count-line
-shape_of-out-then-count-line c = put-kept (returns c)
+shape_of-out-then-count-line c = put-kept (returns-then-count-line c)
 
 pub shape_of-out : goal.shape_of-out
-shape_of-out c = put-kept (returns-2 c)
+shape_of-out c = put-kept (returns c)

@@ -16,7 +16,7 @@ unfolding visible_text
 returns c = put_as (sym (cond_no _ _ (le-ltb 120 (length c.args.line.now) c.if-line-gt120.false))) c.put_shown.ensures
 
 pub shape_of-out-then-line-gt120 : goal.shape_of-out-then-line-gt120
-shape_of-out-then-line-gt120 c = put-kept (returns c)
+shape_of-out-then-line-gt120 c = put-kept (returns-then-line-gt120 c)
 
 pub shape_of-out : goal.shape_of-out
-shape_of-out c = put-kept (returns-2 c)
+shape_of-out c = put-kept (returns c)

@@ -20,7 +20,7 @@ pub returns : goal.returns
 returns c = put_as (first-is c.args.column c.args.src.now c.args.start c.line_at-line.result (omega (arith, c.if-src-start.false)) c.line_at-line.ensures) c.put_marked.ensures
 
 pub shape_of-out-then-src-start : goal.shape_of-out-then-src-start
-shape_of-out-then-src-start c = put-kept (returns c)
+shape_of-out-then-src-start c = put-kept (returns-then-src-start c)
 
 pub shape_of-out : goal.shape_of-out
-shape_of-out c = put-kept (returns-2 c)
+shape_of-out c = put-kept (returns c)

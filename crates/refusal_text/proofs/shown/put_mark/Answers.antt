@@ -11,7 +11,7 @@ pub returns : goal.returns
 returns c = put_as (mark-some c.args.line.now c.args.column (omega (arith, c.if-column-eq0.false))) (put_then (put_then c.put_bytes-indent.ensures c.put_blanks-before.ensures) c.put_bytes-2.ensures)
 
 pub shape_of-out-then-column-eq0 : goal.shape_of-out-then-column-eq0
-shape_of-out-then-column-eq0 c = put-kept (returns c)
+shape_of-out-then-column-eq0 c = put-kept (returns-then-column-eq0 c)
 
 pub shape_of-out : goal.shape_of-out
-shape_of-out c = put-kept (returns-2 c)
+shape_of-out c = put-kept (returns c)
