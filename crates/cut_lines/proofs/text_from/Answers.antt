@@ -15,7 +15,7 @@ slice_bounds-w-count c =
     (read a.s.now c.loop-at.at c.loop-at.line a.comment c.cut_line-l.result c.loop-at-test.true c.cut_line-l.ensures).starts
 
 pub slice_bounds-w-start : goal.slice_bounds-w-start
-slice_bounds-w-start c = sub-w c
+slice_bounds-w-start c = slice_bounds-w-count c
 
 pub slice_bounds-w-end : goal.slice_bounds-w-end
 slice_bounds-w-end c =

@@ -16,18 +16,18 @@ line_to-whole-requires c = record {
 
 pub slice_bounds-trimmed-count : goal.slice_bounds-trimmed-count
 slice_bounds-trimmed-count c =
-    let b = c.before.before.before.before.before in
+    let b = c in
     omega (arith, c.least-end.ensures, c.text_stop-stop.ensures.lower_bound, (raw-handed b.args.s.now b.args.at c.line_to-whole.result b.requires c.line_to-whole.ensures.value).starts)
 
 pub slice_bounds-trimmed-start : goal.slice_bounds-trimmed-start
-slice_bounds-trimmed-start c = sub-trimmed c
+slice_bounds-trimmed-start c = slice_bounds-trimmed-count c
 
 pub slice_bounds-trimmed-end : goal.slice_bounds-trimmed-end
 slice_bounds-trimmed-end c = omega (arith, c.least-end.ensures, c.text_stop-stop.ensures.lower_bound)
 
 pub returns : goal.returns
 returns c =
-    let b = c.before.before.before.before.before.before.before in
+    let b = c in
     let l = drop b.args.at b.args.s.now in
     let whole = c.line_to-whole in
     let stop = c.text_stop-stop in

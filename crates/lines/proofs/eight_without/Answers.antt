@@ -4,6 +4,7 @@ use Rattle.laws.specs.Lists.{other}
 use Rattle.laws.proofs.Fronts.{other-yes}
 use Rattle.lines.proofs.Blocks.{block_none, block-fails, block_more, block-end}
 use Rattle.lines.proofs.eight_without.Goals as goal
+use Rattle.lines.proofs.eight_without.Goals.{then-s-at, else-s-at}
 
 pub loop-k-init : goal.loop-k-init
 loop-k-init c = block_none (other _) _ _ c.requires _
@@ -14,10 +15,10 @@ loop-k-preserved c =
     let l = c.loop-k in
     let here = c.loop-k-test.true in
     let room = c.requires in
-    ⊎_elim
-    (λ w. block-fails (other a.b) a.s.now a.at room l.without _ l.k l.invariant here w.1)
-    (λ w. block_more (other a.b) a.s.now a.at room l.without _ l.k l.invariant here w.1 (other-yes _ _ w.0.left))
-    c.if-s-at.branch
+    elim c.if-s-at.branch [
+      then-s-at w ↦ block-fails (other a.b) a.s.now a.at room l.without _ l.k l.invariant here w.without-is
+    | else-s-at w ↦ block_more (other a.b) a.s.now a.at room l.without _ l.k l.invariant here w.without-is (other-yes _ _ w.if-s-at.false)
+    ]
 
 pub returns : goal.returns
 returns c =

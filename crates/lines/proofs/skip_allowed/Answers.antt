@@ -5,7 +5,7 @@ use Rattle.lines.specs.Lines.{is_allowed}
 use Rattle.lines.proofs.skip_allowed.Goals as goal
 
 pub loop-i-init : goal.loop-i-init
-loop-i-init c = c.skip_printed-i.ensures
+loop-i-init c = (c.skip_printed-i.ensures.lower_bound, c.skip_printed-i.ensures.goes_on)
 
 pub returns-then-not-allowed : goal.returns-then-not-allowed
 returns-then-not-allowed c =

@@ -5,7 +5,7 @@ use Rattle.lines.proofs.Laws.{printed-allowed}
 use Rattle.lines.proofs.skip_printed.Goals as goal
 
 pub loop-i-init : goal.loop-i-init
-loop-i-init c = c.skip_eights-i.ensures
+loop-i-init c = (c.skip_eights-i.ensures.lower_bound, c.skip_eights-i.ensures.goes_on)
 
 pub returns-then-not-printed : goal.returns-then-not-printed
 returns-then-not-printed c = let old : _ × _ = c.loop-i.invariant in record { lower_bound = old.0; goes_on = old.1; }

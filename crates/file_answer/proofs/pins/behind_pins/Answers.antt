@@ -4,13 +4,11 @@ use Rattle.file_answer.proofs.pins.behind_pins.Goals as goal
 
 pub returns-in_default : goal.returns-in_default
 returns-in_default c =
-    let f = c.before.before.before in
-    pins-stay f.args.l f.args.src.now f.args.notes.now f.args.x f.requires
+    pins-stay c.args.l c.args.src.now c.args.notes.now c.args.x c.requires
 
 pub returns-in_default-list : goal.returns-in_default-list
 returns-in_default-list c =
-    let f = c.before.before.before.before.before.before in
-    pins-stay f.args.l f.args.src.now f.args.notes.now f.args.x f.requires
+    pins-stay c.args.l c.args.src.now c.args.notes.now c.args.x c.requires
 
 pub pass_pins-p-requires : goal.pass_pins-p-requires
 pass_pins-p-requires c = c.requires
@@ -23,5 +21,4 @@ returns-then-any c =
 
 pub returns : goal.returns
 returns c =
-    let f = c.before.before.before.before.before.before.before.before.before in
-    pins-stay f.args.l f.args.src.now f.args.notes.now f.args.x f.requires
+    pins-stay c.args.l c.args.src.now c.args.notes.now c.args.x c.requires

@@ -8,9 +8,8 @@ behind_rows-requires c =
 
 pub returns-in-InModel : goal.returns-in-InModel
 returns-in-InModel c =
-    let f = c.before.before.before.before.before in
     let p = c.behind_rows.ensures in
-    record { says = p.says f.args.l f.args.notes.now; sound = record { placed = p.steady.placed; reached = p.reached f.requires.reached; small = f.requires.small; store = f.requires.store; within = p.steady.within; filed = p.filed f.args.notes.now f.requires.filed; rows = p.steady.rows }; from = p.from }
+    record { says = p.says c.args.l c.args.notes.now; sound = record { placed = p.steady.placed; reached = p.reached c.requires.reached; small = c.requires.small; store = c.requires.store; within = p.steady.within; filed = p.filed c.args.notes.now c.requires.filed; rows = p.steady.rows }; from = p.from }
 
 pub returns : goal.returns
 returns c = c.behind_pins.ensures

@@ -7,11 +7,10 @@ use Rattle.file_answer.proofs.reading.note_line.Goals as goal
 
 pub returns-in-Quiet : goal.returns-in-Quiet
 returns-in-Quiet c =
-    let f = c.before.before.before.before.before in
-    let a = f.args in
+    let a = c.args in
     record {
       e_value = rw c.faultless.ensures rw c.in-Quiet.is refl;
-      kept_by = rw c.faultless.ensures (kept_same a.src.now a.notes.now a.l a.t a.p f.requires);
+      kept_by = rw c.faultless.ensures (kept_same a.src.now a.notes.now a.l a.t a.p c.requires);
     }
 
 pub returns-in-Going : goal.returns-in-Going

@@ -8,8 +8,7 @@ use Rattle.file_answer.proofs.rows.pass_rows.Goals as goal
 
 pub loop-line-init : goal.loop-line-init
 loop-line-init c =
-    let f = c.before.before in
-    passed_none f.args.src.now f.args.c f.args.r f.args.n f.requires.0
+    passed_none c.args.src.now c.args.c c.args.r c.args.n c.requires.0
 
 pub next_text-requires : goal.next_text-requires
 next_text-requires c = c.loop-line.invariant.placed

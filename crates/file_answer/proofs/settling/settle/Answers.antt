@@ -7,11 +7,10 @@ use Rattle.file_answer.proofs.settling.settle.Goals as goal
 
 pub scan-z-requires : goal.scan-z-requires
 scan-z-requires c =
-    let f = c.before.before.before in
-    let s = f.args.src.now in
+    let s = c.args.src.now in
     record {
-      src_len_bound = (small f.args.l s f.requires.0, f.requires.1);
-      clean_from = clean-first f.args.l s f.requires.0;
+      src_len_bound = (small c.args.l s c.requires.0, c.requires.1);
+      clean_from = clean-first c.args.l s c.requires.0;
     }
 
 pub first_clash-requires : goal.first_clash-requires

@@ -4,11 +4,10 @@ use Rattle.name_checks.proofs.marking.last_fault.Goals as goal
 
 pub mark_targets-missing-requires : goal.mark_targets-missing-requires
 mark_targets-missing-requires c =
-    let f = c.before.before.before in
     record {
-      n_le_names_held = f.requires.0;
-      n_value = f.requires.1;
-      clear = none-marked f.args.n f.requires.0;
+      n_le_names_held = c.requires.n_le_names_held;
+      n_value = c.requires.n_value;
+      clear = none-marked c.args.n c.requires.n_le_names_held;
     }
 
 pub returns-then-missing-n : goal.returns-then-missing-n

@@ -1,4 +1,14 @@
 -- Each arm by computing the list and the bytes of its numbers; past the last stands an empty name.
+use mathlib.Core.Path.{refl}
+use Rattle.laws.specs.Bytes.{is_blank}
+use Rattle.laws.specs.Eights.{byte_in, bytes_from}
+use Rattle.laws.proofs.Numbers.{apart-le}
+use Rattle.words.specs.Words.{words, grown, onto_word, word}
+use Rattle.name_table.specs.Listed.{listed_name}
+use Rattle.name_table.specs.declared.NameList.TheVariants.{Keywords}
+use Rattle.name_table.proofs.Laws.{name-past, at_place}
+use Rattle.name_table.proofs.lists.keyword.Goals as goal
+
 use Rattle.laws.specs.Bytes.{is_blank}
 use Rattle.laws.specs.Eights.{bytes_from}
 use Rattle.laws.proofs.Numbers.{apart-le}
@@ -13,3 +23,99 @@ unfolding words grown onto_word is_blank bytes_from listed_name
 returns-in_default c =
     let k = c.args.k in
     name-past Keywords k (apart-le 24 k c.in_default.in_default-own.rest)
+
+pub returns-in-0 : goal.returns-in-0
+unfolding words grown onto_word is_blank word byte_in bytes_from listed_name
+returns-in-0 c = at_place Keywords c.in-0.is refl
+
+pub returns-in-1 : goal.returns-in-1
+unfolding words grown onto_word is_blank word byte_in bytes_from listed_name
+returns-in-1 c = at_place Keywords c.in-1.is refl
+
+pub returns-in-2 : goal.returns-in-2
+unfolding words grown onto_word is_blank word byte_in bytes_from listed_name
+returns-in-2 c = at_place Keywords c.in-2.is refl
+
+pub returns-in-3 : goal.returns-in-3
+unfolding words grown onto_word is_blank word byte_in bytes_from listed_name
+returns-in-3 c = at_place Keywords c.in-3.is refl
+
+pub returns-in-4 : goal.returns-in-4
+unfolding words grown onto_word is_blank word byte_in bytes_from listed_name
+returns-in-4 c = at_place Keywords c.in-4.is refl
+
+pub returns-in-5 : goal.returns-in-5
+unfolding words grown onto_word is_blank word byte_in bytes_from listed_name
+returns-in-5 c = at_place Keywords c.in-5.is refl
+
+pub returns-in-6 : goal.returns-in-6
+unfolding words grown onto_word is_blank word byte_in bytes_from listed_name
+returns-in-6 c = at_place Keywords c.in-6.is refl
+
+pub returns-in-7 : goal.returns-in-7
+unfolding words grown onto_word is_blank word byte_in bytes_from listed_name
+returns-in-7 c = at_place Keywords c.in-7.is refl
+
+pub returns-in-8 : goal.returns-in-8
+unfolding words grown onto_word is_blank word byte_in bytes_from listed_name
+returns-in-8 c = at_place Keywords c.in-8.is refl
+
+pub returns-in-9 : goal.returns-in-9
+unfolding words grown onto_word is_blank word byte_in bytes_from listed_name
+returns-in-9 c = at_place Keywords c.in-9.is refl
+
+pub returns-in-10 : goal.returns-in-10
+unfolding words grown onto_word is_blank word byte_in bytes_from listed_name
+returns-in-10 c = at_place Keywords c.in-10.is refl
+
+pub returns-in-11 : goal.returns-in-11
+unfolding words grown onto_word is_blank word byte_in bytes_from listed_name
+returns-in-11 c = at_place Keywords c.in-11.is refl
+
+pub returns-in-12 : goal.returns-in-12
+unfolding words grown onto_word is_blank word byte_in bytes_from listed_name
+returns-in-12 c = at_place Keywords c.in-12.is refl
+
+pub returns-in-13 : goal.returns-in-13
+unfolding words grown onto_word is_blank word byte_in bytes_from listed_name
+returns-in-13 c = at_place Keywords c.in-13.is refl
+
+pub returns-in-14 : goal.returns-in-14
+unfolding words grown onto_word is_blank word byte_in bytes_from listed_name
+returns-in-14 c = at_place Keywords c.in-14.is refl
+
+pub returns-in-15 : goal.returns-in-15
+unfolding words grown onto_word is_blank word byte_in bytes_from listed_name
+returns-in-15 c = at_place Keywords c.in-15.is refl
+
+pub returns-in-16 : goal.returns-in-16
+unfolding words grown onto_word is_blank word byte_in bytes_from listed_name
+returns-in-16 c = at_place Keywords c.in-16.is refl
+
+pub returns-in-17 : goal.returns-in-17
+unfolding words grown onto_word is_blank word byte_in bytes_from listed_name
+returns-in-17 c = at_place Keywords c.in-17.is refl
+
+pub returns-in-18 : goal.returns-in-18
+unfolding words grown onto_word is_blank word byte_in bytes_from listed_name
+returns-in-18 c = at_place Keywords c.in-18.is refl
+
+pub returns-in-19 : goal.returns-in-19
+unfolding words grown onto_word is_blank word byte_in bytes_from listed_name
+returns-in-19 c = at_place Keywords c.in-19.is refl
+
+pub returns-in-20 : goal.returns-in-20
+unfolding words grown onto_word is_blank word byte_in bytes_from listed_name
+returns-in-20 c = at_place Keywords c.in-20.is refl
+
+pub returns-in-21 : goal.returns-in-21
+unfolding words grown onto_word is_blank word byte_in bytes_from listed_name
+returns-in-21 c = at_place Keywords c.in-21.is refl
+
+pub returns-in-22 : goal.returns-in-22
+unfolding words grown onto_word is_blank word byte_in bytes_from listed_name
+returns-in-22 c = at_place Keywords c.in-22.is refl
+
+pub returns-in-23 : goal.returns-in-23
+unfolding words grown onto_word is_blank word byte_in bytes_from listed_name
+returns-in-23 c = at_place Keywords c.in-23.is refl

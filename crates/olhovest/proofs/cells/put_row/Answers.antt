@@ -6,7 +6,11 @@ use Rattle.olhovest.proofs.cells.put_row.Goals as goal
 pub returns : goal.returns
 unfolding row_cells
 returns c =
+    let number = c.double_of-number.ensures in
+    let typ = c.double_of-typ.ensures in
+    let min = c.double_of-min.ensures in
+    let max = c.double_of-max.ensures in
     record {
-      values_after = rw (c.put_value-4.ensures, c.put_value-3.ensures, c.put_value-2.ensures, c.put_value.ensures, c.double_of-number.ensures, c.double_of-typ.ensures, c.double_of-min.ensures, c.double_of-max.ensures) refl;
-      answers_after = rw (c.answer_number-4.ensures, c.answer_number-3.ensures, c.answer_number-2.ensures, c.answer_number.ensures, c.double_of-number.ensures, c.double_of-typ.ensures, c.double_of-min.ensures, c.double_of-max.ensures) refl;
+      values_after = rw (c.put_value-4.ensures, c.put_value-3.ensures, c.put_value-2.ensures, c.put_value.ensures, number, typ, min, max) refl;
+      answers_after = rw (c.answer_number-4.ensures, c.answer_number-3.ensures, c.answer_number-2.ensures, c.answer_number.ensures, number, typ, min, max) refl;
     }

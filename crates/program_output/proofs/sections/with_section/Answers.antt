@@ -26,16 +26,21 @@ loop-i-init c = (omega arith, seeks-first _ _ _)
 pub returns-then-number_at-k : goal.returns-then-number_at-k
 unfolding with_section
 returns-then-number_at-k c =
-    let z : c.loop-i.i ≡ 0 + c.loop-i.i = omega arith in
-    let t = tested c.args.size c.args.table.now c.args.k c.loop-i.i _ _ true c.record_at.ensures c.number_at.ensures (eq-eqb _ _ c.if-number_at-k.true) in
-    ap At z ∙ seeks-found _ _ _ c.loop-i.i c.loop-i-test.true c.loop-i.invariant.1 t ∙ ap (first_place (test c.args.size c.args.table.now c.args.k) 0) c.records_in-n.ensures
+    let l = c.loop-i in
+    let b = c.args in
+    let z : l.i ≡ 0 + l.i = omega arith in
+    let t = tested b.size b.table.now b.k l.i _ _ true c.record_at.ensures c.number_at.ensures (eq-eqb _ _ c.if-number_at-k.true) in
+    ap At z ∙ seeks-found _ _ _ l.i c.loop-i-test.true l.invariant.1 t ∙ ap (first_place (test b.size b.table.now b.k) 0) c.records_in-n.ensures
 
 pub loop-i-preserved : goal.loop-i-preserved
 loop-i-preserved c =
-    let t = tested c.args.size c.args.table.now c.args.k c.loop-i.i _ _ false c.record_at.ensures c.number_at.ensures (ne_eqb _ _ c.if-number_at-k.false) in
-    (omega arith, seeks-next _ _ _ c.loop-i.i c.loop-i-test.true c.loop-i.invariant.1 t)
+    let l = c.loop-i in
+    let b = c.args in
+    let t = tested b.size b.table.now b.k l.i _ _ false c.record_at.ensures c.number_at.ensures (ne_eqb _ _ c.if-number_at-k.false) in
+    (omega arith, seeks-next _ _ _ l.i c.loop-i-test.true l.invariant.1 t)
 
 pub returns : goal.returns
 unfolding with_section
 returns c =
-    seeks-none _ _ _ c.loop-i.i c.loop-i-test.false c.loop-i.invariant.1 ∙ ap (first_place (test c.args.size c.args.table.now c.args.k) 0) c.records_in-n.ensures
+    let b = c.args in
+    seeks-none _ _ _ c.loop-i.i c.loop-i-test.false c.loop-i.invariant.1 ∙ ap (first_place (test b.size b.table.now b.k) 0) c.records_in-n.ensures

@@ -11,7 +11,7 @@ use Rattle.section_words.proofs.models.fill_model.Goals as goal
 pub fill_body-used-requires : goal.fill_body-used-requires
 fill_body-used-requires c =
     let h = c.put_firsts-next.ensures.stops_at in
-    let p = c.requires in
+    let p = (c.requires.placed, (c.requires.model_size_in_bounds, (c.requires.c_in_bounds, c.requires.c_in_bounds_2))) in
     record {
       placed = (h.placed, p.0.1, omega (arith, c.model-1.given, p.1.0));
       c_in_bounds = rw (waves-ahead h c.args.row) at p.1.1.0;

@@ -14,19 +14,18 @@ use Rattle.table_words.proofs.fills.fill_model.Goals as goal
 
 pub fill_model-requires : goal.fill_model-requires
 fill_model-requires c =
-    let f = c.before.before.before.before.before.before.before.before.before.before.before.before.before in
-    let s = f.args.src.now in
-    let ns = f.args.notes.now in
+    let s = c.args.src.now in
+    let ns = c.args.notes.now in
     let h = c.section_noted-c.ensures in
     let row = c.section_word-row in
-    let w : waveforms_behind row.result (rest s c.section_noted-c.result) ≡ waveform_words_at s ns f.args.i =
-    ap (λ (r : ℕ). waveforms_behind r (rest s c.section_noted-c.result)) row.ensures.value ∙ waveforms-noted s ns f.args.i h
+    let w : waveforms_behind row.result (rest s c.section_noted-c.result) ≡ waveform_words_at s ns c.args.i =
+    ap (λ (r : ℕ). waveforms_behind r (rest s c.section_noted-c.result)) row.ensures.value ∙ waveforms-noted s ns c.args.i h
     in
     record {
       placed = (h.placed, omega (arith, row.ensures.upper_bound));
-      model_size_in_bounds = f.requires.0;
-      c_in_bounds = rw w f.requires.1.0;
-      c_in_bounds_2 = rw (rows-noted s ns f.args.i h) f.requires.1.1;
+      model_size_in_bounds = c.requires.model_size_in_bounds;
+      c_in_bounds = rw w c.requires.i_in_bounds;
+      c_in_bounds_2 = rw (rows-noted s ns c.args.i h) c.requires.i_in_bounds_2;
     }
 
 pub returns : goal.returns

@@ -1,0 +1,53 @@
+-- Each list is counted by computing it.
+use Prim.Native.Nat.{ℕ}
+use mathlib.Core.Path.{sym, ap}
+use lib.ListN.{length}
+use borrow.Author.Rules.{rules}
+use Rattle.laws.specs.Bytes.{is_blank}
+use Rattle.words.specs.Words.{words, grown, onto_word}
+use Rattle.name_table.specs.Listed.{names_in}
+use Rattle.name_table.specs.declared.NameList.{NameList}
+use Rattle.name_table.proofs.lists.count_of.Goals as goal
+
+abbrev names : NameList → ℕ
+names l = length (names_in l)
+
+pub returns-in-Keywords : goal.returns-in-Keywords
+unfolding words grown onto_word is_blank
+returns-in-Keywords c = ap names (sym c.in-Keywords.is)
+
+pub returns-in-ComponentLines : goal.returns-in-ComponentLines
+unfolding words grown onto_word is_blank
+returns-in-ComponentLines c = ap names (sym c.in-ComponentLines.is)
+
+pub returns-in-PackageLines : goal.returns-in-PackageLines
+unfolding words grown onto_word is_blank
+returns-in-PackageLines c = ap names (sym c.in-PackageLines.is)
+
+pub returns-in-ModelLines : goal.returns-in-ModelLines
+unfolding words grown onto_word is_blank
+returns-in-ModelLines c = ap names (sym c.in-ModelLines.is)
+
+pub returns-in-RampLines : goal.returns-in-RampLines
+unfolding words grown onto_word is_blank
+returns-in-RampLines c = ap names (sym c.in-RampLines.is)
+
+pub returns-in-Fixtures : goal.returns-in-Fixtures
+unfolding words grown onto_word is_blank
+returns-in-Fixtures c = ap names (sym c.in-Fixtures.is)
+
+pub returns-in-Locations : goal.returns-in-Locations
+unfolding words grown onto_word is_blank
+returns-in-Locations c = ap names (sym c.in-Locations.is)
+
+pub returns-in-ModelTypes : goal.returns-in-ModelTypes
+unfolding words grown onto_word is_blank
+returns-in-ModelTypes c = ap names (sym c.in-ModelTypes.is)
+
+pub returns-in-Polarities : goal.returns-in-Polarities
+unfolding words grown onto_word is_blank
+returns-in-Polarities c = ap names (sym c.in-Polarities.is)
+
+pub returns-in-Enables : goal.returns-in-Enables
+unfolding words grown onto_word is_blank
+returns-in-Enables c = ap names (sym c.in-Enables.is)
