@@ -9,6 +9,7 @@ use program_output::tables::{
     WAVEFORM_TABLE,
 };
 use records::Verdict;
+use std::env::Env;
 
 mod cells; // cells.rt: a record's lines of doubles, with those of what is its own in other tables
 mod doubles; // doubles.rt: every cell as a double
@@ -74,9 +75,12 @@ fn print_answer(question: Question, src: &[u8]) {
     }
 }
 
-fn main() {
+fn main(rt: HostRuntime) {
     let mut word = io::buffer();
-    let n = os::arg(1, &mut word);
+    let n = match rt.arg(1, &mut word) {
+        Ok(n) => n,
+        Err(_) => 0,
+    };
     match asked_by(&word[..n]) {
         Asked::Known(question) => {
             let mut src = program_output::file_buffer();

@@ -17,7 +17,11 @@ use borrow.Author.Tests.{ne_eqb}
 
 pub product : (f : Format) (x y : Float) (a c b d : ℕ) → 0 < c → 0 < d → HasValue x false a c → HasValue y false b d → mul f x y ≡ round f false (a * b) (c * d)
 unfolding mul
+product f nan y a c b d C D h k = elim h [ ]
+product f (inf _) y a c b d C D h k = elim h [ ]
 product f (fin true m e) y a c b d C D h k = absurd (true≢false h.0)
+product f (fin false m e) nan a c b d C D h k = elim k [ ]
+product f (fin false m e) (inf _) a c b d C D h k = elim k [ ]
 product f (fin false m e) (fin true n g) a c b d C D h k = absurd (true≢false k.0)
 product f (fin false m e) (fin false n g) a c b d C D h k =
     round_same f false (m * up e * (n * up g)) (down e * down g) (a * b) (c * d) (mul-pos (down_pos e) (down_pos g)) (mul-pos C D)
@@ -35,7 +39,11 @@ crossed x e a c y g b d h k =
 
 pub quotient : (f : Format) (x y : Float) (a c b d : ℕ) → 0 < c → 0 < b → HasValue x false a c → HasValue y false b d → div f x y ≡ round f false (a * d) (b * c)
 unfolding div
+quotient f nan y a c b d C B h k = elim h [ ]
+quotient f (inf _) y a c b d C B h k = elim h [ ]
 quotient f (fin true m e) y a c b d C B h k = absurd (true≢false h.0)
+quotient f (fin false m e) nan a c b d C B h k = elim k [ ]
+quotient f (fin false m e) (inf _) a c b d C B h k = elim k [ ]
 quotient f (fin false m e) (fin true n g) a c b d C B h k = absurd (true≢false k.0)
 quotient f (fin false m e) (fin false n g) a c b d C B h k =
     let above : 0 < n * up g = first_pos (n * up g) d (subst (λ (z : ℕ). 0 < z) (sym k.1) (mul-pos B (down_pos g))) in

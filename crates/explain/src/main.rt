@@ -7,6 +7,7 @@ use program_output::tables::{
     CHOICE_TABLE, COMPONENT_TABLE, MODEL_TABLE, PIN_TABLE, ROW_TABLE, SELECTOR_TABLE,
     WAVEFORM_TABLE,
 };
+use std::env::Env;
 
 fn print_file(name: &[u8], src: &[u8]) {
     let mut components = [0u64; COMPONENT_TABLE];
@@ -38,9 +39,12 @@ fn print_file(name: &[u8], src: &[u8]) {
     );
 }
 
-fn main() {
+fn main(rt: HostRuntime) {
     let mut name = io::buffer();
-    let n = os::arg(1, &mut name);
+    let n = match rt.arg(1, &mut name) {
+        Ok(n) => n,
+        Err(_) => 0,
+    };
     let mut src = program_output::file_buffer();
     let m = io::read_full(0, &mut src);
     if n == 0 {

@@ -28,7 +28,7 @@ component-is ws section name si timing manufacturer resistance inductance capaci
 pub model_is : (ws : List ℕ) (section : ℕ) (name : Name) (kind : ModelType) (polarity : Polarity) (enable : Enable) (comp : Triple) (split : Split) (vinl vinh vmeas cref rref vref : Cell) (voltage : Triple) (temperature : Range) (pulldown pullup ground power : Table) (ramp : RampTable) (waveforms : Span) → section ≡ number_at ws 0 → name ≡ name_from (drop 1 ws) → kind ≡ type_in (number_at ws 7) → polarity ≡ polarity_in (number_at ws 8) → enable ≡ enable_in (number_at ws 9) → comp ≡ triple_from (drop 10 ws) → split ≡ split_from (drop 13 ws) → vinl ≡ cell_at ws 29 → vinh ≡ cell_at ws 30 → vmeas ≡ cell_at ws 31 → cref ≡ cell_at ws 32 → rref ≡ cell_at ws 33 → vref ≡ cell_at ws 34 → voltage ≡ triple_from (drop 35 ws) → temperature ≡ range_from (drop 38 ws) → pulldown ≡ table_from (drop 42 ws) → pullup ≡ table_from (drop 45 ws) → ground ≡ table_from (drop 48 ws) → power ≡ table_from (drop 51 ws) → ramp ≡ ramp_from (drop 54 ws) → waveforms ≡ span_from (drop 68 ws)
     → record { section = section; name = name; kind = kind; polarity = polarity; enable = enable; comp = comp; split = split; vinl = vinl; vinh = vinh; vmeas = vmeas; cref = cref; rref = rref; vref = vref; voltage = voltage; temperature = temperature; pulldown = pulldown; pullup = pullup; ground = ground; power = power; ramp = ramp; waveforms = waveforms } ≡ model_from ws
 unfolding model_from
-model_is ws section name kind polarity enable comp split vinl vinh vmeas cref rref vref voltage temperature pulldown pullup ground power ramp waveforms h0 h1 h2 h3 h4 h5 h6 h7 h8 h9 h10 h11 h12 h13 h14 h15 h16 h17 h18 h19 h20 = rw (h0, h1, h2, h3, h4, h5, h6, h7, h8, h9, h10, h11, h12, h13, h14, h15, h16, h17, h18, h19, h20) refl
+model_is ws section name kind pol ena comp split vinl vinh vmeas cref rref vref voltage temperature pulldown pullup ground power ramp waveforms h0 h1 h2 h3 h4 h5 h6 h7 h8 h9 h10 h11 h12 h13 h14 h15 h16 h17 h18 h19 h20 = rw (h0, h1, h2, h3, h4, h5, h6, h7, h8, h9, h10, h11, h12, h13, h14, h15, h16, h17, h18, h19, h20) refl
 
 pub waveform-is : (ws : List ℕ) (edge : Edge) (rfixture vfixture vmin vmax cfixture lfixture rdut ldut cdut : Cell) (rows : Span) → edge ≡ edge_in (number_at ws 0) → rfixture ≡ cell_at ws 1 → vfixture ≡ cell_at ws 2 → vmin ≡ cell_at ws 3 → vmax ≡ cell_at ws 4 → cfixture ≡ cell_at ws 5 → lfixture ≡ cell_at ws 6 → rdut ≡ cell_at ws 7 → ldut ≡ cell_at ws 8 → cdut ≡ cell_at ws 9 → rows ≡ span_from (drop 10 ws)
     → record { edge = edge; rfixture = rfixture; vfixture = vfixture; vmin = vmin; vmax = vmax; cfixture = cfixture; lfixture = lfixture; rdut = rdut; ldut = ldut; cdut = cdut; rows = rows } ≡ waveform_from ws

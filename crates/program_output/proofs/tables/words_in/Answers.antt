@@ -24,12 +24,12 @@ overflow_mul-result c = omega (arith, fewer c.args.words c.args.size c.args.coun
 
 pub returns-then-count-words : goal.returns-then-count-words
 returns-then-count-words c = record {
-      value = rw (lt-ltb c.args.count (c.args.words / c.args.size) c.if-count-words.true) refl;
-      upper_bound = fewer c.args.words c.args.size c.args.count c.if-count-words.true;
-    }
+  value = rw (lt-ltb c.args.count (c.args.words / c.args.size) c.if-count-words.true) refl;
+  upper_bound = fewer c.args.words c.args.size c.args.count c.if-count-words.true;
+}
 
 pub returns : goal.returns
 returns c = record {
-      value = rw (le-ltb c.args.count (c.args.words / c.args.size) c.if-count-words.false) refl;
-      upper_bound = omega arith;
-    }
+  value = rw (le-ltb c.args.count (c.args.words / c.args.size) c.if-count-words.false) refl;
+  upper_bound = omega arith;
+}

@@ -11,7 +11,7 @@ slice_bounds-result-end c = sym (length-take-le _ _ (omega arith))
 pub returns-then-most-len : goal.returns-then-most-len
 returns-then-most-len c =
     let a = c.args in
-    take_all (length a.bytes.now) a.bytes.now (omega arith) ∙ sym (take_all a.n a.bytes.now (omega (arith, c.if1.true)))
+    take_all (length a.bytes.now) a.bytes.now (omega arith) ∙ sym (take_all a.n a.bytes.now (omega (arith, c.if-most-len.true)))
 
 pub slice_bounds-result-end-2 : goal.slice_bounds-result-end-2
-slice_bounds-result-end-2 c = sym (length-take-le _ _ (omega (arith, c.if1.false)))
+slice_bounds-result-end-2 c = sym (length-take-le _ _ (omega (arith, c.if-most-len.false)))

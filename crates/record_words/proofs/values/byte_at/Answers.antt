@@ -8,6 +8,6 @@ overflow_cast-result c = omega (arith, c.type_inv.bytes c.args.i)
 
 pub returns : goal.returns
 returns c = record {
-      value = refl;
-      upper_bound = omega (arith, c.type_inv.bytes c.args.i);
-    }
+  value = refl;
+  upper_bound = omega (arith, c.type_inv.bytes c.args.i);
+}

@@ -16,7 +16,7 @@ pub loop-i-preserved : goal.loop-i-preserved
 loop-i-preserved c =
     let l = c.loop-i in
     let a = c.args in
-    (omega (arith, c.loop-i-test.true), c.put_byte-next.auto.0 ∙ l.invariant.1, put-mapped (shown_as a.how) _ _ _ c.put_bytes-next.result _ _ l.i _ a.text.now c.loop-i-test.true c.shown_as.ensures l.invariant.2 c.put_byte-next.ensures)
+    (omega (arith, c.loop-i-test.true), c.put_byte-next.auto.out ∙ l.invariant.1, put-mapped (shown_as a.how) _ _ _ c.put_bytes-next.result _ _ l.i _ a.text.now c.loop-i-test.true c.shown_as.ensures l.invariant.2 c.put_byte-next.ensures)
 
 pub shape_of-out : goal.shape_of-out
 shape_of-out c = c.loop-i.invariant.1 ∙ put-kept c.put_bytes-next.ensures

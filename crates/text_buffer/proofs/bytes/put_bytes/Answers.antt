@@ -9,7 +9,7 @@ pub loop-i-init : goal.loop-i-init
 loop-i-init c = (omega arith, refl, put-none c.args.out.now c.args.at c.least-next.result c.least-next.ensures)
 
 pub loop-i-preserved : goal.loop-i-preserved
-loop-i-preserved c = (omega arith, c.put_byte-next.auto.0 ∙ c.loop-i.invariant.1, put_next _ _ _ c.args.at _ _ c.loop-i.i c.args.text.now c.loop-i-test.true c.loop-i.invariant.2 c.put_byte-next.ensures)
+loop-i-preserved c = (omega arith, c.put_byte-next.auto.out ∙ c.loop-i.invariant.1, put_next _ _ _ c.args.at _ _ c.loop-i.i c.args.text.now c.loop-i-test.true c.loop-i.invariant.2 c.put_byte-next.ensures)
 
 pub shape_of-out : goal.shape_of-out
 shape_of-out c = c.loop-i.invariant.1

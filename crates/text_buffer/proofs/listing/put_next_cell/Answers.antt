@@ -6,9 +6,7 @@ use Rattle.text_buffer.proofs.listing.put_next_cell.Goals as goal
 pub returns : goal.returns
 unfolding next_cell
 returns c =
-    let a = c.before.before in
-    let b = a.before.before.before.before in
-    put_then b.put_byte.ensures a.put-cell.ensures
+    put_then c.put_byte-space.ensures c.put_cell.ensures
 
 pub shape_of-out : goal.shape_of-out
 shape_of-out c = put-kept (returns c)

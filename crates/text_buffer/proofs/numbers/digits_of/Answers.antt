@@ -11,10 +11,10 @@ unfolding numeral_of
 loop-first-init c = (omega arith, refl, refl)
 
 pub returns-then-rest-eq0 : goal.returns-then-rest-eq0
-returns-then-rest-eq0 c = record { digits = rw c.before.digit-of.ensures (last-digit c.before.before.before.loop.first c.before.before.before.loop.rest c.before.before.before.loop.bytes c.before.before.loop-test.true (omega arith) c.if1.true ∙ c.before.before.before.loop.invariant.2); first = omega arith; room = length-set c.loop-first.bytes _ _ ∙ c.loop-first.invariant.1 }
+returns-then-rest-eq0 c = record { digits = rw c.digit_of.ensures (last-digit c.loop-first.first c.loop-first.rest c.loop-first.bytes c.loop-first-test.true (omega arith) c.if-rest-eq0.true ∙ c.loop-first.invariant.2); first = omega arith; room = length-set c.loop-first.bytes _ _ ∙ c.loop-first.invariant.1 }
 
 pub loop-first-preserved : goal.loop-first-preserved
 loop-first-preserved c = (omega arith, length-set c.loop-first.bytes _ _ ∙ c.loop-first.invariant.1, rw c.digit_of.ensures (next-digit c.loop-first.first c.loop-first.rest c.loop-first.bytes c.loop-first-test.true (omega arith) c.if-rest-eq0.false ∙ c.loop-first.invariant.2))
 
 pub returns : goal.returns
-returns c = record { digits = no_digit c.before.loop.first c.before.loop.rest c.before.loop.bytes (omega arith) ∙ c.before.loop.invariant.2; first = omega arith; room = c.loop-first.invariant.1 }
+returns c = record { digits = no_digit c.loop-first.first c.loop-first.rest c.loop-first.bytes (omega arith) ∙ c.loop-first.invariant.2; first = omega arith; room = c.loop-first.invariant.1 }

@@ -11,7 +11,7 @@ use Rattle.text_buffer.proofs.numbers.put_pointed.Goals as goal
 pub returns-then-places-count : goal.returns-then-places-count
 unfolding pointed
 returns-then-places-count c =
-    let d = c.digits_of in
+    let d = c.digits_of-digits in
     let n = c.args.number in
     let k = c.args.places in
     let h : k < length (numeral_of n) = omega (arith, digits-count n d.result d.ensures, c.if-places-count.true) in
