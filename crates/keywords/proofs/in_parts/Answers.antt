@@ -9,6 +9,7 @@ use borrow.Author.Tests.{not-true, not-false}
 use Rattle.keywords.specs.Form.{in_parts}
 use Rattle.keywords.proofs.Laws.{parts-joint, parts_twice, parts-blank, parts_more, parts-end}
 use Rattle.keywords.proofs.in_parts.Goals as goal
+use Rattle.keywords.proofs.in_parts.Goals.{then-joint+else-not-part, else-joint+else-blank}
 
 pub loop-i-init : goal.loop-i-init
 loop-i-init c = (omega arith, refl)
@@ -16,7 +17,7 @@ loop-i-init c = (omega arith, refl)
 pub returns-then-not-part : goal.returns-then-not-part
 returns-then-not-part c =
     let l = c.loop-i in
-    sym (parts_twice c.args.w.now l.i c.loop-i-test.true l.part (sym c.joint.ensures ∙ c.if-joint.true) (not-true l.part c.if-not-part.true)) ∙ l.invariant.1
+    sym (parts_twice c.args.w.now l.i c.loop-i-test.true l.part (sym c.joint.ensures ∙ c.if-joint.true) c.if-not-part.true) ∙ l.invariant.1
 
 pub returns-then-blank : goal.returns-then-blank
 returns-then-blank c =
@@ -31,10 +32,10 @@ loop-i-preserved c =
     let j = sym c.joint.ensures in
     let on : (p : Bool) → c.if-joint.part ≡ p → in_parts l.part (drop l.i s) ≡ in_parts p (drop (l.i + 1) s) → in_parts c.if-joint.part (drop (l.i + 1) s) ≡ in_parts false s =
     λ p e q. ap (λ (b : Bool). in_parts b (drop (l.i + 1) s)) e ∙ sym q ∙ l.invariant.1 in
-    ⊎_elim
-    (λ w. (omega arith, on false w.2 (parts-joint s l.i here l.part (j ∙ w.0.taken) (not-false l.part w.1.left))))
-    (λ w. (omega arith, on true w.3 (parts_more s l.i here l.part (j ∙ w.0.left) (sym w.1.ensures ∙ w.2.left))))
-    c.if-joint.branch
+    elim c.if-joint.branch [
+      then-joint+else-not-part w ↦ (omega arith, on false w.part-is (parts-joint s l.i here l.part (j ∙ w.if-joint.true) w.if-not-part.false))
+    | else-joint+else-blank w ↦ (omega arith, on true w.part-is (parts_more s l.i here l.part (j ∙ w.if-joint.false) (sym w.blank.ensures ∙ w.if-blank.false)))
+    ]
 
 pub returns : goal.returns
 returns c =

@@ -13,13 +13,13 @@ use Rattle.keywords.proofs.Listed.{long-none}
 use Rattle.keywords.proofs.key_of.Goals as goal
 
 pub returns-then-w-eq0 : goal.returns-then-w-eq0
-returns-then-w-eq0 c = let old : _ × _ = said-too _ _ (key-none c.args.w.now c.if-w-eq0.true) in record { value = old.0; result_value = let old : _ × (_ = old.1; } in record { value = old.0; result_value = old.1; }
+returns-then-w-eq0 c = let old : _ × _ = said-too _ _ (key-none c.args.w.now c.if-w-eq0.true) in record { value = old.0; result_value = old.1; }
 
 pub returns-then-not-closed_at : goal.returns-then-not-closed_at
-returns-then-not-closed_at c = let old : _ × _ = said-too _ _ (key-open c.args.w.now _ c.find-stop.ensures.value (sym c.closed_at.ensures ∙ c.if-not-closed_at.true)) in record { value = old.0; result_value = let old : _ × (_ = old.1; } in record { value = old.0; result_value = old.1; }
+returns-then-not-closed_at c = let old : _ × _ = said-too _ _ (key-open c.args.w.now _ c.find-stop.ensures.value (sym c.closed_at.ensures ∙ c.if-not-closed_at.true)) in record { value = old.0; result_value = old.1; }
 
 pub returns-then-not-in_parts : goal.returns-then-not-in_parts
-returns-then-not-in_parts c = let old : _ × _ = said-too _ _ (key_apart c.args.w.now _ c.find-stop.ensures.value (sym c.in_parts.ensures ∙ c.if-not-in_parts.true)) in record { value = old.0; result_value = let old : _ × (_ = old.1; } in record { value = old.0; result_value = old.1; }
+returns-then-not-in_parts c = let old : _ × _ = said-too _ _ (key_apart c.args.w.now _ c.find-stop.ensures.value (sym c.in_parts.ensures ∙ c.if-not-in_parts.true)) in record { value = old.0; result_value = old.1; }
 
 pub returns-then-name-gt-LONGEST : goal.returns-then-name-gt-LONGEST
 unfolding spelled
@@ -45,7 +45,7 @@ skip_blanks-requires c =
     omega arith
 
 pub returns-in-Is : goal.returns-in-Is
-returns-in-Is c = let old : _ × _ = let old : _ × (_ = said-too _ _
+returns-in-Is c = let old : _ × _ = let old : _ × _ = said-too _ _
     (key-known c.args.w.now _ c.find-stop.ensures.value _
     (sym c.closed_at.ensures ∙ c.if-not-closed_at.false)
     (sym c.in_parts.ensures ∙ c.if-not-in_parts.false)
@@ -53,7 +53,7 @@ returns-in-Is c = let old : _ × _ = let old : _ × (_ = said-too _ _
     ∙ ap (known _ _) (sym c.keyword_named.ensures ∙ c.in-Is.is)) in record { value = old.0; result_value = old.1; } in record { value = old.0; result_value = old.1; }
 
 pub returns-in-Nothing : goal.returns-in-Nothing
-returns-in-Nothing c = let old : _ × _ = let old : _ × (_ = said-too _ _
+returns-in-Nothing c = let old : _ × _ = let old : _ × _ = said-too _ _
     (key-not-carried c.args.w.now _ c.find-stop.ensures.value
     (sym c.closed_at.ensures ∙ c.if-not-closed_at.false)
     (sym c.in_parts.ensures ∙ c.if-not-in_parts.false)
