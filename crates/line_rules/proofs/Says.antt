@@ -27,7 +27,7 @@ module _ {A : Type 0} (P : A → Type 0) where
   unfolding line_says takes
   line-says name read k before h [] = h
   line-says name read k before h (w ∷ ws) =
-      line-says name read k _ (cond-all P (is_named name w) _ _ (λ e. or-says before (read w) h (k w)) (λ e. h)) ws
+      line-says name read k (takes name read before w) (cond-all P (is_named name w) _ _ (λ e. or-says before (read w) h (k w)) (λ e. h)) ws
 
   -- a word by its reading; words of the right count
   said_at_lem : (r : List ℕ) (x : Said A) → Says P x → Says P (said_at r x)

@@ -198,5 +198,5 @@ pub says_map : {A B : Type 0} (f : A → B) (name : String) (read : List ℕ →
 unfolding key_says
 says_map f name read x [] = refl
 says_map f name read x (t ∷ ts) =
-    says_map f name read _ ts
+    says_map f name read (cond (is_key name t) (read (argument_at t) (under ts)) x) ts
     ∙ ap (λ y. key_says name (λ w ls. f (read w ls)) y ts) (cond_map f (is_key name t) (read (argument_at t) (under ts)) x)

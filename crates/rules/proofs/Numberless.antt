@@ -38,10 +38,11 @@ says-numberless : {A : Type 0} (name : String) (read : List ℕ → List (List �
 unfolding key_says
 says-numberless name read before f [] = refl
 says-numberless name read before f (plain k w ∷ ts) =
-    says-numberless name read _ f ts
+    says-numberless name read (cond (is_key name (plain k w)) (read (argument w) (under (map (text_at f) ts))) before) f ts
     ∙ ap (λ ls. key_says name read (cond (is_key name (plain k w)) (read (argument w) ls) before) ts) (under-numberless f ts)
 says-numberless name read before f (change k n ∷ ts) =
-    says-numberless name read _ f ts ∙ ap (λ ls. key_says name read (cond (is_key name (change k n)) (read [] ls) before) ts) (under-numberless f ts)
+    says-numberless name read (cond (is_key name (change k n)) (read [] (under (map (text_at f) ts))) before) f ts
+    ∙ ap (λ ls. key_says name read (cond (is_key name (change k n)) (read [] ls) before) ts) (under-numberless f ts)
 
 tables-numberless : Numberless tables_in
 unfolding tables_in

@@ -6,7 +6,7 @@ use Rattle.cut_lines.proofs.text_from.Given as goal
 
 abbrev pub invariant-loop-at : goal.invariant-loop-at
 invariant-loop-at l =
-    Passed l.s (record { l.at = l.from; l.line = l.number; l.comment = l.comment }) (record { l.at = l.at; l.line = l.line; l.comment = l.comment })
+    Passed l.s (record { at = l.from; line = l.number; comment = l.comment }) (record { at = l.at; line = l.line; comment = l.comment })
 
 abbrev pub decreases-loop-at : goal.decreases-loop-at
 decreases-loop-at l = length l.s - l.at

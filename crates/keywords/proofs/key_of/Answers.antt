@@ -45,17 +45,17 @@ skip_blanks-requires c =
     omega arith
 
 pub returns-in-Is : goal.returns-in-Is
-returns-in-Is c = let old : _ × _ = let old : _ × _ = said-too _ _
+returns-in-Is c = let old : _ × _ = said-too _ _
     (key-known c.args.w.now _ c.find-stop.ensures.value _
     (sym c.closed_at.ensures ∙ c.if-not-closed_at.false)
     (sym c.in_parts.ensures ∙ c.if-not-in_parts.false)
     c.skip_blanks.ensures.value c.skip_blanks.ensures.lower_bound.1
-    ∙ ap (known _ _) (sym c.keyword_named.ensures ∙ c.in-Is.is)) in record { value = old.0; result_value = old.1; } in record { value = old.0; result_value = old.1; }
+    ∙ ap (known _ _) (sym c.keyword_named.ensures ∙ c.in-Is.is)) in record { value = old.0; result_value = old.1; }
 
 pub returns-in-Nothing : goal.returns-in-Nothing
-returns-in-Nothing c = let old : _ × _ = let old : _ × _ = said-too _ _
+returns-in-Nothing c = let old : _ × _ = said-too _ _
     (key-not-carried c.args.w.now _ c.find-stop.ensures.value
     (sym c.closed_at.ensures ∙ c.if-not-closed_at.false)
     (sym c.in_parts.ensures ∙ c.if-not-in_parts.false)
     (sym c.keyword_named.ensures ∙ c.in-Nothing.is)
-    ∙ sym c.gap_or_slip-in-Nothing.ensures) in record { value = old.0; result_value = old.1; } in record { value = old.0; result_value = old.1; }
+    ∙ sym c.gap_or_slip-in-Nothing.ensures) in record { value = old.0; result_value = old.1; }
