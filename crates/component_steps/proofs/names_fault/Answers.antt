@@ -7,22 +7,22 @@ use Rattle.component_steps.proofs.names_fault.Goals as goal
 
 pub returns-then-not-pin_name : goal.returns-then-not-pin_name
 unfolding names_fault
-returns-then-not-pin_name c = c.at_fault.ensures ∙ sym (cond_yes _ _ (ap not (sym c.pin_name.ensures) ∙ c.if-not-pin_name.true))
+returns-then-not-pin_name c = c.at_fault.ensures ∙ sym (cond_yes _ _ (ap not (sym c.pin_name.ensures ∙ c.if-not-pin_name.true)))
 
 pub returns-then-not-sized : goal.returns-then-not-sized
 unfolding names_fault
 returns-then-not-sized c =
     c.at_fault-then-not-sized.ensures
-    ∙ sym (cond_no _ _ (ap not (sym c.pin_name.ensures) ∙ c.if-not-pin_name.false) ∙ cond_yes _ _ (ap not (sym c.sized.ensures) ∙ c.if-not-sized.true))
+    ∙ sym (cond_no _ _ (ap not (sym c.pin_name.ensures ∙ c.if-not-pin_name.false)) ∙ cond_yes _ _ (ap not (sym c.sized.ensures ∙ c.if-not-sized.true)))
 
 pub returns-then-not-pin_model : goal.returns-then-not-pin_model
 unfolding names_fault
 returns-then-not-pin_model c =
     c.at_fault-then-not-pin_model.ensures
-    ∙ sym (cond_no _ _ (ap not (sym c.pin_name.ensures) ∙ c.if-not-pin_name.false) ∙ cond_no _ _ (ap not (sym c.sized.ensures) ∙ c.if-not-sized.false) ∙ cond_yes _ _ (ap not (sym c.pin_model.ensures) ∙ c.if-not-pin_model.true))
+    ∙ sym (cond_no _ _ (ap not (sym c.pin_name.ensures ∙ c.if-not-pin_name.false)) ∙ cond_no _ _ (ap not (sym c.sized.ensures ∙ c.if-not-sized.false)) ∙ cond_yes _ _ (ap not (sym c.pin_model.ensures ∙ c.if-not-pin_model.true)))
 
 pub returns : goal.returns
 unfolding names_fault
 returns c =
     c.bare_fault.ensures
-    ∙ sym (cond_no _ _ (ap not (sym c.pin_name.ensures) ∙ c.if-not-pin_name.false) ∙ cond_no _ _ (ap not (sym c.sized.ensures) ∙ c.if-not-sized.false) ∙ cond_no _ _ (ap not (sym c.pin_model.ensures) ∙ c.if-not-pin_model.false))
+    ∙ sym (cond_no _ _ (ap not (sym c.pin_name.ensures ∙ c.if-not-pin_name.false)) ∙ cond_no _ _ (ap not (sym c.sized.ensures ∙ c.if-not-sized.false)) ∙ cond_no _ _ (ap not (sym c.pin_model.ensures ∙ c.if-not-pin_model.false)))

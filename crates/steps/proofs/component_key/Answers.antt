@@ -1,4 +1,5 @@
 -- The stage is a component's, or another: `not-component`.
+use borrow.Enum.Refused.{opened}
 use mathlib.Core.Path.{sym, ap, ◌∙◌}
 use mathlib.Core.Option.{Option}
 use Rattle.rules.specs.Component.{component_part}
@@ -11,7 +12,7 @@ pub returns-in_default : goal.returns-in_default
 returns-in_default c =
     let a = c.args in
     c.stopped.ensures
-    ∙ sym (ap (λ (o : Option ComponentState). within a.k o (λ x. component_part x a.k a.w.now a.p)) (not-component a.s c.in_default.in_default-own.keys2))
+    ∙ sym (ap (λ (o : Option ComponentState). within a.k o (λ x. component_part x a.k a.w.now a.p)) (not-component a.s (opened c.in_default.in_default-own.keys2)))
 
 pub component_part-requires : goal.component_part-requires
 component_part-requires c = c.requires

@@ -1,4 +1,5 @@
 -- The stage is a header's, or another: `not-header`.
+use borrow.Enum.Refused.{opened}
 use mathlib.Core.Path.{sym, ap, ◌∙◌}
 use mathlib.Core.Option.{Option}
 use Rattle.rules.specs.Header.{header_part}
@@ -11,7 +12,7 @@ pub returns-in_default : goal.returns-in_default
 returns-in_default c =
     let a = c.args in
     c.stopped.ensures
-    ∙ sym (ap (λ (o : Option HeaderState). within a.k o (λ x. header_part x a.k a.w.now a.p)) (not-header a.s c.in_default.in_default-own.keys2))
+    ∙ sym (ap (λ (o : Option HeaderState). within a.k o (λ x. header_part x a.k a.w.now a.p)) (not-header a.s (opened c.in_default.in_default-own.keys2)))
 
 pub header_part-requires : goal.header_part-requires
 header_part-requires c = c.requires

@@ -1,4 +1,5 @@
 -- The stage is a model's, or another: `not-model`.
+use borrow.Enum.Refused.{opened}
 use mathlib.Core.Path.{sym, ap, ◌∙◌}
 use mathlib.Core.Option.{Option}
 use Rattle.rules.specs.Model.{model_part}
@@ -11,7 +12,7 @@ pub returns-in_default : goal.returns-in_default
 returns-in_default c =
     let a = c.args in
     c.stopped.ensures
-    ∙ sym (ap (λ (o : Option ModelState). within a.k o (λ x. model_part x a.k a.w.now a.p)) (not-model a.s c.in_default.in_default-own.keys2))
+    ∙ sym (ap (λ (o : Option ModelState). within a.k o (λ x. model_part x a.k a.w.now a.p)) (not-model a.s (opened c.in_default.in_default-own.keys2)))
 
 pub model_part-requires : goal.model_part-requires
 model_part-requires c = c.requires

@@ -1,4 +1,5 @@
 -- The first of all, one more in the header, or one later: `not-header`.
+use borrow.Enum.Refused.{opened}
 use mathlib.Core.Path.{sym, ap, ◌∙◌}
 use mathlib.Core.Option.{Option}
 use Rattle.laws.proofs.Tests.{cond_yes, cond_no}
@@ -21,7 +22,7 @@ unfolding on_version
 returns-in_default c =
     let a = c.args in
     c.stopped.ensures
-    ∙ sym (ap (λ (o : Option HeaderState). within a.k o (λ h. stop 8 a.k)) (not-header a.s c.in_default.in_default-own.keys2))
+    ∙ sym (ap (λ (o : Option HeaderState). within a.k o (λ h. stop 8 a.k)) (not-header a.s (opened c.in_default.in_default-own.keys2)))
     ∙ sym (cond_no _ _ (sym c.is_before.ensures ∙ c.if-is_before.false))
 
 pub returns : goal.returns

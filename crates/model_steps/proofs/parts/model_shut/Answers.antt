@@ -9,13 +9,13 @@ use Rattle.model_steps.proofs.parts.model_shut.Goals as goal
 pub returns-then-not-both_given : goal.returns-then-not-both_given
 returns-then-not-both_given c =
     c.stopped.ensures
-    ∙ refused 9 _ _ (ap not (sym (c.both_given.ensures ∙ ramp-given _)) ∙ c.if-not-both_given.true)
+    ∙ refused 9 _ _ (ap not (sym (c.both_given.ensures ∙ ramp-given _) ∙ c.if-not-both_given.true))
     ∙ sym (ap (model_shut c.args.m) c.in-RampLines.is)
 
 pub returns-then-not-both_given-2 : goal.returns-then-not-both_given-2
 returns-then-not-both_given-2 c =
     c.stopped-then-not-both_given-2.ensures
-    ∙ refused 9 _ _ (ap not (sym (c.both_given-in-WaveformRows.ensures ∙ fixture-given _)) ∙ c.if-not-both_given-2.true)
+    ∙ refused 9 _ _ (ap not (sym (c.both_given-in-WaveformRows.ensures ∙ fixture-given _) ∙ c.if-not-both_given-2.true))
     ∙ sym (ap (model_shut c.args.m) c.in-WaveformRows.is)
 
 pub returns-in-ModelFirst : goal.returns-in-ModelFirst
@@ -30,11 +30,11 @@ returns-in-CurrentRows c = c.close_table.ensures ∙ sym (ap (model_shut c.args.
 pub returns-else-not-both_given : goal.returns-else-not-both_given
 returns-else-not-both_given c =
     c.closed-in-RampLines.ensures
-    ∙ passed 9 _ _ (ap not (sym (c.both_given.ensures ∙ ramp-given _)) ∙ c.if-not-both_given.false)
+    ∙ passed 9 _ _ (ap not (sym (c.both_given.ensures ∙ ramp-given _) ∙ c.if-not-both_given.false))
     ∙ sym (ap (model_shut c.args.m) c.in-RampLines.is)
 
 pub returns-else-not-both_given-2 : goal.returns-else-not-both_given-2
 returns-else-not-both_given-2 c =
     c.close_table-in-WaveformRows.ensures
-    ∙ passed 9 _ _ (ap not (sym (c.both_given-in-WaveformRows.ensures ∙ fixture-given _)) ∙ c.if-not-both_given-2.false)
+    ∙ passed 9 _ _ (ap not (sym (c.both_given-in-WaveformRows.ensures ∙ fixture-given _) ∙ c.if-not-both_given-2.false))
     ∙ sym (ap (model_shut c.args.m) c.in-WaveformRows.is)

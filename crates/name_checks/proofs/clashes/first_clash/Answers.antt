@@ -1,12 +1,14 @@
 -- No clash among the names before place i, their keys were seen, and the section is theirs; the name there is among those before place j if it is among all before it.
-use mathlib.Core.Path.{sym, ap, ◌∙◌}
+use mathlib.Core.Path.{◌≡◌, sym, ap, ◌∙◌}
 use native.Mathlib.Omega.{arith}
-use mathlib.Core.Logic.{⊎_elim}
 use mathlib.Core.Option.{some}
 use Rattle.name_checks.specs.declared.Meeting.TheVariants.{Equal, Differing, Beyond}
-use Rattle.name_checks.specs.Lookup.{clash_of}
+use Rattle.note_words.specs.Store.{noted_line}
+use Rattle.notes.specs.Noted.{clash}
+use Rattle.name_checks.specs.Lookup.{clash_of, entries_to}
 use Rattle.name_checks.proofs.ClashLaws.{section-none, section-next, key-own, used_turn, used-zero, used-end, used-before, seen_none, seen_next, clash-next, clash-here, clash-none, clash-end}
 use Rattle.name_checks.proofs.clashes.first_clash.Goals as goal
+use Rattle.name_checks.proofs.clashes.first_clash.Goals.{else-scan-test, then-scan-test+then-loop-j-test+in-Equal}
 
 pub scan-init : goal.scan-init
 scan-init c = (omega arith, clash-none c.args.src.now c.args.notes.now, seen_none c.args.src.now c.args.notes.now, section-none c.args.notes.now)
@@ -45,12 +47,17 @@ scan-preserved c =
 pub returns-then-i-n : goal.returns-then-i-n
 returns-then-i-n c =
     let a = c.args in
-    ap clash_of
-    (ap some c.line_at.ensures
-    ∙ ⊎_elim
-    (λ w. absurd (omega (arith, w.left)))
-    (λ w. sym (clash-here a.src.now a.notes.now c.scan.i a.n c.if-i-n.true c.scan.invariant.1 (sym w.6.inv.1 ∙ used_turn a.src.now a.notes.now c.scan.i w.1.result w.2.result w.1.ensures w.2.ensures w.6.j w.8.result Equal w.7.taken w.8.ensures w.10.given.1)))
-    c.scan-test.branch)
+    let s = a.src.now in
+    let xs = a.notes.now in
+    let i = c.scan.i in
+    let here : some (noted_line s xs i) ≡ clash (entries_to s xs a.n) =
+        elim c.scan-test.branch [
+          else-scan-test w ↦ absurd (omega (arith, w.scan-test.false, c.if-i-n.true))
+        | then-scan-test+then-loop-j-test+in-Equal w ↦ sym
+            (clash-here s xs i a.n c.if-i-n.true c.scan.invariant.1
+            (sym w.loop-j.invariant.1 ∙ used_turn s xs i w.kind_at-k.result w.part_at-name.result w.kind_at-k.ensures w.part_at-name.ensures w.loop-j.j w.meet-m.result Equal w.loop-j-test.true w.meet-m.ensures w.in-Equal.is))
+        ] in
+    ap clash_of (ap some c.line_at.ensures ∙ here)
 
 pub returns : goal.returns
 returns c = ap clash_of (clash-end c.args.src.now c.args.notes.now c.scan.i c.args.n c.scan.invariant.0 c.if-i-n.false c.scan.invariant.1)

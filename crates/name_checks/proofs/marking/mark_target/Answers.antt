@@ -27,7 +27,7 @@ returns-in_default c =
 pub bounds-marks-j : goal.bounds-marks-j
 bounds-marks-j c =
     let a = c.args in
-    omega (arith, target-within a.src.now a.notes.now a.i a.n c.in-At.j c.find_target-target.result c.find_target-target.ensures c.in-At.is, (c.requires.n_le_names_held, c.requires.n_value))
+    omega (arith, target-within a.src.now a.notes.now a.i a.n c.in-At.j c.find_target-target.result c.find_target-target.ensures c.in-At.is, c.requires.n_le_names_held, c.requires.n_value)
 
 pub returns : goal.returns
 returns c =

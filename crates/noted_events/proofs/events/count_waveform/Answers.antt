@@ -9,7 +9,10 @@ pub returns-then-waveform_bound-j : goal.returns-then-waveform_bound-j
 returns-then-waveform_bound-j c =
     let a = c.args in
     let h : min most_waveforms a.l.waveforms ≤ a.t.counts.waveforms = omega (arith, c.if-waveform_bound-j.true, c.waveform_bound.ensures) in
-    let old : _ × _ = rw c.no_room.ensures (waveform-full a.src.now a.notes.now a.l a.t a.p c.requires h, omega (arith, names-small a.t c.requires.within)) in record { p_value = old.0; kept_by = old.1; }
+    rw c.no_room.ensures record {
+      p_value = waveform-full a.src.now a.notes.now a.l a.t a.p c.requires h;
+      kept_by = omega (arith, names-small a.t c.requires.within);
+    }
 
 pub overflow_add-d : goal.overflow_add-d
 overflow_add-d c = omega (arith, c.requires.within.waveforms)

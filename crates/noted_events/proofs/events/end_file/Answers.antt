@@ -9,7 +9,10 @@ use Rattle.noted_events.proofs.events.end_file.Goals as goal
 pub returns-then-c-eq0 : goal.returns-then-c-eq0
 returns-then-c-eq0 c =
     let a = c.args in
-    let old : _ × _ = rw c.no_room.ensures (end_none a.src.now a.notes.now a.l a.t a.p c.requires a.f c.if-c-eq0.true, omega (arith, names-small a.t c.requires.within)) in record { f_value = old.0; kept_by = old.1; }
+    rw c.no_room.ensures record {
+      f_value = end_none a.src.now a.notes.now a.l a.t a.p c.requires a.f c.if-c-eq0.true;
+      kept_by = omega (arith, names-small a.t c.requires.within);
+    }
 
 pub returns-then-f-eq0 : goal.returns-then-f-eq0
 returns-then-f-eq0 c =

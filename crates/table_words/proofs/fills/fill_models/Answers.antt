@@ -113,4 +113,8 @@ shape_of-rows c = to-length (row_words_at c.args.src.now c.args.notes.now) c.loo
 pub returns : goal.returns
 returns c =
     let e : c.loop-i.i ≡ c.args.n = omega (arith, c.loop-i-test.false, c.loop-i.invariant.0) in
-    let old : _ × (_ × _) = rw (sym e) (c.loop-i.invariant.1.store, (c.loop-i.invariant.2.store, c.loop-i.invariant.3.store)) in record { models_after = old.0; waveforms_after = old.1.0; rows_after = old.1.1; }
+    rw (sym e) record {
+      models_after = c.loop-i.invariant.1.store;
+      waveforms_after = c.loop-i.invariant.2.store;
+      rows_after = c.loop-i.invariant.3.store;
+    }
