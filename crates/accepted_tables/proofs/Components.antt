@@ -237,9 +237,9 @@ module _ (c : ComponentState) (k : ℕ) (w : List ℕ) (ts : List Text) (b : is_
   least_other i apart e so h =
       subst (λ (ls : List (List ℕ)). 1 ≤ length ls) (sym e) (so (has_other c.parts 2 i apart ∙ h))
 
-  parts-key : (n : ComponentState) (p : ComponentPart) → key_of w ≡ says (key.InComponent p) → ComponentKey c k (argument w) p n → Parts n ts → Parts c (plain k w ∷ ts)
+  parts-key : (p : ComponentPart) (n : ComponentState) → key_of w ≡ says (key.InComponent p) → ComponentKey c k (argument w) p n → Parts n ts → Parts c (plain k w ∷ ts)
   unfolding eqs
-  parts-key n p q (part Manufacturer h f) so =
+  parts-key p n q (part Manufacturer h f) so =
       let e = key-at k w ts b q in
       let cells = lines-key (plain k w) ts "package" (key.InComponent Manufacturer) e in
       let pin = lines-key (plain k w) ts "pin" (key.InComponent Manufacturer) e in
@@ -253,7 +253,7 @@ module _ (c : ComponentState) (k : ℕ) (w : List ℕ) (ts : List Text) (b : is_
         least = least_other 0 (omega arith) pin so.least;
         pins = subst (Every PinLine) (sym pin) so.pins;
       }
-  parts-key n p q (part Package h f) so =
+  parts-key p n q (part Package h f) so =
       let e = key-at k w ts b q in
       let cells = lines-key (plain k w) ts "package" (key.InComponent Package) e in
       let pin = lines-key (plain k w) ts "pin" (key.InComponent Package) e in
@@ -267,7 +267,7 @@ module _ (c : ComponentState) (k : ℕ) (w : List ℕ) (ts : List Text) (b : is_
         least = least_other 1 (omega arith) pin so.least;
         pins = subst (Every PinLine) (sym pin) so.pins;
       }
-  parts-key n p q (part Pin h f) so =
+  parts-key p n q (part Pin h f) so =
       let e = key-at k w ts b q in
       let cells = lines-key (plain k w) ts "package" (key.InComponent Pin) e in
       let pin = lines-key (plain k w) ts "pin" (key.InComponent Pin) e in
@@ -286,7 +286,7 @@ pub parts-read : (l : Lengths) (ts : List Text) (c : ComponentState) (h : Held) 
 parts-read l =
     by-texts l (λ (c : ComponentState) (h : Held) (ts : List Text). Parts c ts) (λ c h s d. parts-done c s d) (λ c h k f ts so. parts-change c k f ts so)
     (λ c n h g k w e ts b y a so. parts-line c n k w e ts b y so)
-    (λ c n h k w p ts b q s y so. parts-key c k w ts b s n p q y so)
+    (λ c n h k w p ts b q s y so. parts-key c k w ts b s p n q y so)
 
 -- ---- the manufacturer as it is laid
 

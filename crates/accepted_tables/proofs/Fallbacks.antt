@@ -93,13 +93,13 @@ list-none (CurrentRows o r) = tt
 list-none (RampLines o g) = tt
 list-none (WaveformRows o g r) = tt
 
-list-line : (m n : ModelState) (w : List ℕ) (ls : List (List ℕ)) → ModelLine m w n → ListSaid n.list ls → ListSaid m.list (w ∷ ls)
+list-line : (m : ModelState) (w : List ℕ) (n : ModelState) (ls : List (List ℕ)) → ModelLine m w n → ListSaid n.list ls → ListSaid m.list (w ∷ ls)
 unfolding with_first
-list-line m n w ls (first_line i q at h ok) so = subst (λ (l : ModelList). ListSaid l (w ∷ ls)) (sym q) (ok, subst (λ (l : ModelList). ListSaid l ls) q so)
-list-line m n w ls (current_row o r y q e h) so = subst (λ (l : ModelList). ListSaid l (w ∷ ls)) (sym q) ((y, e), so)
-list-line m n w ls (ramp_line o g i q at h ok) so = subst (λ (l : ModelList). ListSaid l (w ∷ ls)) (sym q) (ok, so)
-list-line m n w ls (fixture_line o g r i q b at h ok) so = subst (λ (l : ModelList). ListSaid l (w ∷ ls)) (sym q) (inr (b, ok), so)
-list-line m n w ls (waveform_row o g r y q e h) so = subst (λ (l : ModelList). ListSaid l (w ∷ ls)) (sym q) (inl (y, e), so)
+list-line m w n ls (first_line i q at h ok) so = subst (λ (l : ModelList). ListSaid l (w ∷ ls)) (sym q) (ok, subst (λ (l : ModelList). ListSaid l ls) q so)
+list-line m w n ls (current_row o r y q e h) so = subst (λ (l : ModelList). ListSaid l (w ∷ ls)) (sym q) ((y, e), so)
+list-line m w n ls (ramp_line o g i q at h ok) so = subst (λ (l : ModelList). ListSaid l (w ∷ ls)) (sym q) (ok, so)
+list-line m w n ls (fixture_line o g r i q b at h ok) so = subst (λ (l : ModelList). ListSaid l (w ∷ ls)) (sym q) (inr (b, ok), so)
+list-line m w n ls (waveform_row o g r y q e h) so = subst (λ (l : ModelList). ListSaid l (w ∷ ls)) (sym q) (inl (y, e), so)
 
 -- ---- a model's texts
 
@@ -131,25 +131,25 @@ says-change m k f ts so =
       same = subst (λ (ls : List (List ℕ)). SameFrom m.first (cond (is_first m.list) ls [])) (sym (under-change k f ts)) so.same;
     }
 
-same_text : (m n : ModelState) (k : ℕ) (w : List ℕ) (ts : List Text) → is_bracketed w ≡ false → ModelLine m w n
+same_text : (m : ModelState) (k : ℕ) (w : List ℕ) (n : ModelState) (ts : List Text) → is_bracketed w ≡ false → ModelLine m w n
     → SameFrom n.first (first_lines n ts) → SameFrom m.first (first_lines m (plain k w ∷ ts))
 unfolding with_first
-same_text m n k w ts b (first_line i q at h ok) so =
+same_text m k w n ts b (first_line i q at h ok) so =
     let first : is_first m.list ≡ true = ap is_first q in
     subst (SameFrom m.first) (sym (cond_yes (under (plain k w ∷ ts)) [] first ∙ under-line k w ts b))
     (same_line m.first w i (under ts) at ok (subst (SameFrom (with m.first i)) (cond_yes (under ts) [] first) so))
-same_text m n k w ts b (current_row o r y q e h) so = subst (SameFrom m.first) (sym (other-first m _ (ap is_first q))) so
-same_text m n k w ts b (ramp_line o g i q at h ok) so = subst (SameFrom m.first) (sym (other-first m _ (ap is_first q))) so
-same_text m n k w ts b (fixture_line o g r i q l at h ok) so = subst (SameFrom m.first) (sym (other-first m _ (ap is_first q))) so
-same_text m n k w ts b (waveform_row o g r y q e h) so = subst (SameFrom m.first) (sym (other-first m _ (ap is_first q))) so
+same_text m k w n ts b (current_row o r y q e h) so = subst (SameFrom m.first) (sym (other-first m _ (ap is_first q))) so
+same_text m k w n ts b (ramp_line o g i q at h ok) so = subst (SameFrom m.first) (sym (other-first m _ (ap is_first q))) so
+same_text m k w n ts b (fixture_line o g r i q l at h ok) so = subst (SameFrom m.first) (sym (other-first m _ (ap is_first q))) so
+same_text m k w n ts b (waveform_row o g r y q e h) so = subst (SameFrom m.first) (sym (other-first m _ (ap is_first q))) so
 
 says-line : (m n : ModelState) (k : ℕ) (w : List ℕ) (ts : List Text) → is_bracketed w ≡ false → ModelLine m w n → Says n ts → Says m (plain k w ∷ ts)
 says-line m n k w ts b y so =
     record {
-      list = subst (ListSaid m.list) (sym (under-line k w ts b)) (list-line m n w (under ts) y so.list);
+      list = subst (ListSaid m.list) (sym (under-line k w ts b)) (list-line m w n (under ts) y so.list);
       tables = subst (Every TableSaid) (sym (tables-skip (plain k w) ts (rw b))) so.tables;
       ramp = subst (Every RampLine) (sym (lines-skip (plain k w) ts (key.InModel Ramp) (no_key k w ts b))) so.ramp;
-      same = same_text m n k w ts b y so.same;
+      same = same_text m k w n ts b y so.same;
     }
 
 table-said : (k : ℕ) (ls : List (List ℕ)) (p : ModelPart) → ListSaid (model_opens k p) ls → (more : List TableIs) → Every TableSaid more → Every TableSaid (with_table k ls p more)
@@ -193,12 +193,12 @@ module _ (m : ModelState) (k : ℕ) (w : List ℕ) (ts : List Text) (b : is_brac
             (subst (SameFrom n.first) (other-first n (under ts) (ap is_first list ∙ opens-none k p) ∙ sym (nothing-first m (under-key k w ts b))) so.same);
       }
 
-  says-key : (n : ModelState) (p : ModelPart) → key_of w ≡ says (key.InModel p) → ModelKey m k (argument w) p n → Says n ts → Says m (plain k w ∷ ts)
-  says-key n p q (single x z h f) so = key-says n x q refl refl so
-  says-key n p q (waveform e z) so = key-says n (Waveform e) q refl refl so
+  says-key : (p : ModelPart) (n : ModelState) → key_of w ≡ says (key.InModel p) → ModelKey m k (argument w) p n → Says n ts → Says m (plain k w ∷ ts)
+  says-key p n q (single x z h f) so = key-says n x q refl refl so
+  says-key p n q (waveform e z) so = key-says n (Waveform e) q refl refl so
 
 model-said : (ts : List Text) (m : ModelState) → Passes (InModel m) ts → Says m (front is_within ts)
-model-said = by-texts Says says-done says-change says-line (λ m n k w p ts b q s y so. says-key m k w ts b n p q y so)
+model-said = by-texts Says says-done says-change says-line (λ m n k w p ts b q s y so. says-key m k w ts b p n q y so)
 
 -- ---- a section
 

@@ -184,23 +184,23 @@ module _ (m : ModelState) where
   pub other-first : (ls : List (List ℕ)) → is_first m.list ≡ false → cond (is_first m.list) ls [] ≡ []
   other-first ls e = cond_no ls [] e
 
-lining : (m n : ModelState) (k : ℕ) (w : List ℕ) (ts : List Text) → is_bracketed w ≡ false → ModelLine m w n
+lining : (m : ModelState) (k : ℕ) (w : List ℕ) (n : ModelState) (ts : List Text) → is_bracketed w ≡ false → ModelLine m w n
     → FirstFrom n (first_lines n ts) → FirstFrom m (first_lines m (plain k w ∷ ts))
-lining m n k w ts b (first_line i q at h ok) so =
+lining m k w n ts b (first_line i q at h ok) so =
     let first : is_first m.list ≡ true = ap is_first q in
     subst (FirstFrom m) (sym (cond_yes (under (plain k w ∷ ts)) [] first ∙ under-line k w ts b))
     (read-line m w i (under ts) at ok (subst (FirstFrom (with_first m w (with m.first i))) (cond_yes (under ts) [] (keeps-first m w i ∙ first)) so))
-lining m n k w ts b (current_row o r y q e h) so = subst (FirstFrom m) (sym (other-first m _ (ap is_first q))) so
-lining m n k w ts b (ramp_line o g i q at h ok) so = subst (FirstFrom m) (sym (other-first m _ (ap is_first q))) so
-lining m n k w ts b (fixture_line o g r i q l at h ok) so = subst (FirstFrom m) (sym (other-first m _ (ap is_first q))) so
-lining m n k w ts b (waveform_row o g r y q e h) so = subst (FirstFrom m) (sym (other-first m _ (ap is_first q))) so
+lining m k w n ts b (current_row o r y q e h) so = subst (FirstFrom m) (sym (other-first m _ (ap is_first q))) so
+lining m k w n ts b (ramp_line o g i q at h ok) so = subst (FirstFrom m) (sym (other-first m _ (ap is_first q))) so
+lining m k w n ts b (fixture_line o g r i q l at h ok) so = subst (FirstFrom m) (sym (other-first m _ (ap is_first q))) so
+lining m k w n ts b (waveform_row o g r y q e h) so = subst (FirstFrom m) (sym (other-first m _ (ap is_first q))) so
 
-keying : (m n : ModelState) (k : ℕ) (w : List ℕ) (a : List ℕ) (p : ModelPart) (ts : List Text) → is_bracketed w ≡ true → ModelKey m k a p n
+keying : (m : ModelState) (k : ℕ) (w : List ℕ) (a : List ℕ) (p : ModelPart) (n : ModelState) (ts : List Text) → is_bracketed w ≡ true → ModelKey m k a p n
     → FirstFrom n (first_lines n ts) → FirstFrom m (first_lines m (plain k w ∷ ts))
-keying m n k w a p ts b (single x z h f) so =
+keying m k w a p n ts b (single x z h f) so =
     subst (FirstFrom m) (sym (nothing-first m (under-key k w ts b)))
     (subst (FirstFrom n) (cond_no (under ts) [] (opens-none k x)) so)
-keying m n k w a p ts b (waveform e z) so = subst (FirstFrom m) (sym (nothing-first m (under-key k w ts b))) so
+keying m k w a p n ts b (waveform e z) so = subst (FirstFrom m) (sym (nothing-first m (under-key k w ts b))) so
 
 pub under_none : under [] ≡ []
 unfolding under
@@ -211,8 +211,8 @@ first-from =
     by-texts (λ (m : ModelState) (ts : List Text). FirstFrom m (first_lines m ts))
     (λ m s d. subst (FirstFrom m) (sym (nothing-first m under_none)) (read_none m (done m d)))
     (λ m k f ts so. subst (λ (ls : List (List ℕ)). FirstFrom m (cond (is_first m.list) ls [])) (sym (under-change k f ts)) so)
-    lining
-    (λ m n k w p ts b q s y so. keying m n k w _ p ts b y so)
+    (λ m n k w ts b y so. lining m k w n ts b y so)
+    (λ m n k w p ts b q s y so. keying m k w _ p n ts b y so)
 
 pub first_read : (k : ℕ) (ts : List Text) → Passes (InModel (new_model k)) ts → FirstRead Terminator Missing Missing no_cells (under (front is_within ts))
 first_read k ts h = first-from ts (new_model k) h no_cells (gave-none model_lines "C_comp" 3 comp-place)

@@ -189,13 +189,13 @@ module _ (k : ℕ) (w : List ℕ) (ts : List Text) (b : is_bracketed w ≡ true)
         once = λ q. skip ∙ so.once (same ∙ q);
       }
 
-  pins-key : (c n : ComponentState) (h : Held) (p : ComponentPart) → key_of w ≡ says (key.InComponent p) → ComponentKey c k (argument w) p n → PinsFresh n h ts → PinsFresh c h (plain k w ∷ ts)
+  pins-key : (c : ComponentState) (p : ComponentPart) (n : ComponentState) (h : Held) → key_of w ≡ says (key.InComponent p) → ComponentKey c k (argument w) p n → PinsFresh n h ts → PinsFresh c h (plain k w ∷ ts)
   unfolding eqs
-  pins-key c n h p q (part Manufacturer z f) so =
+  pins-key c p n h q (part Manufacturer z f) so =
       pins-past c n h 0 (omega arith) refl (lines-key (plain k w) ts "pin" (key.InComponent Manufacturer) (key-at k w ts b q)) so
-  pins-key c n h p q (part Package z f) so =
+  pins-key c p n h q (part Package z f) so =
       pins-past c n h 1 (omega arith) refl (lines-key (plain k w) ts "pin" (key.InComponent Package) (key-at k w ts b q)) so
-  pins-key c n h p q (part Pin z f) so =
+  pins-key c p n h q (part Pin z f) so =
       let own = lines-key (plain k w) ts "pin" (key.InComponent Pin) (key-at k w ts b q) in
       let rest : lines_under "pin" ts ≡ [] = so.once (has-with c.parts 2 (omega arith)) in
       let all : lines_under "pin" (plain k w ∷ ts) ≡ under ts = own ∙ ap (λ (ls : List (List ℕ)). under ts ++ ls) rest ∙ append-nil (under ts) in
@@ -210,7 +210,7 @@ pub pins-fresh : (l : Lengths) (ts : List Text) (c : ComponentState) (h : Held) 
 pins-fresh l ts c h r q =
     (by-texts l PinsFresh (λ d z s e. pins-done d z) pins-change
     (λ d n z g k w e us b y a so. pins-line l k w us b d n z g e y a so)
-    (λ d n z k w p us b e s y so. pins-key k w us b d n z p e y so)
+    (λ d n z k w p us b e s y so. pins-key k w us b d p n z e y so)
     ts c h r).ahead q
 
 -- ---- a selector's rows

@@ -143,23 +143,23 @@ module _ (w : List ℕ) (ls : List (List ℕ)) where
 
 -- ---- any line of the open list
 
-pub list-line : (m n : ModelState) (w : List ℕ) (ls : List (List ℕ)) → ModelLine m w n → ListReads n.list ls → ListReads m.list (w ∷ ls)
-list-line m n w ls (first_line i q at h ok) so = subst (λ (l : ModelList). ListReads l (w ∷ ls)) (sym q) tt
-list-line m n w ls (current_row o r y q e h) so = subst (λ (l : ModelList). ListReads l (w ∷ ls)) (sym q) (rows_more w ls 100 r y e h so)
-list-line m n w ls (ramp_line o g i q at h ok) so =
+pub list-line : (m : ModelState) (w : List ℕ) (n : ModelState) (ls : List (List ℕ)) → ModelLine m w n → ListReads n.list ls → ListReads m.list (w ∷ ls)
+list-line m w n ls (first_line i q at h ok) so = subst (λ (l : ModelList). ListReads l (w ∷ ls)) (sym q) tt
+list-line m w n ls (current_row o r y q e h) so = subst (λ (l : ModelList). ListReads l (w ∷ ls)) (sym q) (rows_more w ls 100 r y e h so)
+list-line m w n ls (ramp_line o g i q at h ok) so =
     let own : (j : ℕ) → eqb j 2 ≡ false → i ≡ j → (v : RampTriple) × (slopes_line w ≡ says v) × Slopes v =
     λ j z e. said (slopes_line w) (slopes-line-sure w) (subst Flawless (ramp-flaw w j (at ∙ ap At e) z) ok) in
     subst (λ (l : ModelList). ListReads l (w ∷ ls)) (sym q) (
       reads-line Slopes g ramp_lines "dV/dt_r" slopes_line w ls i 0 rise-place at (own 0 refl) so.0,
       reads-line Slopes g ramp_lines "dV/dt_f" slopes_line w ls i 1 fall-place at (own 1 refl) so.1,
     )
-list-line m n w ls (fixture_line o g r i q b at h ok) so =
+list-line m w n ls (fixture_line o g r i q b at h ok) so =
     subst (λ (l : ModelList). ListReads l (w ∷ ls)) (sym q) (
       subst (RowsLeft 1000 r) (sym (no_row w ls b)) so.0,
       reads-line IsNumber g fixtures "R_fixture" number_line w ls i 0 resistor-place at (λ e. said (number_line w) (number-line-sure w) ok) so.1,
       reads-line IsNumber g fixtures "V_fixture" number_line w ls i 1 voltage-place at (λ e. said (number_line w) (number-line-sure w) ok) so.2,
     )
-list-line m n w ls (waveform_row o g r y q e h) so =
+list-line m w n ls (waveform_row o g r y q e h) so =
     subst (λ (l : ModelList). ListReads l (w ∷ ls)) (sym q) (
       rows_more w ls 1000 r y e h so.0,
       reads-past IsNumber g fixtures "R_fixture" number_line w ls (row-unnamed "R_fixture" w y resistor-letter e) so.1,

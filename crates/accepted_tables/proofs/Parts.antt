@@ -146,40 +146,40 @@ unkeyed m n t ts e name same waves list driven so =
           (so.needed x (λ h. q (ap (λ (g : Given). has g 6) same ∙ h)) (sym driven ∙ d));
     }
 
-same_parts : (m n : ModelState) (w : List ℕ) → ModelLine m w n → m.parts ≡ n.parts
+same_parts : (m : ModelState) (w : List ℕ) (n : ModelState) → ModelLine m w n → m.parts ≡ n.parts
 unfolding with_first
-same_parts m n w (first_line i q at h ok) = refl
-same_parts m n w (current_row o r y q e h) = refl
-same_parts m n w (ramp_line o g i q at h ok) = refl
-same_parts m n w (fixture_line o g r i q b at h ok) = refl
-same_parts m n w (waveform_row o g r y q e h) = refl
+same_parts m w n (first_line i q at h ok) = refl
+same_parts m w n (current_row o r y q e h) = refl
+same_parts m w n (ramp_line o g i q at h ok) = refl
+same_parts m w n (fixture_line o g r i q b at h ok) = refl
+same_parts m w n (waveform_row o g r y q e h) = refl
 
-same-waves : (m n : ModelState) (w : List ℕ) → ModelLine m w n → m.waveforms ≡ n.waveforms
+same-waves : (m : ModelState) (w : List ℕ) (n : ModelState) → ModelLine m w n → m.waveforms ≡ n.waveforms
 unfolding with_first
-same-waves m n w (first_line i q at h ok) = refl
-same-waves m n w (current_row o r y q e h) = refl
-same-waves m n w (ramp_line o g i q at h ok) = refl
-same-waves m n w (fixture_line o g r i q b at h ok) = refl
-same-waves m n w (waveform_row o g r y q e h) = refl
+same-waves m w n (first_line i q at h ok) = refl
+same-waves m w n (current_row o r y q e h) = refl
+same-waves m w n (ramp_line o g i q at h ok) = refl
+same-waves m w n (fixture_line o g r i q b at h ok) = refl
+same-waves m w n (waveform_row o g r y q e h) = refl
 
 -- whether the type asks for a ramp
-driven-line : (m n : ModelState) (k : ℕ) (w : List ℕ) (ts : List Text) → is_bracketed w ≡ false → ModelLine m w n
+driven-line : (m : ModelState) (k : ℕ) (w : List ℕ) (n : ModelState) (ts : List Text) → is_bracketed w ≡ false → ModelLine m w n
     → wants_ramp m.kind (first_lines m (plain k w ∷ ts)) ≡ wants_ramp n.kind (first_lines n ts)
 unfolding with_first line_says
-driven-line m n k w ts b (first_line i q at h ok) =
+driven-line m k w n ts b (first_line i q at h ok) =
     let first : is_first m.list ≡ true = ap is_first q in
     ap (wants_ramp m.kind) (cond_yes (under (plain k w ∷ ts)) [] first ∙ under-line k w ts b)
     ∙ sym (ap (wants_ramp (with_first m w (with m.first i)).kind) (cond_yes (under ts) [] first))
-driven-line m n k w ts b (current_row o r y q e h) = ap (wants_ramp m.kind) (other-first m _ (ap is_first q))
-driven-line m n k w ts b (ramp_line o g i q at h ok) = ap (wants_ramp m.kind) (other-first m _ (ap is_first q))
-driven-line m n k w ts b (fixture_line o g r i q l at h ok) = ap (wants_ramp m.kind) (other-first m _ (ap is_first q))
-driven-line m n k w ts b (waveform_row o g r y q e h) = ap (wants_ramp m.kind) (other-first m _ (ap is_first q))
+driven-line m k w n ts b (current_row o r y q e h) = ap (wants_ramp m.kind) (other-first m _ (ap is_first q))
+driven-line m k w n ts b (ramp_line o g i q at h ok) = ap (wants_ramp m.kind) (other-first m _ (ap is_first q))
+driven-line m k w n ts b (fixture_line o g r i q l at h ok) = ap (wants_ramp m.kind) (other-first m _ (ap is_first q))
+driven-line m k w n ts b (waveform_row o g r y q e h) = ap (wants_ramp m.kind) (other-first m _ (ap is_first q))
 
 parts-line : (m n : ModelState) (k : ℕ) (w : List ℕ) (ts : List Text) → is_bracketed w ≡ false → ModelLine m w n → Parts n ts → Parts m (plain k w ∷ ts)
 parts-line m n k w ts b y so =
-    unkeyed m n (plain k w) ts (no_key k w ts b) (rw b) (same_parts m n w y) (same-waves m n w y)
-    (subst (ListReads m.list) (sym (under-line k w ts b)) (list-line m n w (under ts) y so.list))
-    (driven-line m n k w ts b y)
+    unkeyed m n (plain k w) ts (no_key k w ts b) (rw b) (same_parts m w n y) (same-waves m w n y)
+    (subst (ListReads m.list) (sym (under-line k w ts b)) (list-line m w n (under ts) y so.list))
+    (driven-line m k w n ts b y)
     so
 
 parts-change : (m : ModelState) (k : ℕ) (f : LineFault) (ts : List Text) → Parts m ts → Parts m (change k f ∷ ts)
@@ -321,8 +321,8 @@ module _ (m : ModelState) (k : ℕ) (w : List ℕ) (ts : List Text) (b : is_brac
   list-key : ListReads m.list (under (plain k w ∷ ts))
   list-key = subst (ListReads m.list) (sym (under-key k w ts b)) (list-shuts m.list s)
 
-  parts-key : (n : ModelState) (p : ModelPart) → key_of w ≡ says (key.InModel p) → ModelKey m k (argument w) p n → Parts n ts → Parts m (plain k w ∷ ts)
-  parts-key n p q (single x apart h f) so =
+  parts-key : (p : ModelPart) (n : ModelState) → key_of w ≡ says (key.InModel p) → ModelKey m k (argument w) p n → Parts n ts → Parts m (plain k w ∷ ts)
+  parts-key p n q (single x apart h f) so =
       let e : key_at (plain k w) ≡ some (key.InModel x) = key-at k w ts b q in
       let i : ℕ = model_place x in
       record {
@@ -348,7 +348,7 @@ module _ (m : ModelState) (k : ℕ) (w : List ℕ) (ts : List Text) (b : is_brac
             subst (λ (z : RampTable). z.given ≡ true) (sym (keyed-says ramp_in y k w ts x e "ramp" 6 (ramp-named x)))
             (so.needed _ (key-held (λ (z : RampTable). z.given ≡ true) m.parts i 6 (ramp_in (argument w) (under ts)) y (λ z. refl) r) (sym (driven-key n refl (opens-none k x)) ∙ d));
       }
-  parts-key n p q (waveform x few) so =
+  parts-key p n q (waveform x few) so =
       let e : key_at (plain k w) ≡ some (key.InModel (Waveform x)) = key-at k w ts b q in
       record {
         list = list-key;
@@ -369,4 +369,4 @@ module _ (m : ModelState) (k : ℕ) (w : List ℕ) (ts : List Text) (b : is_brac
       }
 
 pub parts-read : (ts : List Text) (m : ModelState) → Passes (InModel m) ts → Parts m (front is_within ts)
-parts-read = by-texts Parts parts-done parts-change parts-line (λ m n k w p ts b q s y so. parts-key m k w ts b s n p q y so)
+parts-read = by-texts Parts parts-done parts-change parts-line (λ m n k w p ts b q s y so. parts-key m k w ts b s p n q y so)

@@ -1,7 +1,7 @@
 -- What the tables of every accepted file satisfy, as a list of plain facts.
 use Rattle.std.specs.Prelude.{ℕ, ◌+◌, ◌≤◌, ◌<◌, ◌≡◌, List, [], ◌∷◌, map, ◌⊎◌, Bool, true, false, ◌&&◌, length, take, drop}
 use Rattle.laws.specs.Bytes.{bytes}
-use Rattle.laws.specs.Lists.{Every}
+pub use Rattle.laws.specs.Lists.{Every}
 use Rattle.decimal.specs.Decimal.{less_than, above_zero}
 use Rattle.decimal.specs.declared.Decimal.{Decimal}
 use Rattle.decimal.specs.declared.Cell.{Cell}

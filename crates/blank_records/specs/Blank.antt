@@ -17,6 +17,7 @@ use Rattle.records.specs.declared.Pin.{Pin}
 use Rattle.records.specs.declared.Selector.{Selector}
 use Rattle.records.specs.declared.Choice.{Choice}
 use Rattle.records.specs.declared.Model.{Model}
+use Rattle.records.specs.declared.Model.Model.{ground}
 use Rattle.records.specs.declared.Waveform.{Waveform}
 
 -- ---- blank records

@@ -8,8 +8,9 @@ use borrow.Rule.Slice.PartMut.{put_mid, mid_of}
 use Rattle.laws.specs.Lists.{part}
 use Rattle.cut_lines.specs.Cursors.{Placed}
 use Rattle.cut_lines.specs.declared.Cursor.{Cursor}
+use Rattle.records.specs.declared.Row.{Row}
 use Rattle.records.specs.Flaws.{told_in}
-use Rattle.records.specs.Stored.{stored, over}
+use Rattle.records.specs.Stored.{row_words, stored, over}
 use Rattle.line_rules.specs.Fields.{row_of}
 use Rattle.line_cells.specs.Rows.{row_worded}
 use Rattle.line_cells.specs.declared.RowWords.{RowWords}
@@ -86,7 +87,7 @@ module _ {s : List ℕ} {c d : Cursor} {before now : List ℕ} {used : ℕ} (p :
 
     pub fills-none : (x.fault ≡ 0 → ⊥) → Fills s c n before now used
     fills-none j =
-        record { written = p.written; gathers = gathers-line p.gathers q l (row_kept _ p.written line (row_of line) (row-amiss line i j).0); lies = p.lies }
+        record { written = p.written; gathers = gathers-line p.gathers q l (row_kept (λ (ws : List ℕ) (y : Row). ws ++ row_words y) p.written line (row_of line) (row-amiss line i j).0); lies = p.lies }
 
   pub fills-end : {r : LineNext} {n : Cursor} → r ≡ next.NoLine n → LineNextIs s d r → FillIs s c before now (record { words = used; next = n })
   fills-end q l =

@@ -129,4 +129,4 @@ module _ (x : Waveform) (w : List ℕ) where
       ∙ ap (λ read. with_count (fixture_line x w) (counted x.rows.count read)) e
 
   pub line-fixture : {f : LineFault} → fault f ≡ told_in w (row_of w) → fixture_line x w ≡ with_waveform_line x w
-  line-fixture e = ap (with_count (fixture_line x w)) (row_kept _ x.rows.count w (row_of w) e)
+  line-fixture e = ap (with_count (fixture_line x w)) (row_kept (λ (n : ℕ) (y : Row). n + 1) x.rows.count w (row_of w) e)

@@ -5,7 +5,7 @@ use seplogic.Ra.Ura.{Ura}
 use mir.Syntax.{Ty, Written, Width, ty_int}
 use mir.Val.{Val, vint}
 use base.Stored.{Coded}
-use base.Fml.{Fml}
+use base.Fml.{Fml, Lft}
 use types.Logic.{Logic}
 use denote.Exit.{unchanged}
 use denote.RattleType.{RattleType}
@@ -22,12 +22,14 @@ pub record Data : Type 2 where
   pub τ : Ty
   pub written : Written
   pub reaches : List (Written × List Ty)
+  pub lives : Lft
   pub own : D → List Val → Fml
   pub coded : Coded D
+  pub shr_at : D → ℕ → ℕ → Lft → Fml
   pub val : D → Val
 
 abbrev pub row : Data → RattleType
-row e = record { Denot = e.D; mir = e.τ ∷ []; written = e.written; reaches = e.reaches; own_val = e.own; exit = λ k. unchanged; coded = e.coded }
+row e = record { Denot = e.D; mir = e.τ ∷ []; written = e.written; reaches = e.reaches; lives = e.lives; own_val = e.own; exit = λ k. unchanged; coded = e.coded; shr_at = e.shr_at }
 
 -- the machine values of a datum: it is one value
 abbrev pub vals : (e : Data) → e.D → List Val
@@ -41,7 +43,7 @@ pub record Elem (e : Data) : Type 2 where
 
 -- ---- a declared struct
 abbrev pub of_struct : (T : Declared) → LL.Laws T → Data
-of_struct T L = record { D = T.D; τ = lone (row_of T).mir; written = (row_of T).written; reaches = (row_of T).reaches; own = (row_of T).own; coded = (row_of T).coded; val = LL.val T L }
+of_struct T L = record { D = T.D; τ = lone (row_of T).mir; written = (row_of T).written; reaches = (row_of T).reaches; lives = (row_of T).lives; own = (row_of T).own_val; coded = (row_of T).coded; shr_at = (row_of T).shr_at; val = LL.val T L }
 
 pub struct-elem : (T : Declared) (L : LL.Laws T) → LL.Copyables T.parts → Plains (fields T) → Elem (of_struct T L)
 struct-elem T L cs pl = record {
@@ -53,7 +55,7 @@ struct-elem T L cs pl = record {
 
 -- ---- a number
 abbrev pub of_number : Width → Data
-of_number w = record { D = ℕ; τ = ty_int w; written = (UInt w).written; reaches = (UInt w).reaches; own = (UInt w).own_val; coded = (UInt w).coded; val = vint w }
+of_number w = record { D = ℕ; τ = ty_int w; written = (UInt w).written; reaches = (UInt w).reaches; lives = (UInt w).lives; own = (UInt w).own_val; coded = (UInt w).coded; shr_at = (UInt w).shr_at; val = vint w }
 
 pub number-elem : (w : Width) → Elem (of_number w)
 number-elem w = record {

@@ -1,20 +1,9 @@
--- The walks: what is asked of an element, how a table is lent for a call, the steps for calls, and each function's walk.
+-- What is asked of an element of a lent table, what a filled table holds, and what the loops over tables say of their turns.
 pub mod Elem
-pub mod Literal
-pub mod Lend
-pub mod Arrays
-pub mod Calls
 pub mod Filled
 pub mod Put
 pub mod Get
-pub mod Count
 pub mod Looks
 pub mod Scan
-pub mod Pick
-pub mod TwoTables
-pub mod ThreeTables
-pub mod Fill
 pub mod Makes
-pub mod Reading
 pub mod Read
-pub mod Loaded

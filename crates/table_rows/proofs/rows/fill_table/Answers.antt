@@ -38,10 +38,10 @@ pub slice_bounds-put_row-start : goal.slice_bounds-put_row-start
 slice_bounds-put_row-start c = omega (arith, room c)
 
 pub put_row-requires : goal.put_row-requires
-put_row-requires c = rest-room c.loop-start.rows c.loop-start.used 4 (room c.before).0
+put_row-requires c = rest-room c.loop-start.rows c.loop-start.used 4 (fills-fit c.loop-start.invariant c.in-Line.is c.next_line.ensures c.row_words-row.ensures c.if-row-eq0.true c.requires.c_in_bounds)
 
 pub overflow_add-used : goal.overflow_add-used
-overflow_add-used c = omega (arith, room c.before.before.before.before, c.well_formed)
+overflow_add-used c = omega (arith, fills-fit c.loop-start.invariant c.in-Line.is c.next_line.ensures c.row_words-row.ensures c.if-row-eq0.true c.requires.c_in_bounds, fills-length c.loop-start.invariant c.requires.c_in_bounds, c.well_formed)
 
 pub loop-start-smaller-then-row-eq0 : goal.loop-start-smaller-then-row-eq0
 loop-start-smaller-then-row-eq0 c = line-less c.loop-start.invariant.gathers c.in-Line.is c.next_line.ensures
