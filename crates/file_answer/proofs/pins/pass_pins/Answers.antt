@@ -22,7 +22,7 @@ pin_noted-requires c =
     let a = c.args in
     let i = c.loop-pins in
     let h = subst (NextIs a.src.now i.cursor) c.in-Text.is c.next_text.ensures in
-    let old : _ × _ = pin-fits a.src.now i.notes i.cursor (with_pins a.t i.names i.pins) (i.invariant.1 a.l c.bound_of-bound.ensures).ground h in record { start_lt_end = old.0; i_le_names_held = old.1; }
+    let old : _ × _ = pin-fits a.src.now i.notes i.cursor (with_pins a.t i.names i.pins) (i.invariant.1 a.l c.bound_of-bound.ensures).ground h in record { start_lt_end = old.0; i_le_names_held = old.1 }
 
 pub shape_of-notes-then-not-pin_noted : goal.shape_of-notes-then-not-pin_noted
 shape_of-notes-then-not-pin_noted c = c.notes-1.given ∙ c.loop-pins.invariant.0
