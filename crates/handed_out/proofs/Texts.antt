@@ -2,6 +2,7 @@
 use Prim.Native.Nat.{ℕ, ◌+◌}
 use Prim.Native.Char.{code}
 use Prim.Native.String.{String}
+use mathlib.Core.Bool.{cond}
 use mathlib.Core.List.{List, [], ◌∷◌}
 use lib.ListN.{drop}
 use lib.Dec.{eqb}
@@ -97,7 +98,7 @@ module _ (P : ℕ → Type 0) where
   unfolding key_says
   key-says Q name read before [] f q h = q
   key-says Q name read before (t ∷ ts) f q h =
-      key-says Q name read _ ts f (cond-all Q (is_key name t) _ _ (λ e. f (argument_at t) (under ts) (argument-has t h.0)) (λ e. q)) h.1
+      key-says Q name read (cond (is_key name t) (read (argument_at t) (under ts)) before) ts f (cond-all Q (is_key name t) _ _ (λ e. f (argument_at t) (under ts) (argument-has t h.0)) (λ e. q)) h.1
 
   -- ---- sections
 

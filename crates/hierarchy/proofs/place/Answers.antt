@@ -9,6 +9,6 @@ use Rattle.hierarchy.proofs.place.Goals as goal
 pub returns : goal.returns
 unfolding words grown onto_word is_blank hierarchy
 returns c = record {
-      value = c.place.ensures;
-      result_value = ap is_found c.place.ensures ∙ found-one _ hierarchy 0;
-    }
+  value = c.place.ensures;
+  result_value = ap is_found c.place.ensures ∙ found-one _ hierarchy 0;
+}

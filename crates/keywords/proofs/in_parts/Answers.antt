@@ -33,8 +33,8 @@ loop-i-preserved c =
     let on : (p : Bool) → c.if-joint.part ≡ p → in_parts l.part (drop l.i s) ≡ in_parts p (drop (l.i + 1) s) → in_parts c.if-joint.part (drop (l.i + 1) s) ≡ in_parts false s =
     λ p e q. ap (λ (b : Bool). in_parts b (drop (l.i + 1) s)) e ∙ sym q ∙ l.invariant.1 in
     elim c.if-joint.branch [
-      then-joint+else-not-part w ↦ (omega arith, on false w.part-is (parts-joint s l.i here l.part (j ∙ w.if-joint.true) w.if-not-part.false))
-    | else-joint+else-blank w ↦ (omega arith, on true w.part-is (parts_more s l.i here l.part (j ∙ w.if-joint.false) (sym w.blank.ensures ∙ w.if-blank.false)))
+      | then-joint+else-not-part w ↦ (omega arith, on false w.part-is (parts-joint s l.i here l.part (j ∙ w.if-joint.true) w.if-not-part.false))
+      | else-joint+else-blank w ↦ (omega arith, on true w.part-is (parts_more s l.i here l.part (j ∙ w.if-joint.false) (sym w.blank.ensures ∙ w.if-blank.false)))
     ]
 
 pub returns : goal.returns

@@ -13,13 +13,13 @@ use Rattle.keywords.proofs.Listed.{long-none}
 use Rattle.keywords.proofs.key_of.Goals as goal
 
 pub returns-then-w-eq0 : goal.returns-then-w-eq0
-returns-then-w-eq0 c = let old : _ × _ = said-too _ _ (key-none c.args.w.now c.if-w-eq0.true) in record { value = old.0; result_value = old.1; }
+returns-then-w-eq0 c = let old : _ × _ = said-too _ _ (key-none c.args.w.now c.if-w-eq0.true) in record { value = old.0; result_value = old.1 }
 
 pub returns-then-not-closed_at : goal.returns-then-not-closed_at
-returns-then-not-closed_at c = let old : _ × _ = said-too _ _ (key-open c.args.w.now _ c.find-stop.ensures.value (sym c.closed_at.ensures ∙ c.if-not-closed_at.true)) in record { value = old.0; result_value = old.1; }
+returns-then-not-closed_at c = let old : _ × _ = said-too _ _ (key-open c.args.w.now _ c.find-stop.ensures.value (sym c.closed_at.ensures ∙ c.if-not-closed_at.true)) in record { value = old.0; result_value = old.1 }
 
 pub returns-then-not-in_parts : goal.returns-then-not-in_parts
-returns-then-not-in_parts c = let old : _ × _ = said-too _ _ (key_apart c.args.w.now _ c.find-stop.ensures.value (sym c.in_parts.ensures ∙ c.if-not-in_parts.true)) in record { value = old.0; result_value = old.1; }
+returns-then-not-in_parts c = let old : _ × _ = said-too _ _ (key_apart c.args.w.now _ c.find-stop.ensures.value (sym c.in_parts.ensures ∙ c.if-not-in_parts.true)) in record { value = old.0; result_value = old.1 }
 
 pub returns-then-name-gt-LONGEST : goal.returns-then-name-gt-LONGEST
 unfolding spelled
@@ -32,7 +32,7 @@ returns-then-name-gt-LONGEST c =
     (sym c.closed_at.ensures ∙ c.if-not-closed_at.false)
     (sym c.in_parts.ensures ∙ c.if-not-in_parts.false)
     (ap keyword_or_nothing long)
-    ∙ sym c.gap_or_slip.ensures) in record { value = old.0; result_value = old.1; }
+    ∙ sym c.gap_or_slip.ensures) in record { value = old.0; result_value = old.1 }
 
 pub overflow_add-stop : goal.overflow_add-stop
 overflow_add-stop c =
@@ -50,7 +50,7 @@ returns-in-Is c = let old : _ × _ = said-too _ _
     (sym c.closed_at.ensures ∙ c.if-not-closed_at.false)
     (sym c.in_parts.ensures ∙ c.if-not-in_parts.false)
     c.skip_blanks.ensures.value c.skip_blanks.ensures.lower_bound.1
-    ∙ ap (known _ _) (sym c.keyword_named.ensures ∙ c.in-Is.is)) in record { value = old.0; result_value = old.1; }
+    ∙ ap (known _ _) (sym c.keyword_named.ensures ∙ c.in-Is.is)) in record { value = old.0; result_value = old.1 }
 
 pub returns-in-Nothing : goal.returns-in-Nothing
 returns-in-Nothing c = let old : _ × _ = said-too _ _
@@ -58,4 +58,4 @@ returns-in-Nothing c = let old : _ × _ = said-too _ _
     (sym c.closed_at.ensures ∙ c.if-not-closed_at.false)
     (sym c.in_parts.ensures ∙ c.if-not-in_parts.false)
     (sym c.keyword_named.ensures ∙ c.in-Nothing.is)
-    ∙ sym c.gap_or_slip-in-Nothing.ensures) in record { value = old.0; result_value = old.1; }
+    ∙ sym c.gap_or_slip-in-Nothing.ensures) in record { value = old.0; result_value = old.1 }

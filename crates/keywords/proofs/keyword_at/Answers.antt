@@ -4,7 +4,6 @@ use Rattle.name_table.specs.Places.{meaning_at}
 use Rattle.name_table.proofs.Laws.{meaning-past}
 use Rattle.keywords.specs.Carried.{carried}
 use Rattle.keywords.proofs.keyword_at.Goals as goal
-
 use Rattle.laws.proofs.Numbers.{apart-le}
 use Rattle.name_table.proofs.Laws.{meaning-past}
 use Rattle.keywords.specs.Carried.{carried}

@@ -10,9 +10,9 @@ use Rattle.lines.proofs.cut_line.Goals as goal
 
 pub line_to-whole-requires : goal.line_to-whole-requires
 line_to-whole-requires c = record {
-      at_in_bounds = c.requires;
-      stop_value = c.find.ensures.value ∙ c.text_stop-stop.ensures.result_value;
-    }
+  at_in_bounds = c.requires;
+  stop_value = c.find.ensures.value ∙ c.text_stop-stop.ensures.result_value;
+}
 
 pub slice_bounds-trimmed-count : goal.slice_bounds-trimmed-count
 slice_bounds-trimmed-count c =

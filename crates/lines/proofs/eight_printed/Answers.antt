@@ -18,8 +18,8 @@ loop-k-preserved c =
     let room = c.requires in
     let said = c.printed in
     elim c.if-not-printed.branch [
-      then-not-printed w ↦ block-fails is_allowed a.s.now a.at room l.all _ l.k l.invariant here w.all-is
-    | else-not-printed w ↦ block_more is_allowed a.s.now a.at room l.all _ l.k l.invariant here w.all-is (printed-allowed _ _ said.ensures w.if-not-printed.false)
+      | then-not-printed w ↦ block-fails is_allowed a.s.now a.at room l.all _ l.k l.invariant here w.all-is
+      | else-not-printed w ↦ block_more is_allowed a.s.now a.at room l.all _ l.k l.invariant here w.all-is (printed-allowed _ _ said.ensures w.if-not-printed.false)
     ]
 
 pub returns : goal.returns

@@ -16,8 +16,8 @@ loop-k-preserved c =
     let here = c.loop-k-test.true in
     let room = c.requires in
     elim c.if-s-at.branch [
-      then-s-at w ↦ block-fails (other a.b) a.s.now a.at room l.without _ l.k l.invariant here w.without-is
-    | else-s-at w ↦ block_more (other a.b) a.s.now a.at room l.without _ l.k l.invariant here w.without-is (other-yes _ _ w.if-s-at.false)
+      | then-s-at w ↦ block-fails (other a.b) a.s.now a.at room l.without _ l.k l.invariant here w.without-is
+      | else-s-at w ↦ block_more (other a.b) a.s.now a.at room l.without _ l.k l.invariant here w.without-is (other-yes _ _ w.if-s-at.false)
     ]
 
 pub returns : goal.returns

@@ -7,9 +7,9 @@ use Rattle.lines.proofs.line_to.Goals.{then-at-stop+else-s-last-eq13, else-at-st
 
 pub returns-then-s-stop : goal.returns-then-s-stop
 returns-then-s-stop c = record {
-      value = (hands-last c.args.s.now _ _ c.requires.stop_value c.requires.at_in_bounds c.if-s-stop.true).1;
-      end_le_stop = omega arith;
-    }
+  value = (hands-last c.args.s.now _ _ c.requires.stop_value c.requires.at_in_bounds c.if-s-stop.true).1;
+  end_le_stop = omega arith;
+}
 
 pub returns-then-s-last-eq13 : goal.returns-then-s-last-eq13
 returns-then-s-last-eq13 c =
@@ -23,6 +23,6 @@ returns c =
     let s = c.args.s.now in
     let f = c.requires.stop_value in
     elim c.if-at-stop.branch [
-      then-at-stop+else-s-last-eq13 w ↦ record { value = (hands-other s _ _ f c.if-s-stop.false w.if-at-stop.true w.if-s-last-eq13.false).1; end_le_stop = omega arith; }
-    | else-at-stop w ↦ record { value = (hands-empty s _ _ f c.if-s-stop.false w.if-at-stop.false).1; end_le_stop = omega arith; }
+      | then-at-stop+else-s-last-eq13 w ↦ record { value = (hands-other s _ _ f c.if-s-stop.false w.if-at-stop.true w.if-s-last-eq13.false).1; end_le_stop = omega arith }
+      | else-at-stop w ↦ record { value = (hands-empty s _ _ f c.if-s-stop.false w.if-at-stop.false).1; end_le_stop = omega arith }
     ]

@@ -10,7 +10,7 @@ loop-i-init c = (c.skip_printed-i.ensures.lower_bound, c.skip_printed-i.ensures.
 pub returns-then-not-allowed : goal.returns-then-not-allowed
 returns-then-not-allowed c =
     let a = c.allowed in
-    let old : _ × _ = scan-stop is_allowed _ _ _ c.loop-i.invariant c.loop-i-test.true (sym a.ensures ∙ c.if-not-allowed.true) in record { value = old.0; lower_bound = old.1; }
+    let old : _ × _ = scan-stop is_allowed _ _ _ c.loop-i.invariant c.loop-i-test.true (sym a.ensures ∙ c.if-not-allowed.true) in record { value = old.0; lower_bound = old.1 }
 
 pub loop-i-preserved : goal.loop-i-preserved
 loop-i-preserved c =
@@ -19,4 +19,4 @@ loop-i-preserved c =
     scan-from is_allowed _ _ _ more _ (c.skip_printed-i-in-loop-i.ensures.lower_bound, c.skip_printed-i-in-loop-i.ensures.goes_on)
 
 pub returns : goal.returns
-returns c = let old : _ × _ = scan-end is_allowed _ _ _ c.loop-i.invariant c.loop-i-test.false in record { value = old.0; lower_bound = old.1; }
+returns c = let old : _ × _ = scan-end is_allowed _ _ _ c.loop-i.invariant c.loop-i-test.false in record { value = old.0; lower_bound = old.1 }

@@ -9,7 +9,7 @@ pub loop-i-init : goal.loop-i-init
 loop-i-init c = scan-none is_allowed _ _ c.requires
 
 pub returns-then-not-eight_printed : goal.returns-then-not-eight_printed
-returns-then-not-eight_printed c = let old : _ × _ = c.loop-i.invariant in record { lower_bound = old.0; goes_on = old.1; }
+returns-then-not-eight_printed c = let old : _ × _ = c.loop-i.invariant in record { lower_bound = old.0; goes_on = old.1 }
 
 pub loop-i-preserved : goal.loop-i-preserved
 loop-i-preserved c =
@@ -17,4 +17,4 @@ loop-i-preserved c =
     scan-eight is_allowed _ _ _ c.loop-i.invariant (omega arith) (said.ensures (c.if-not-eight_printed.false))
 
 pub returns : goal.returns
-returns c = let old : _ × _ = c.loop-i.invariant in record { lower_bound = old.0; goes_on = old.1; }
+returns c = let old : _ × _ = c.loop-i.invariant in record { lower_bound = old.0; goes_on = old.1 }

@@ -8,7 +8,7 @@ pub loop-i-init : goal.loop-i-init
 loop-i-init c = (c.skip_eights-i.ensures.lower_bound, c.skip_eights-i.ensures.goes_on)
 
 pub returns-then-not-printed : goal.returns-then-not-printed
-returns-then-not-printed c = let old : _ × _ = c.loop-i.invariant in record { lower_bound = old.0; goes_on = old.1; }
+returns-then-not-printed c = let old : _ × _ = c.loop-i.invariant in record { lower_bound = old.0; goes_on = old.1 }
 
 pub loop-i-preserved : goal.loop-i-preserved
 loop-i-preserved c =
@@ -16,4 +16,4 @@ loop-i-preserved c =
     scan-more is_allowed _ _ _ c.loop-i.invariant c.loop-i-test.true (printed-allowed _ _ said.ensures (c.if-not-printed.false))
 
 pub returns : goal.returns
-returns c = let old : _ × _ = c.loop-i.invariant in record { lower_bound = old.0; goes_on = old.1; }
+returns c = let old : _ × _ = c.loop-i.invariant in record { lower_bound = old.0; goes_on = old.1 }

@@ -12,13 +12,13 @@ pub returns-then-s-i-eq10 : goal.returns-then-s-i-eq10
 returns-then-s-i-eq10 c =
     let w = c.loop-i.invariant in
     let e = scan-stop (other 10) _ _ _ w.0 c.loop-i-test.true (other-no _ _ c.if-s-i-eq10.true) in
-    record { value = omega (arith, e.0, w.1.1); lower_bound = w.0.0; result_value = w.0.1; }
+    record { value = omega (arith, e.0, w.1.1); lower_bound = w.0.0; result_value = w.0.1 }
 
 pub returns-then-s-i : goal.returns-then-s-i
 returns-then-s-i c =
     let w = c.loop-i.invariant in
     let e = scan-stop (other _) _ _ _ w.1 c.loop-i-test.true (other-no _ _ c.if-s-i.true) in
-    record { value = omega (arith, e.0, w.0.1); lower_bound = w.0.0; result_value = w.0.1; }
+    record { value = omega (arith, e.0, w.0.1); lower_bound = w.0.0; result_value = w.0.1 }
 
 pub loop-i-preserved : goal.loop-i-preserved
 loop-i-preserved c =
@@ -30,4 +30,4 @@ pub returns : goal.returns
 returns c =
     let w = c.loop-i.invariant in
     let e = scan-end (other 10) _ _ _ w.0 c.loop-i-test.false in
-    record { value = omega (arith, e.0, w.1.1); lower_bound = w.0.0; result_value = w.0.1; }
+    record { value = omega (arith, e.0, w.1.1); lower_bound = w.0.0; result_value = w.0.1 }

@@ -7,9 +7,9 @@ returns-then-s-at c = hands_none c.args.s.now _ c.if-s-at.true
 
 pub line_to-requires : goal.line_to-requires
 line_to-requires c = record {
-      at_in_bounds = c.if-s-at.false;
-      stop_value = c.find.ensures.value;
-    }
+  at_in_bounds = c.if-s-at.false;
+  stop_value = c.find.ensures.value;
+}
 
 pub returns : goal.returns
 returns c = c.line_to.ensures.value

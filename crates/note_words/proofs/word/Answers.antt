@@ -9,12 +9,12 @@ overflow_cast-result c = omega (arith, c.type_inv.notes c.args.k)
 
 pub returns-then-k-notes : goal.returns-then-k-notes
 returns-then-k-notes c = record {
-      value = refl;
-      upper_bound = omega (arith, c.type_inv.notes c.args.k);
-    }
+  value = refl;
+  upper_bound = omega (arith, c.type_inv.notes c.args.k);
+}
 
 pub returns : goal.returns
 returns c = record {
-      value = sym (get_or-eq_default c.args.notes.now 0 c.if-k-notes.false);
-      upper_bound = omega arith;
-    }
+  value = sym (get_or-eq_default c.args.notes.now 0 c.if-k-notes.false);
+  upper_bound = omega arith;
+}

@@ -17,7 +17,7 @@ pub returns-then-any : goal.returns-then-any
 returns-then-any c =
     let a = c.args in
     let passed = c.pass_pins-p in
-    pins-on a.l a.src.now a.notes.now a.x _ _ _ _ passed.new.0 passed.result c.in-InComponent.is c.in-PinRows.is c.if-any.true passed.ensures
+    pins-on a.l a.src.now a.notes.now a.x _ _ _ _ passed.new.notes passed.result c.in-InComponent.is c.in-PinRows.is c.if-any.true passed.ensures
 
 pub returns : goal.returns
 returns c =

@@ -22,7 +22,7 @@ pin_noted-requires c =
     let a = c.args in
     let i = c.loop-pins in
     let h = subst (NextIs a.src.now i.cursor) c.in-Text.is c.next_text.ensures in
-    let old : _ × _ = pin-fits a.src.now i.notes i.cursor (with_pins a.t i.names i.pins) (i.invariant.1 a.l c.bound_of-bound.ensures).ground h in record { start_lt_end = old.0; i_le_names_held = old.1; }
+    let old : _ × _ = pin-fits a.src.now i.notes i.cursor (with_pins a.t i.names i.pins) (i.invariant.1 a.l c.bound_of-bound.ensures).ground h in record { start_lt_end = old.0; i_le_names_held = old.1 }
 
 pub shape_of-notes-then-not-pin_noted : goal.shape_of-notes-then-not-pin_noted
 shape_of-notes-then-not-pin_noted c = c.notes-1.given ∙ c.loop-pins.invariant.0
@@ -32,7 +32,7 @@ returns-then-not-pin_noted c =
     let a = c.args in
     let i = c.loop-pins in
     let noted = c.pin_noted in
-    let same : noted.new.0 ≡ i.notes = subst (PinNoted a.src.now i.notes i.names i.pins _ _ a.long noted.new.0) (c.if-not-pin_noted.true) noted.ensures in
+    let same : noted.new.notes ≡ i.notes = subst (PinNoted a.src.now i.notes i.names i.pins _ _ a.long noted.new.notes) (c.if-not-pin_noted.true) noted.ensures in
     rw c.passed.ensures (subst (λ (ys : List ℕ). PinsAre a.l a.src.now a.notes.now a.c a.t a.long ys (record { cursor = i.cursor; tally = with_pins a.t i.names i.pins })) (sym same) (i.invariant.1 a.l c.bound_of-bound.ensures))
 
 pub overflow_add-names : goal.overflow_add-names
@@ -57,9 +57,9 @@ loop-pins-preserved c =
     let e = c.notes-1.given in
     let h = subst (NextIs s i.cursor) c.in-Text.is c.next_text.ensures in
     let ground = (i.invariant.1 a.l c.bound_of-bound.ensures).ground in
-    let pin = subst (PinNoted s i.notes i.names i.pins _ _ a.long noted.new.0) (c.if-not-pin_noted.false) noted.ensures in (
+    let pin = subst (PinNoted s i.notes i.names i.pins _ _ a.long noted.new.notes) (c.if-not-pin_noted.false) noted.ensures in (
       e ∙ i.invariant.0,
-      λ l room. pins-more l s a.notes.now a.c a.t a.long i.notes i.cursor u noted.new.0 _ e (pin-next s i.notes i.cursor u ground h l a.long noted.new.0 (omega (arith, c.loop-pins-test.true, room)) pin) (i.invariant.1 l room),
+      λ l room. pins-more l s a.notes.now a.c a.t a.long i.notes i.cursor u noted.new.notes _ e (pin-next s i.notes i.cursor u ground h l a.long noted.new.notes (omega (arith, c.loop-pins-test.true, room)) pin) (i.invariant.1 l room),
     )
 
 pub shape_of-notes-in-Change : goal.shape_of-notes-in-Change

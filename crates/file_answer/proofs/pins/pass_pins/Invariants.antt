@@ -11,7 +11,7 @@ use Rattle.file_answer.proofs.pins.pass_pins.Given as goal
 -- whatever else is lent, with room for so many pins
 abbrev pub invariant-loop-pins : goal.invariant-loop-pins
 invariant-loop-pins l =
-    (length l.notes ≡ length l.initial.notes) × ((l : Lengths) → l.bound ≡ bound l OfPin → PinsAre l l.src l.initial.notes l.initial.cursor l.t l.long l.notes (record { cursor = l.cursor; tally = with_pins l.t l.names l.pins }))
+    (length l.notes ≡ length l.initial.notes) × ((lent : Lengths) → l.bound ≡ bound lent OfPin → PinsAre lent l.src l.initial.notes l.initial.cursor l.t l.long l.notes (record { cursor = l.cursor; tally = with_pins l.t l.names l.pins }))
 
 abbrev pub decreases-loop-pins : goal.decreases-loop-pins
 decreases-loop-pins l = length l.src - l.cursor.at

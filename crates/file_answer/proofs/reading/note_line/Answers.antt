@@ -19,17 +19,17 @@ returns-in-Going c =
     let n = c.note_event in
     let going = c.in-Going.is in
     record {
-      e_value = rw c.faultless-in-Going.ensures (n.ensures.e_value ∙ ap (told_is a.src.now n.new.0 a.p.line) going);
-      kept_by = rw c.faultless-in-Going.ensures (subst (KeptBy n.new.0 a.t) going n.ensures.kept_by);
+      e_value = rw c.faultless-in-Going.ensures (n.ensures.e_value ∙ ap (told_is a.src.now n.new.notes a.p.line) going);
+      kept_by = rw c.faultless-in-Going.ensures (subst (KeptBy n.new.notes a.t) going n.ensures.kept_by);
     }
 
 pub returns-in-Full : goal.returns-in-Full
 returns-in-Full c =
     let a = c.args in
     let n = c.note_event in
-    let h = n.ensures.e_value ∙ ap (told_is a.src.now n.new.0 a.p.line) c.in-Full.is in
-    let e = full-told a.l a.src.now a.notes.now n.new.0 a.t a.p a.e _ _ h in
+    let h = n.ensures.e_value ∙ ap (told_is a.src.now n.new.notes a.p.line) c.in-Full.is in
+    let e = full-told a.l a.src.now a.notes.now n.new.notes a.t a.p a.e _ _ h in
     record {
-      e_value = h ∙ ap (told_is a.src.now n.new.0 a.p.line) e;
-      kept_by = subst (KeptBy n.new.0 a.t) (c.in-Full.is ∙ e) n.ensures.kept_by;
+      e_value = h ∙ ap (told_is a.src.now n.new.notes a.p.line) e;
+      kept_by = subst (KeptBy n.new.notes a.t) (c.in-Full.is ∙ e) n.ensures.kept_by;
     }

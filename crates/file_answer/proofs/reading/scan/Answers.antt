@@ -47,8 +47,8 @@ returns-then-fault-ne0 c =
     let n = c.note_line-noted in
     let h = subst (NextIs s i.cursor) c.in-Text.is c.next_text.ensures in
     record {
-      first_cursor_value = first_run a.l s a.notes.now _ _ c.first-cursor.ensures c.nothing-tally.ensures ∙ i.invariant.2 ∙ (rw c.broken_at.ensures (noted-full a.l s i.notes n.new.0 i.stage i.cursor i.tally _ c.spot_at-p.result c.spot_at-p.ensures h n.result _ n.ensures.e_value _ (sym c.on_plain.ensures ∙ c.in-On.is) c.if-fault-ne0.true));
-      names_le_most_names = (rw c.broken_at.ensures (noted-names n.new.0 i.tally n.result n.ensures.kept_by c.if-fault-ne0.true), rw c.broken_at.ensures tt);
+      first_cursor_value = first_run a.l s a.notes.now _ _ c.first-cursor.ensures c.nothing-tally.ensures ∙ i.invariant.2 ∙ (rw c.broken_at.ensures (noted-full a.l s i.notes n.new.notes i.stage i.cursor i.tally _ c.spot_at-p.result c.spot_at-p.ensures h n.result _ n.ensures.e_value _ (sym c.on_plain.ensures ∙ c.in-On.is) c.if-fault-ne0.true));
+      names_le_most_names = (rw c.broken_at.ensures (noted-names n.new.notes i.tally n.result n.ensures.kept_by c.if-fault-ne0.true), rw c.broken_at.ensures tt);
     }
 
 pub behind_list-y-requires : goal.behind_list-y-requires
@@ -58,7 +58,7 @@ behind_list-y-requires c =
     let i = c.loop-line in
     let n = c.note_line-noted in
     let h = subst (NextIs s i.cursor) c.in-Text.is c.next_text.ensures in
-    rw c.stands-x.ensures (noted-sound a.l s i.notes n.new.0 i.stage i.cursor i.tally _ h n.result i.invariant.0 c.notes-1.given n.ensures.kept_by c.if-fault-ne0.false)
+    rw c.stands-x.ensures (noted-sound a.l s i.notes n.new.notes i.stage i.cursor i.tally _ h n.result i.invariant.0 c.notes-1.given n.ensures.kept_by c.if-fault-ne0.false)
 
 pub loop-line-smaller-then-comes_in_numbers : goal.loop-line-smaller-then-comes_in_numbers
 loop-line-smaller-then-comes_in_numbers c =
@@ -74,7 +74,7 @@ loop-line-preserved-then-comes_in_numbers c =
     let n = c.note_line-noted in
     let h = subst (NextIs s i.cursor) c.in-Text.is c.next_text.ensures in
     let q = c.behind_list-y.ensures in
-    (q.sound, c.notes-then-comes_in_numbers-1.given ∙ c.notes-1.given ∙ i.invariant.1, i.invariant.2 ∙ noted-going a.l s i.notes n.new.0 i.stage i.cursor i.tally _ c.spot_at-p.result c.spot_at-p.ensures h n.result _ n.ensures.e_value _ (sym c.on_plain.ensures ∙ c.in-On.is) c.if-fault-ne0.false ∙ ap (run_from a.l s n.new.0) (sym c.stands-x.ensures) ∙ q.says)
+    (q.sound, c.notes-then-comes_in_numbers-1.given ∙ c.notes-1.given ∙ i.invariant.1, i.invariant.2 ∙ noted-going a.l s i.notes n.new.notes i.stage i.cursor i.tally _ c.spot_at-p.result c.spot_at-p.ensures h n.result _ n.ensures.e_value _ (sym c.on_plain.ensures ∙ c.in-On.is) c.if-fault-ne0.false ∙ ap (run_from a.l s n.new.notes) (sym c.stands-x.ensures) ∙ q.says)
 
 pub loop-line-smaller-else-comes_in_numbers : goal.loop-line-smaller-else-comes_in_numbers
 loop-line-smaller-else-comes_in_numbers c =
@@ -88,7 +88,7 @@ loop-line-preserved-else-comes_in_numbers c =
     let i = c.loop-line in
     let n = c.note_line-noted in
     let h = subst (NextIs s i.cursor) c.in-Text.is c.next_text.ensures in
-    (noted-sound a.l s i.notes n.new.0 i.stage i.cursor i.tally _ h n.result i.invariant.0 c.notes-1.given n.ensures.kept_by c.if-fault-ne0.false, c.notes-1.given ∙ i.invariant.1, i.invariant.2 ∙ noted-going a.l s i.notes n.new.0 i.stage i.cursor i.tally _ c.spot_at-p.result c.spot_at-p.ensures h n.result _ n.ensures.e_value _ (sym c.on_plain.ensures ∙ c.in-On.is) c.if-fault-ne0.false)
+    (noted-sound a.l s i.notes n.new.notes i.stage i.cursor i.tally _ h n.result i.invariant.0 c.notes-1.given n.ensures.kept_by c.if-fault-ne0.false, c.notes-1.given ∙ i.invariant.1, i.invariant.2 ∙ noted-going a.l s i.notes n.new.notes i.stage i.cursor i.tally _ c.spot_at-p.result c.spot_at-p.ensures h n.result _ n.ensures.e_value _ (sym c.on_plain.ensures ∙ c.in-On.is) c.if-fault-ne0.false)
 
 pub shape_of-notes-in-Stop : goal.shape_of-notes-in-Stop
 shape_of-notes-in-Stop c = c.loop-line.invariant.1

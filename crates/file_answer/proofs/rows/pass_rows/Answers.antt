@@ -47,8 +47,7 @@ loop-line-preserved c =
     let a = c.args in
     let i = c.loop-line in
     let h = subst (NextIs c.args.src.now c.loop-line.d) c.in-Text.is c.next_text.ensures in
-    let w = c.line-1.given.0.1 in
-    let row = row_goes (part w.0 w.1.0 a.src.now) i.seen i.last c.row_in-row.result c.row_in-row.ensures c.if-row-ne0.false i.head i.tail _ _ _ _ c.decimal_in-last.ensures c.holds_number-tail.ensures c.head_after-head.ensures c.one_more-seen.ensures in
+    let row = row_goes (part c.in-Text.start c.in-Text.end a.src.now) i.seen i.last c.row_in-row.result c.row_in-row.ensures c.if-row-ne0.false i.head i.tail _ _ _ _ c.decimal_in-last.ensures c.holds_number-tail.ensures c.head_after-head.ensures c.one_more-seen.ensures in
     passed-more a.src.now a.c a.r a.n i.d _ _ i.count _ _ _ _ h row i.invariant
 
 pub returns-in-Change : goal.returns-in-Change

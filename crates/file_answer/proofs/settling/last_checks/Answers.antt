@@ -10,9 +10,9 @@ use Rattle.file_answer.proofs.settling.last_checks.Goals as goal
 
 pub last_fault-requires : goal.last_fault-requires
 last_fault-requires c = record {
-      n_le_names_held = names-small c.args.t c.requires.within;
-      n_value = c.requires.names;
-    }
+  n_le_names_held = names-small c.args.t c.requires.within;
+  n_value = c.requires.names;
+}
 
 pub returns-in-Fine : goal.returns-in-Fine
 returns-in-Fine c =

@@ -6,12 +6,12 @@ use Rattle.from_notes.proofs.places.word_behind.Goals as goal
 
 pub returns-then-notes-i : goal.returns-then-notes-i
 returns-then-notes-i c = record {
-      value = word-past c.args.notes.now (c.args.from + c.args.i) (omega arith);
-      upper_bound = omega arith;
-    }
+  value = word-past c.args.notes.now (c.args.from + c.args.i) (omega arith);
+  upper_bound = omega arith;
+}
 
 pub returns-then-notes-i-2 : goal.returns-then-notes-i-2
 returns-then-notes-i-2 c = record {
-      value = word-past c.args.notes.now (c.args.from + c.args.i) (omega arith);
-      upper_bound = omega arith;
-    }
+  value = word-past c.args.notes.now (c.args.from + c.args.i) (omega arith);
+  upper_bound = omega arith;
+}

@@ -51,12 +51,12 @@ returns-then-i-n c =
     let xs = a.notes.now in
     let i = c.scan.i in
     let here : some (noted_line s xs i) ≡ clash (entries_to s xs a.n) =
-        elim c.scan-test.branch [
-          else-scan-test w ↦ absurd (omega (arith, w.scan-test.false, c.if-i-n.true))
-        | then-scan-test+then-loop-j-test+in-Equal w ↦ sym
-            (clash-here s xs i a.n c.if-i-n.true c.scan.invariant.1
-            (sym w.loop-j.invariant.1 ∙ used_turn s xs i w.kind_at-k.result w.part_at-name.result w.kind_at-k.ensures w.part_at-name.ensures w.loop-j.j w.meet-m.result Equal w.loop-j-test.true w.meet-m.ensures w.in-Equal.is))
-        ] in
+    elim c.scan-test.branch [
+      | else-scan-test w ↦ absurd (omega (arith, w.scan-test.false, c.if-i-n.true))
+      | then-scan-test+then-loop-j-test+in-Equal w ↦ sym
+          (clash-here s xs i a.n c.if-i-n.true c.scan.invariant.1
+          (sym w.loop-j.invariant.1 ∙ used_turn s xs i w.kind_at-k.result w.part_at-name.result w.kind_at-k.ensures w.part_at-name.ensures w.loop-j.j w.meet-m.result Equal w.loop-j-test.true w.meet-m.ensures w.in-Equal.is))
+    ] in
     ap clash_of (ap some c.line_at.ensures ∙ here)
 
 pub returns : goal.returns

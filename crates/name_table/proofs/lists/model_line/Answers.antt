@@ -8,7 +8,6 @@ use Rattle.name_table.specs.Listed.{listed_name}
 use Rattle.name_table.specs.declared.NameList.TheVariants.{ModelLines}
 use Rattle.name_table.proofs.Laws.{name-past, at_place}
 use Rattle.name_table.proofs.lists.model_line.Goals as goal
-
 use Rattle.laws.specs.Bytes.{is_blank}
 use Rattle.laws.specs.Eights.{bytes_from}
 use Rattle.laws.proofs.Numbers.{apart-le}

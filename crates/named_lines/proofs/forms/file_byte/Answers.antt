@@ -24,7 +24,7 @@ returns-in_default c =
     ap (λ (n : ℕ). ltb n 16) (c.find.ensures.value ∙ zero-add (length (front (other b) file_marks)))
     ∙ sym (among-found b file_marks)
     ∙ sym (elim c.in_default.branch as (λ w. is_file_byte b ≡ among b file_marks) [
-      in_default-via-then-b-lt48 w ↦ file-low b w.if-b-lt48-1.true
-    | in_default-via-else-b-lt48+else-b-lt58+then-b-lt97 w ↦ file-between b w.if-b-lt58-1.false w.if-b-lt97-1.true
-    | in_default-via-else-b-lt48+else-b-lt58+else-b-lt97+else-b-lt123 w ↦ file-high b w.if-b-lt123-1.false
+      | in_default-via-then-b-lt48 w ↦ file-low b w.if-b-lt48-1.true
+      | in_default-via-else-b-lt48+else-b-lt58+then-b-lt97 w ↦ file-between b w.if-b-lt58-1.false w.if-b-lt97-1.true
+      | in_default-via-else-b-lt48+else-b-lt58+else-b-lt97+else-b-lt123 w ↦ file-high b w.if-b-lt123-1.false
     ])

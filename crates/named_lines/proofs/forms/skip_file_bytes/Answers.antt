@@ -10,15 +10,15 @@ loop-i-init c = (omega arith, refl)
 
 pub returns-then-not-file_byte : goal.returns-then-not-file_byte
 returns-then-not-file_byte c = record {
-      value = sym (front-stop is_file_byte _ _ 0 c.loop-i-test.true (sym c.file_byte.ensures ∙ c.if-not-file_byte.true)) ∙ c.loop-i.invariant.1;
-      lower_bound = omega arith;
-    }
+  value = sym (front-stop is_file_byte _ _ 0 c.loop-i-test.true (sym c.file_byte.ensures ∙ c.if-not-file_byte.true)) ∙ c.loop-i.invariant.1;
+  lower_bound = omega arith;
+}
 
 pub loop-i-preserved : goal.loop-i-preserved
 loop-i-preserved c = (omega arith, front-more is_file_byte _ _ 0 c.loop-i-test.true (sym c.file_byte.ensures ∙ c.if-not-file_byte.false) ∙ c.loop-i.invariant.1)
 
 pub returns : goal.returns
 returns c = record {
-      value = sym (front-end is_file_byte _ _ c.loop-i-test.false) ∙ c.loop-i.invariant.1;
-      lower_bound = omega arith;
-    }
+  value = sym (front-end is_file_byte _ _ c.loop-i-test.false) ∙ c.loop-i.invariant.1;
+  lower_bound = omega arith;
+}

@@ -10,15 +10,15 @@ loop-i-init c = (omega arith, refl)
 
 pub returns-then-not-name_byte : goal.returns-then-not-name_byte
 returns-then-not-name_byte c = record {
-      value = sym (front-stop is_name_byte _ _ 0 c.loop-i-test.true (sym c.name_byte.ensures ∙ c.if-not-name_byte.true)) ∙ c.loop-i.invariant.1;
-      lower_bound = omega arith;
-    }
+  value = sym (front-stop is_name_byte _ _ 0 c.loop-i-test.true (sym c.name_byte.ensures ∙ c.if-not-name_byte.true)) ∙ c.loop-i.invariant.1;
+  lower_bound = omega arith;
+}
 
 pub loop-i-preserved : goal.loop-i-preserved
 loop-i-preserved c = (omega arith, front-more is_name_byte _ _ 0 c.loop-i-test.true (sym c.name_byte.ensures ∙ c.if-not-name_byte.false) ∙ c.loop-i.invariant.1)
 
 pub returns : goal.returns
 returns c = record {
-      value = sym (front-end is_name_byte _ _ c.loop-i-test.false) ∙ c.loop-i.invariant.1;
-      lower_bound = omega arith;
-    }
+  value = sym (front-end is_name_byte _ _ c.loop-i-test.false) ∙ c.loop-i.invariant.1;
+  lower_bound = omega arith;
+}

@@ -5,7 +5,6 @@ use Rattle.laws.proofs.Numbers.{apart-le}
 use Rattle.name_table.specs.Places.{meaning_at}
 use Rattle.line_rules.specs.Tables.{model_types}
 use Rattle.named_lines.proofs.lookups.type_at.Goals as goal
-
 use mathlib.Core.Path.{◌≡◌}
 use native.Mathlib.Omega.{arith}
 use Rattle.laws.proofs.Numbers.{apart-le}

@@ -15,4 +15,4 @@ returns c =
     let a = c.args in
     let name = c.first_in-name in
     let row = c.row_note-x in
-    let old : _ × _ = told-row a.src.now a.notes.now a.l a.t a.p c.requires OfChoice name.result name.result _ refl row.ensures.0 row.ensures.1 refl name.ensures.text name.ensures.text c.put_row.ensures c.count_name.ensures in record { p_value = old.0; kept_by = old.1; }
+    let old : _ × _ = told-row a.src.now a.notes.now a.l a.t a.p c.requires OfChoice name.result name.result _ refl row.ensures.0 row.ensures.1 refl name.ensures.text name.ensures.text c.put_row.ensures c.count_name.ensures in record { p_value = old.0; kept_by = old.1 }

@@ -23,4 +23,4 @@ returns c =
     let signal = c.first_in-signal in
     let model = c.first_in-model in
     let row = c.row_note-x in
-    let old : _ × _ = told-row s a.notes.now a.l a.t p c.requires OfPin name.result model.result _ refl row.ensures.0 row.ensures.1 refl name.ensures.text (third-in s p.start p.end name.result signal.result model.result name.ensures signal.ensures model.ensures) c.put_row.ensures c.count_name.ensures in record { p_value = old.0; kept_by = old.1; }
+    let old : _ × _ = told-row s a.notes.now a.l a.t p c.requires OfPin name.result model.result _ refl row.ensures.0 row.ensures.1 refl name.ensures.text (third-in s p.start p.end name.result signal.result model.result name.ensures signal.ensures model.ensures) c.put_row.ensures c.count_name.ensures in record { p_value = old.0; kept_by = old.1 }

@@ -7,10 +7,10 @@ use Rattle.section_words.proofs.keys.fill_key.Goals as goal
 
 pub fill_part-requires : goal.fill_part-requires
 fill_part-requires c = record {
-      placed = c.requires.placed;
-      row_in_bounds = rw c.in-InModel.is at c.requires.row_in_bounds;
-      part_in_bounds = rw c.in-InModel.is at c.requires.k_in_bounds;
-    }
+  placed = c.requires.placed;
+  row_in_bounds = rw c.in-InModel.is at c.requires.row_in_bounds;
+  part_in_bounds = rw c.in-InModel.is at c.requires.k_in_bounds;
+}
 
 pub returns-in-InModel : goal.returns-in-InModel
 returns-in-InModel c = λ b i l. rw c.in-InModel.is (c.fill_part.ensures b i l)

@@ -14,16 +14,16 @@ use Rattle.section_words.proofs.keys.fill_part.Goals as goal
 
 pub fill_current-requires : goal.fill_current-requires
 fill_current-requires c = record {
-      placed = c.requires.placed;
-      c_in_bounds = rw c.in-Current.is at c.requires.part_in_bounds;
-    }
+  placed = c.requires.placed;
+  c_in_bounds = rw c.in-Current.is at c.requires.part_in_bounds;
+}
 
 pub fill_wave-requires : goal.fill_wave-requires
 fill_wave-requires c = record {
-      placed = (c.requires.placed.0, c.requires.placed.1);
-      waveform_size_in_bounds = rw c.in-Waveform.is at c.requires.row_in_bounds;
-      c_in_bounds = rw c.in-Waveform.is at c.requires.part_in_bounds;
-    }
+  placed = (c.requires.placed.0, c.requires.placed.1);
+  waveform_size_in_bounds = rw c.in-Waveform.is at c.requires.row_in_bounds;
+  c_in_bounds = rw c.in-Waveform.is at c.requires.part_in_bounds;
+}
 
 pub returns-in-VoltageRange : goal.returns-in-VoltageRange
 returns-in-VoltageRange c =

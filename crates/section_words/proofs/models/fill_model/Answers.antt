@@ -11,11 +11,10 @@ use Rattle.section_words.proofs.models.fill_model.Goals as goal
 pub fill_body-used-requires : goal.fill_body-used-requires
 fill_body-used-requires c =
     let h = c.put_firsts-next.ensures.stops_at in
-    let p = (c.requires.placed, (c.requires.model_size_in_bounds, (c.requires.c_in_bounds, c.requires.c_in_bounds_2))) in
     record {
-      placed = (h.placed, p.0.1, omega (arith, c.model-1.given, p.1.0));
-      c_in_bounds = rw (waves-ahead h c.args.row) at p.1.1.0;
-      c_in_bounds_2 = rw (rows-ahead h c.args.row) at p.1.1.1;
+      placed = (h.placed, c.requires.placed.1, omega (arith, c.model-1.given, c.requires.model_size_in_bounds));
+      c_in_bounds = rw (waves-ahead h c.args.row) at c.requires.c_in_bounds;
+      c_in_bounds_2 = rw (rows-ahead h c.args.row) at c.requires.c_in_bounds_2;
     }
 
 pub shape_of-model : goal.shape_of-model

@@ -63,6 +63,6 @@ shape_of-rows-in-NoLine c = fills-length c.loop-start.invariant.fills c.requires
 
 pub returns-in-NoLine : goal.returns-in-NoLine
 returns-in-NoLine c = record {
-      waveform_value = c.with_rows.ensures ∙ reads_end c.loop-start.invariant c.in-NoLine.is c.next_line.ensures _ _ c.bare_waveform-x.ensures;
-      fill_is = fills-end c.loop-start.invariant.fills c.in-NoLine.is c.next_line.ensures;
-    }
+  waveform_value = c.with_rows.ensures ∙ reads_end c.loop-start.invariant c.in-NoLine.is c.next_line.ensures _ _ c.bare_waveform-x.ensures;
+  fill_is = fills-end c.loop-start.invariant.fills c.in-NoLine.is c.next_line.ensures;
+}

@@ -27,4 +27,4 @@ pub shape_of-out : goal.shape_of-out
 shape_of-out c = words-keep (λ (k : ℕ). component_words (component_at c.args.src.now c.args.notes.now k)) component_size (λ k. refl) c.args.out.now c.loop-i.out c.loop-i.i c.args.n c.loop-i.invariant.1 c.requires c.loop-i.invariant.0
 
 pub returns : goal.returns
-returns c = let e : c.before.loop.i ≡ c.before.before.before.before.before.args.n = omega (arith, c.loop-i-test.false, c.loop-i.invariant.0) in rw (sym e) c.loop-i.invariant.1
+returns c = let e : c.loop-i.i ≡ c.args.n = omega (arith, c.loop-i-test.false, c.loop-i.invariant.0) in rw (sym e) c.loop-i.invariant.1
