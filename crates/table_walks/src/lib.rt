@@ -1,2 +1,2 @@
-// The walks of functions over lent tables of records, over any record of plain data: specs/ says what a filled table is, proofs/ has the walks. No code.
+// Functions over lent tables of records, over any record of plain data: specs/ says what a filled table is, proofs/ what is asked of an element and what each turn of a loop keeps. No code.
 #![tactic(auto)]

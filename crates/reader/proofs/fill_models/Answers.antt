@@ -1,6 +1,6 @@
 -- By what `Making` says of each turn: it puts a waveform, or the model that all its waveforms are put for.
-use Prim.Native.Nat.{ℕ, suc, ◌+◌, ◌-◌, ◌<◌, ◌≤◌}
-use mathlib.Core.Path.{◌≡◌, sym, ap, subst, ◌∙◌}
+use Prim.Native.Nat.{ℕ, suc, ◌+◌, ◌-◌, ◌<◌}
+use mathlib.Core.Path.{sym, ap, subst, ◌∙◌}
 use mathlib.Core.Bool.{Bool, not}
 use mathlib.Core.List.{List}
 use native.Mathlib.Numerals.{add-one}
@@ -11,7 +11,7 @@ use Rattle.records.specs.declared.Model.{Model}
 use Rattle.records.specs.declared.Waveform.{Waveform}
 use Rattle.from_notes.specs.Made.{waveforms_at}
 use Rattle.from_notes.specs.declared.Progress.{Progress}
-use Rattle.reader.proofs.Making.{Made, begins, ready, seconds, firsts, ends}
+use Rattle.reader.proofs.Making.{Made, begins, ready, seconds, firsts}
 use Rattle.reader.proofs.fill_models.Goals as goal
 
 fewer : (a t k : ℕ) → k < t → a + (t - (k + 1)) < a + (t - k)

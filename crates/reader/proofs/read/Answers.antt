@@ -1,11 +1,9 @@
 -- What `loaded` tells of the answer and the notes gives what each fill asks, and what is left is what is promised.
-use Prim.Native.Nat.{ℕ, ◌≤◌}
-use mathlib.Core.Path.{◌≡◌, sym, ap, subst, ◌∙◌}
-use mathlib.Core.List.{List}
+use Prim.Native.Nat.{◌≤◌}
+use mathlib.Core.Path.{sym, subst}
 use native.Mathlib.Nat.{le_refl}
 use lib.ListN.{length}
 use Rattle.records.specs.declared.Counts.{Counts}
-use Rattle.note_words.specs.Store.{store_length}
 use Rattle.file_answer.specs.Sorted.{Loads}
 use Rattle.reader.specs.Filling.{ModelsFit, ModelsFilled}
 use Rattle.reader.proofs.Laws.{fits, finishes}

@@ -10,13 +10,13 @@ pub list_tables-requires : goal.list_tables-requires
 list_tables-requires c =
     let a = c.args in
     let o = c.outlined-a in
-    has_room a.src.now (list_tables a.pins.now a.selectors.now a.choices.now a.models.now) o.new.1.1.0 o.result
-    (subst (λ (l : Lengths). Outlines l a.src.now o.result o.new.1.1.0) c.lengths_listed-l.ensures o.ensures)
+    has_room a.src.now (list_tables a.pins.now a.selectors.now a.choices.now a.models.now) o.new.notes o.result
+    (subst (λ (l : Lengths). Outlines l a.src.now o.result o.new.notes) c.lengths_listed-l.ensures o.ensures)
 
 pub returns : goal.returns
 returns c =
     let a = c.args in
     let o = c.outlined-a in
-    let f = lists a.src.now (list_tables a.pins.now a.selectors.now a.choices.now a.models.now) o.new.1.1.0 o.result
-    (subst (λ (l : Lengths). Outlines l a.src.now o.result o.new.1.1.0) c.lengths_listed-l.ensures o.ensures) in
+    let f = lists a.src.now (list_tables a.pins.now a.selectors.now a.choices.now a.models.now) o.new.notes o.result
+    (subst (λ (l : Lengths). Outlines l a.src.now o.result o.new.notes) c.lengths_listed-l.ensures o.ensures) in
     record { answer = f.answer; tables = c.list_tables.ensures ∙ f.tables }

@@ -10,13 +10,13 @@ pub fill_tables-requires : goal.fill_tables-requires
 fill_tables-requires c =
     let a = c.args in
     let o = c.loaded-a in
-    fits a.src.now (word_tables a.components.now a.pins.now a.selectors.now a.choices.now a.models.now a.waveforms.now a.rows.now) o.new.1.1.0 o.result
-    (subst (λ (l : Lending). Loads l a.src.now o.result o.new.1.1.0) c.room_in-l.ensures o.ensures)
+    fits a.src.now (word_tables a.components.now a.pins.now a.selectors.now a.choices.now a.models.now a.waveforms.now a.rows.now) o.new.notes o.result
+    (subst (λ (l : Lending). Loads l a.src.now o.result o.new.notes) c.room_in-l.ensures o.ensures)
 
 pub returns : goal.returns
 returns c =
     let a = c.args in
     let o = c.loaded-a in
-    let f = finishes a.src.now (word_tables a.components.now a.pins.now a.selectors.now a.choices.now a.models.now a.waveforms.now a.rows.now) o.new.1.1.0 o.result
-    (subst (λ (l : Lending). Loads l a.src.now o.result o.new.1.1.0) c.room_in-l.ensures o.ensures) in
+    let f = finishes a.src.now (word_tables a.components.now a.pins.now a.selectors.now a.choices.now a.models.now a.waveforms.now a.rows.now) o.new.notes o.result
+    (subst (λ (l : Lending). Loads l a.src.now o.result o.new.notes) c.room_in-l.ensures o.ensures) in
     record { answer = f.answer; tables = c.fill_tables.ensures ∙ f.tables }
