@@ -24,10 +24,10 @@ def files_of(folder, pattern):
 
 @lru_cache(None)
 def listed():
-    """What crates.txt lists, a crate's dependencies by its name."""
+    """What crates.txt lists, a crate's dependencies by its name; behind a name may stand what it is built as."""
     rows = (line.split("#")[0] for line in (ROOT / "crates.txt").read_text().splitlines())
     pairs = (row.split(":") for row in rows if row.strip())
-    return {name.strip(): dependencies.split() for name, dependencies in pairs}
+    return {name.split()[0]: dependencies.split() for name, dependencies in pairs}
 
 
 @lru_cache(None)
