@@ -11,8 +11,8 @@ use program_output::tables::{
 use records::Verdict;
 use std::env::Env;
 
-mod cells; // cells.rt: a record's lines of doubles, with those of what is its own in other tables
 mod as_doubles; // as_doubles.rt: every cell as a double
+mod cells; // cells.rt: a record's lines of doubles, with those of what is its own in other tables
 
 #[derive(Clone, Copy)]
 enum Question {
