@@ -1,7 +1,5 @@
-# How C programs over the static library are built and run; on Arm by Debian's compiler for x86-64 and the kit's emulator.
-emulator=
+# How C programs over the static library are built and run.
 compiler=cc
-static=
 sanitized='-fsanitize=address,undefined -fno-sanitize-recover=all'
 
 # obtain COMMAND PACKAGE..: installs Debian's packages where the command is missing, also on a machine whose package lists were never fetched
@@ -15,28 +13,20 @@ obtain() {
     return 1
 }
 
-if [ "$(uname -m)" != x86_64 ]; then
-    compiler=x86_64-linux-gnu-gcc
-    static=-static
-    sanitized='-fsanitize=undefined -fsanitize-undefined-trap-on-error' # the emulator has no room for the address sanitizer's shadow
-    emulator=$(dirname "$(dirname "$(rt doc)")")/on/$(uname -m)/toolchain/bin/qemu-x86_64
-    obtain "$compiler" gcc-x86-64-linux-gnu libc6-dev-amd64-cross || exit 2
-fi
-
 # library: proves the crate and writes the archive
 library() {
     mkdir -p target/bench
-    rt staticlib olhovest >target/bench/library.out 2>&1 || { tail -n 20 target/bench/library.out; return 1; }
+    (cd crates/olhovest && rt lib) >target/bench/library.out 2>&1 || { tail -n 20 target/bench/library.out; return 1; }
 }
 
 # build PROGRAM SOURCE..: links the sources with the archive; `$flags` go to the compiler too
 build() {
     local program=$1
     shift
-    "$compiler" -std=c11 -O2 -Wall -Wextra -Werror -I c ${flags:-} $static -o "$program" "$@" target/staticlib/libolhovest.a
+    "$compiler" -std=c11 -O2 -Wall -Wextra -Werror -I c ${flags:-} -o "$program" "$@" crates/olhovest/out/libolhovest.a
 }
 
 # launch PROGRAM WORD..: runs what was built
 launch() {
-    ${emulator:+"$emulator" -s 16777216} "$@"
+    "$@"
 }

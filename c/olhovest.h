@@ -3,7 +3,7 @@
  * of the tables then.
  *
  * Every function is proved to do what is said here, for any bytes and tables of any length. The archive is for x86-64
- * Linux; `rt staticlib olhovest` writes it to target/staticlib/libolhovest.a. It calls nothing but memcpy and memset,
+ * Linux; `rt lib` in crates/olhovest writes it to out/libolhovest.a there. It calls nothing but memcpy and memset,
  * allocates nothing, keeps nothing between calls, and needs at most 32 KiB of stack.
  */
 #ifndef OLHOVEST_H

@@ -1,8 +1,9 @@
 """edits.py: every wrong answer fits its crate, and the gate's are refused for a fact.
 
 An edit, in crates/*/must-fail/ or in tried/*/, names files of its crate and texts that stand there exactly once, so that none rots.
-What the prover said of the gate's edits, where `rt ci` has left it, must not be that the proof no longer fits the code's shape: that
-refuses nothing. The gate tries at most MOST edits, for each is a whole check of its crate; with --all as many as there are.
+What `rt` said of the gate's edits, where `test` or `tried/run` has left it, must be of each that the prover refused it, and not only
+because the proof names what the edit took away: that refuses nothing. The gate tries at most MOST edits, for each is a whole check of its
+crate; with --all as many as there are.
 """
 import re
 import sys
@@ -10,7 +11,9 @@ from pathlib import Path
 
 ROOT = Path(__file__).resolve().parent.parent
 MOST = 83
-SHAPE = re.compile(r"has no `Need-|has no field")
+SAID = ROOT / "target" / "gate.out"
+TOLD = re.compile(r"^rt: must-fail (\S+)/(\S+\.edit): (.*)$", re.M)
+REFUSED = re.compile(r"refused, as it must be(: |$)")
 
 
 def misfit(edit, crate):
@@ -34,21 +37,29 @@ def misfit(edit, crate):
     return None if pairs else "it changes nothing"
 
 
-def unfounded(crate, label):
-    """The first error of a refusal that only says that the proof no longer fits the code's shape, or nothing."""
-    log = ROOT / "target" / "must-fail" / crate / label / ".log"
-    errors = [line for line in log.read_text(errors="replace").splitlines() if "error" in line] if log.is_file() else []
-    return errors[0] if errors and SHAPE.search(errors[0]) else None
+def said():
+    """What `rt` said of each edit that it tried, by crate and name; nothing where it has left no word."""
+    text = SAID.read_text(errors="replace") if SAID.is_file() else ""
+    return {(crate, name): told for crate, name, told in TOLD.findall(text)}
+
+
+def unfounded(edit, told):
+    """Why what `rt` said of an edit refuses nothing, or nothing. What it said before the edit was written is not of this edit."""
+    if not SAID.is_file() or edit.stat().st_mtime > SAID.stat().st_mtime:
+        return None
+    if told is None:
+        return "it was not tried"
+    return None if REFUSED.match(told) else told[:300]
 
 
 def main():
-    faults, passed = [], 0
+    faults, passed, words = [], 0, said()
     gate = sorted(ROOT.glob("crates/*/must-fail/*.edit"))
     for edit in gate + sorted(ROOT.glob("tried/*/*.edit")):
         crate = edit.relative_to(ROOT).parts[1]
         fault = misfit(edit, crate)
         if not fault and edit in gate:
-            fault = unfounded(crate, edit.stem)
+            fault = unfounded(edit, words.get((crate, edit.name)))
         if fault:
             faults.append(f"{edit.relative_to(ROOT)}: {fault}")
         else:

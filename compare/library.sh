@@ -57,10 +57,10 @@ for name in olhovest_check olhovest_check_3 olhovest_read olhovest_find_model ol
     hold "a program for an older version that calls $name" "undefined reference to \`$name'" "$(links "$name")"
 done
 hold 'a program that calls what has not moved' links "$(links olhovest_find_pin)"
-hold 'the sizes in the header' "$(sizes crates/record_words/specs/Records.antt '^([a-z]+)Size = ([0-9]+)$')" \
+hold 'the sizes in the header' "$(sizes crates/record_words/specs/Records.antt '^([a-z]+)_size = ([0-9]+)$')" \
     "$(sizes c/olhovest.h '^    OLHOVEST_([A-Z]+)_WORDS = ([0-9]+),?$' | grep -v ^answer)"
-hold 'the rows in the header' "$(grep -x 'mostRows = [0-9]*' crates/records/specs/Bounds.antt)" \
-    "mostRows = $(sed -nE 's/^    OLHOVEST_ROWS = ([0-9]+),?$/\1/p' c/olhovest.h)"
+hold 'the rows in the header' "$(grep -x 'most_rows = [0-9]*' crates/records/specs/Bounds.antt)" \
+    "most_rows = $(sed -nE 's/^    OLHOVEST_ROWS = ([0-9]+),?$/\1/p' c/olhovest.h)"
 printf '#include <stdint.h>\nuint64_t other_version(void);\nuint64_t other_version(void) { return 1; }\n' >"$out/other.c"
 flags=-Dolhovest_version=other_version build "$out/apart" c/example.c "$out/other.c" || exit 2
 hold 'what the example says of another version' 'the library is of version 1: compile this program with its header' \

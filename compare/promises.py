@@ -8,57 +8,74 @@ from pathlib import Path
 
 ROOT = Path(__file__).resolve().parent.parent
 FUNCTION = re.compile(r'^ *pub (?:extern "C" )?fn (\w+)', re.M)
-PROMISE = re.compile(r"ensures \{ λ (\w+)\. ⌜ (.*?) ⌝ \}", re.S)
+PROMISE = re.compile(r"ensures(?: \w+)? \{")
 BODY = re.compile(r" *\{$", re.M)
 LISTED = re.compile(r"`(\w+)::(\w+|\{[^}]*\})`")
 PROVED = re.compile(r"^pub \w+ : .*→ One \((\w+)", re.M)
 DESCRIBED = re.compile(r"^- `(?:\w+::)*(\w+)`: (.+)$")
-NAME = re.compile(r"\.?[\w«»·′'-]+")
+NAME = re.compile(r"\.?[\w«»′'-]+(?:\.[\w«»′'-]+)*")
+LEFT = {"new", "exit"}
 OPERATORS = {"≡", "≤", "<", "+", "-", "*", "/", "%", "∷", "++", "[]", "=", ";", ","}
 
-# Promises that are made up, and what each fixes: r is the result, x a lent slice.
+# Promises that are made up, and what each fixes: x, y and z are lent slices. Clauses of one promise stand side by side.
 MADE_UP = (
-    ("r ≡ g (now (x .entry))", {"result"}),
-    ("r ≡ record { at = 2; end = at + 3 }", {"result"}),
-    ("now r ≡ g (now (x .entry))", {"result"}),
-    ("now r ≡ drop 2 (now r)", set()),
-    ("now (x .exit) ≡ h", {"x"}),
-    ("(r ≡ g) × (now (x .exit) ≡ h)", {"result", "x"}),
-    ("(r ≡ g) × (at ≤ r) × (now (x .exit) ≡ h)", {"result", "x"}),
-    ("((r ≡ g) × (at ≤ r)) × (now (x .exit) ≡ h)", {"result", "x"}),
-    ("WordAt (now (x .entry)) at r", {"result"}),
-    ("Put (now (x .entry)) (now (x .exit)) at (byte ∷ []) r", {"result", "x"}),
-    ("Read (now (x .entry)) r (now (y .exit))", {"result", "y"}),
-    ("Lists (now (x .entry)) r (listTables (now (y .exit)) (now (z .exit)))", {"result", "y", "z"}),
-    ("wordTables (now (x .exit)) (now (y .exit)) ≡ h r", set()),
-    ("wordTables (now (x .exit)) (now (y .exit)) ≡ h", {"x", "y"}),
-    ("listTables (now (x .exit)) (now (y .exit)) ≡ h", {"x", "y"}),
-    ("otherTables (now (x .exit)) (now (y .exit)) ≡ h", set()),
-    ("r ≡ r", set()),
-    ("r ≡ g ⊎ Unit", set()),
-    ("r ≡ g → Unit", set()),
-    ("(r ≡ g) ⊎ Unit", set()),
-    ("Unit → (r ≡ g)", set()),
-    ("(r ≡ g → ⊥)", set()),
-    ("(r ≡ g) × (now (x .exit) ≡ h) ⊎ Unit", set()),
-    ("(r ≡ g ⊎ Unit) × (now (x .exit) ≡ h)", {"x"}),
-    ("r ≡ g × Unit", set()),
-    ("(y : ℕ) × (r ≡ y)", set()),
-    ("Either (r ≡ g) Unit", set()),
-    ("r ≡ g ≡ h", set()),
-    ("WordAt (now (x .entry)) ⊎ r", set()),
-    ("Exports (now (x .entry)) ⊎ r (now (x .exit))", set()),
-    ("r ≡ record { at = r; end = 3 }", set()),
-    ("r ≡ record { at = now (x .exit); end = 3 }", set()),
-    ("r ≡ record { src = x .exit; at = 3 }", set()),
-    ("r ≡ g (r, 3)", set()),
-    ("now (x .exit) ≡ sets (now (x .exit)) 3", set()),
-    ("now (x .exit) ≡ h r", set()),
-    ("now (x .exit) ≡ now (y .exit)", set()),
-    ("Read (now (x .entry)) r (half (now (y .exit)))", set()),
-    ("Put (now (x .entry)) (now (x .exit)) at (now (x .exit)) r", set()),
-    ("(r ≡ g", set()),
-    ("r ≡ record { at = 3 )", set()),
+    ("result ≡ g x.now", {"result"}),
+    ("result ≡ record { at = 2; end = at + 3 }", {"result"}),
+    ("result.now ≡ g x.old", {"result"}),
+    ("result.now ≡ drop 2 result.now", set()),
+    ("x.new ≡ h", {"x"}),
+    ("(result ≡ g) × (x.new ≡ h)", {"result", "x"}),
+    ("(result ≡ g) × (at ≤ result) × (x.new ≡ h)", {"result", "x"}),
+    ("((result ≡ g) × (at ≤ result)) × (x.new ≡ h)", {"result", "x"}),
+    ("WordAt x.now at result", {"result"}),
+    ("Put x.old x.new at (byte ∷ []) result", {"result", "x"}),
+    ("Read x.now result y.new", {"result", "y"}),
+    ("Lists x.now result (list_tables y.new z.new)", {"result", "y", "z"}),
+    ("word_tables x.new y.new ≡ h result", set()),
+    ("word_tables x.new y.new ≡ h", {"x", "y"}),
+    ("list_tables x.new y.new ≡ h", {"x", "y"}),
+    ("other_tables x.new y.new ≡ h", set()),
+    ("result ≡ result", set()),
+    ("result ≡ g ⊎ Unit", set()),
+    ("result ≡ g → Unit", set()),
+    ("(result ≡ g) ⊎ Unit", set()),
+    ("Unit → (result ≡ g)", set()),
+    ("(result ≡ g → ⊥)", set()),
+    ("(result ≡ g) × (x.new ≡ h) ⊎ Unit", set()),
+    ("(result ≡ g ⊎ Unit) × (x.new ≡ h)", {"x"}),
+    ("result ≡ g × Unit", set()),
+    ("(y : ℕ) × (result ≡ y)", set()),
+    ("Either (result ≡ g) Unit", set()),
+    ("result ≡ g ≡ h", set()),
+    ("WordAt x.now ⊎ result", set()),
+    ("Exports x.now ⊎ result x.new", set()),
+    ("result ≡ record { at = result; end = 3 }", set()),
+    ("result ≡ record { at = x.new; end = 3 }", set()),
+    ("result ≡ record { src = x.exit; at = 3 }", set()),
+    ("result ≡ g (result, 3)", set()),
+    ("x.new ≡ sets x.new 3", set()),
+    ("x.new ≡ h result", set()),
+    ("x.new ≡ y.new", set()),
+    ("Read x.now result (half y.new)", set()),
+    ("Put x.old x.new at x.new result", set()),
+    ("(result ≡ g", set()),
+    ("result ≡ record { at = 3 )", set()),
+    # a part of the result, or of what is left, is not all of it; and what is lent is not what is left
+    ("result.end ≡ g", set()),
+    ("result ≡ g result.end", set()),
+    ("x.new.rows ≡ h", set()),
+    ("result ≡ g x.new.rows", set()),
+    ("result ≡ g (x).new", set()),
+    ("x.now ≡ h", set()),
+    ("x.old ≡ h", set()),
+    ("result ≡ λ y. g", set()),
+    # several clauses fix what each of them fixes
+    ("result ≡ g", "x.new ≡ h", {"result", "x"}),
+    ("result ≡ g", "at ≤ result", "x.new ≡ h", {"result", "x"}),
+    ("at ≤ result", "result ≤ length x.now", set()),
+    ("result ≡ g ⊎ Unit", "x.new ≡ h", {"x"}),
+    ("result ≡ g result", "x.new ≡ h result", set()),
+    ("result ≡ record { at = 3 )", "x.new ≡ h", {"x"}),
 )
 
 
@@ -113,64 +130,75 @@ def parsed(text):
     return [] if closing else stack[0]
 
 
+def path(token):
+    """The names of a token, from the first one on to its fields: none of brackets."""
+    return token.split(".") if isinstance(token, str) else []
+
+
 def exits(term):
-    """The lent names whose content at exit a term has."""
-    if not isinstance(term, list):
-        return set()
-    found = {str(term[at - 1]) for at, part in enumerate(term) if part == ".exit"}
-    return found.union(*map(exits, term))
+    """The lent names whose content at exit a term has, in whole or in part."""
+    found = set()
+    for at, part in enumerate(term):
+        if isinstance(part, list):
+            found |= exits(part)
+        elif LEFT & set(path(part)[1:]):
+            found.add(path(part)[0] or str(term[:at]))
+    return found
 
 
 def known(term):
     """Whether a term has names and the operators of definitions alone: no choice, no arrow, no bound name."""
     if isinstance(term, list):
         return all(map(known, term))
-    return term in OPERATORS or NAME.fullmatch(term) is not None
+    return term in OPERATORS or term != "λ" and NAME.fullmatch(term) is not None
 
 
 def mentions(term, name):
-    return name == term or isinstance(term, list) and any(mentions(part, name) for part in term)
+    """Whether a name or a field of it stands in a term."""
+    return name in path(term)[:1] or isinstance(term, list) and any(mentions(part, name) for part in term)
 
 
-def plain(terms, result):
+def plain(terms):
     """What a promise fixes things to: neither the result nor what is left may stand in it."""
-    return not mentions(terms, result) and not exits(terms)
+    return not mentions(terms, "result") and not exits(terms)
 
 
 def left(term):
     """The lent names that a term is the content at exit of, and nothing else: one, or several side by side."""
-    if len(term) == 2 and term[0] == "now" and isinstance(term[1], list) and len(term[1]) == 2 and term[1][1] == ".exit":
-        return exits(term)
-    if term and term[0] in ("wordTables", "listTables") and all(left(part) for part in term[1:]):
+    if isinstance(term, str):
+        return {path(term)[0]} if path(term)[1:] == ["new"] and path(term)[0] else set()
+    if len(term) == 1:
+        return left(term[0])
+    if term and term[0] in ("word_tables", "list_tables") and all(left(part) for part in term[1:]):
         return exits(term)
     return set()
 
 
-def equation(terms, result):
+def equation(terms):
     """What `x ≡ definition` fixes: the result, or what is left."""
     if terms.count("≡") != 1:
         return set()
     at = terms.index("≡")
     before, behind = terms[:at], terms[at + 1 :]
-    if not plain(behind, result):
+    if not plain(behind):
         return set()
-    if before in ([result], ["now", result]):
+    if before in (["result"], ["result.now"]):
         return {"result"}
     return left(before)
 
 
-def by_cases(terms, result):
+def by_cases(terms):
     """What the promises that have a proof of their own fix: each says what is read or put, then the result and what is left."""
     head, parts = terms[0], terms[1:]
     if head == "Put" and len(parts) == 5:
         before, after, at, text, place = parts
-        if place == result and left(after) and plain([before, at, text], result):
+        if place == "result" and left(after) and plain([before, at, text]):
             return {"result"} | left(after)
-    if head in ("Read", "ReadInWords", "Lists", "Exports") and result in parts:
-        at = parts.index(result)
-        if plain(parts[:at], result) and all(left(part) for part in parts[at + 1 :]):
+    if head in ("Read", "ReadInWords", "Lists", "Exports") and "result" in parts:
+        at = parts.index("result")
+        if plain(parts[:at]) and all(left(part) for part in parts[at + 1 :]):
             return {"result"} | exits(parts)
-    if isinstance(head, str) and head in proved() and parts and parts[-1] == result and plain(parts[:-1], result):
+    if isinstance(head, str) and head in proved() and parts and parts[-1] == "result" and plain(parts[:-1]):
         return {"result"}
     return set()
 
@@ -188,27 +216,38 @@ def clauses(terms):
     return [terms] if terms and known(terms) else []
 
 
+def promises(signature):
+    """What stands between the braces of each `ensures`: up to the one that closes it, or to the next `ensures` where none does."""
+    starts = [match.end() for match in PROMISE.finditer(signature)]
+    for start, stop in zip(starts, [*starts[1:], len(signature)]):
+        depth, at = 1, start
+        while at < stop and depth:
+            depth += (signature[at] == "{") - (signature[at] == "}")
+            at += 1
+        yield signature[start : at - 1] if depth == 0 else ""
+
+
 def forms(signature):
     """The forms of a function's promises: what each fixes."""
     fixed = set()
-    for result, text in PROMISE.findall(signature):
+    for text in promises(signature):
         for clause in clauses(parsed(text)):
-            fixed |= equation(clause, result) | by_cases(clause, result)
+            fixed |= equation(clause) | by_cases(clause)
     return fixed
 
 
 def made_up():
     """The made-up promises that this check answers wrongly."""
-    for text, fixes in MADE_UP:
-        found = forms(f"ensures {{ λ r. ⌜ {text} ⌝ }}")
+    for *texts, fixes in MADE_UP:
+        found = forms("\n".join(f"ensures {{ {text} }}" if len(texts) == 1 else f"ensures clause_{at} {{ {text} }}" for at, text in enumerate(texts)))
         if found != fixes:
-            yield f"`{text}` is said to fix {', '.join(sorted(found)) or 'nothing'}"
+            yield f"`{'`, `'.join(texts)}` is said to fix {', '.join(sorted(found)) or 'nothing'}"
 
 
 def functions():
     """Each public function of a library: its name and its signature with its promises."""
     for line in (ROOT / "crates.txt").read_text().splitlines():
-        crate = line.split(":")[0]
+        crate = line.split(":")[0].split(" ")[0]
         if line.startswith("#") or not (ROOT / "crates" / crate / "src" / "lib.rt").is_file():
             continue
         for path in sorted((ROOT / "crates" / crate / "src").glob("*.rt")):

@@ -17,12 +17,17 @@ QUOTED = re.compile(r'"(?:[^"\\]|\\.)*"')
 EDGE = r"[\s(){}\[\].,;]"
 
 
+def files_of(folder, pattern):
+    """The files below a folder, without what the prover keeps there."""
+    return sorted(path for path in folder.rglob(pattern) if "out" not in path.relative_to(ROOT).parts)
+
+
 @lru_cache(None)
 def listed():
-    """What crates.txt lists, a crate's dependencies by its name."""
+    """What crates.txt lists, a crate's dependencies by its name; behind a name may stand what it is built as."""
     rows = (line.split("#")[0] for line in (ROOT / "crates.txt").read_text().splitlines())
     pairs = (row.split(":") for row in rows if row.strip())
-    return {name.strip(): dependencies.split() for name, dependencies in pairs}
+    return {name.split()[0]: dependencies.split() for name, dependencies in pairs}
 
 
 @lru_cache(None)
@@ -32,13 +37,13 @@ def code(crate):
 
 
 def named_in(crate):
-    """The crates whose names a crate's files have: in Rattle as `name::`, in antt as `Rattle·name`. A module of its own is none."""
+    """The crates whose names a crate's files have: in Rattle as `name::`, in antt as `Rattle.name`. A module of its own is none."""
     folder = ROOT / "crates" / crate
     modules = {path.stem for path in folder.glob("src/*.rt")}
     found = set(re.findall(r"(?<![\w:])([a-z]\w*)::", code(crate))) - modules
-    for path in [*folder.rglob("*.rt"), *folder.rglob("*.antt")]:
-        found |= set(re.findall(r"Rattle·(\w+)", path.read_text()))
-    return found - {crate}
+    for path in [*files_of(folder, "*.rt"), *files_of(folder, "*.antt")]:
+        found |= set(re.findall(r"(?<![\w.])Rattle\.(\w+)", path.read_text()))
+    return found - {crate, "std"}
 
 
 @lru_cache(None)
@@ -54,7 +59,7 @@ def home(crate, name):
     """Where the type of this name in a crate's code is declared, if it is a type."""
     if name in declared(crate)[0]:
         return crate
-    used = re.search(rf"\buse ([a-z]\w*)::(?:\w+::)*{name};", code(crate))
+    used = re.search(rf"\buse ([a-z]\w*)::(?:\w+::)*(?:{name};|\{{[^}}]*\b{name}\b[^}}]*\}};)", code(crate))
     return used.group(1) if used and used.group(1) in listed() else None
 
 
@@ -81,10 +86,10 @@ def body(text):
 
 
 def stands(name, said):
-    """Whether a name stands in what a file says; an operator `_+_` as such, or by what is between its places."""
+    """Whether a name stands in what a file says; an operator `◌+◌` as such, or by what is between its places."""
     if name == "[]":
         return name in said
-    parts = [name] if name[0] != "_" or re.search(f"(?<={EDGE}){re.escape(name)}(?={EDGE})", said) else filter(None, name.split("_"))
+    parts = [name] if "◌" not in name or re.search(f"(?<={EDGE}){re.escape(name)}(?={EDGE})", said) else filter(None, name.split("◌"))
     return all(re.search(f"(?<={EDGE}){re.escape(part)}(?={EDGE})", said) for part in parts)
 
 
@@ -97,7 +102,7 @@ def idle_names(path):
 
 
 def main():
-    crates, files = listed(), sorted((ROOT / "crates").rglob("*.antt"))
+    crates, files = listed(), files_of(ROOT / "crates", "*.antt")
     faults = []
     for crate, dependencies in crates.items():
         used = named_in(crate) | held_by(crate)

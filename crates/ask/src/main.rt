@@ -2,7 +2,7 @@
 // The first argument is the question's word.
 #![tactic(auto)]
 
-use doubles::print_doubles;
+use as_doubles::print_doubles;
 use program_output::print_refusal;
 use program_output::tables::{
     CHOICE_TABLE, COMPONENT_TABLE, MODEL_TABLE, PIN_TABLE, ROW_TABLE, SELECTOR_TABLE,
@@ -11,8 +11,8 @@ use program_output::tables::{
 use records::Verdict;
 use std::env::Env;
 
+mod as_doubles; // as_doubles.rt: every cell as a double
 mod cells; // cells.rt: a record's lines of doubles, with those of what is its own in other tables
-mod doubles; // doubles.rt: every cell as a double
 
 #[derive(Clone, Copy)]
 enum Question {

@@ -33,7 +33,7 @@ hints =
     ∷ bytes "Look at the spelling: the standard has no such keyword."
     ∷ no_hint
     ∷ no_hint
-    ∷ bytes "Use the exact decimal: that is kept, whatever its power."
+    ∷ no_hint
     ∷ bytes "Lend 32,768 words of rows: no file has more rows than that."
     ∷ []
 

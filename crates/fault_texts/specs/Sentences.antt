@@ -33,7 +33,7 @@ sentences =
     ∷ bytes "No keyword has this name."
     ∷ no_sentence
     ∷ no_sentence
-    ∷ bytes "The number has no double here: its power of ten is below -22 or above 22."
+    ∷ no_sentence
     ∷ bytes "Fewer than 8,192 rows are lent."
     ∷ []
 

@@ -33,7 +33,7 @@ pub fn put_hint(out: &mut [u8], at: usize, number: u8) -> usize
         Look at the spelling: the standard has no such keyword.\n\
         Look at the line and at the keyword above it.\n\
         Look at the line and at the keyword above it.\n\
-        Use the exact decimal: that is kept, whatever its power.\n\
+        Look at the line and at the keyword above it.\n\
         Lend 32,768 words of rows: no file has more rows than that.\n\
         ";
     put_text(out, at, hints, number)

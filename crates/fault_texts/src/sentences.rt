@@ -33,7 +33,7 @@ pub fn put_sentence(out: &mut [u8], at: usize, number: u8) -> usize
         No keyword has this name.\n\
         No fault has this number.\n\
         No fault has this number.\n\
-        The number has no double here: its power of ten is below -22 or above 22.\n\
+        No fault has this number.\n\
         Fewer than 8,192 rows are lent.\n\
         ";
     put_text(out, at, sentences, number)

@@ -25,6 +25,7 @@ use Rattle.records.specs.declared.RampTable.{RampTable}
 use Rattle.records.specs.declared.Table.{Table}
 use Rattle.records.specs.declared.Triple.{Triple}
 use Rattle.records.specs.declared.Model.{Model}
+use Rattle.records.specs.declared.Model.Model.{ground}
 use Rattle.lines_under.specs.Under.{is_keyless}
 use Rattle.table_rows.specs.Parts.{is_table}
 use Rattle.model_record.specs.declared.FirstLines.{FirstLines}

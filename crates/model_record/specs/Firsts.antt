@@ -17,6 +17,7 @@ use Rattle.records.specs.declared.Enable.TheVariants.{NoEnable}
 use Rattle.records.specs.declared.Range.{Range}
 use Rattle.records.specs.declared.Split.{Split}
 use Rattle.records.specs.declared.Triple.{Triple}
+use Rattle.records.specs.declared.Model.Model.{ground}
 use Rattle.lines_under.specs.Under.{StopsAt}
 use Rattle.model_record.specs.declared.Marks.{Marks}
 use Rattle.model_record.specs.declared.Levels.{Levels}

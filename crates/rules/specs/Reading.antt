@@ -28,6 +28,7 @@ use Rattle.records.specs.declared.Location.TheVariants.{AtPin}
 use Rattle.records.specs.declared.Polarity.TheVariants.{NoPolarity}
 use Rattle.records.specs.declared.Enable.TheVariants.{NoEnable}
 use Rattle.records.specs.declared.ModelType.TheVariants.{Terminator}
+use Rattle.records.specs.declared.Model.Model.{ground}
 use Rattle.line_rules.specs.Fields.{is_bracketed, three_cells, row_of, word_line, cells_line, group_line, slopes_line, number_line, line_says}
 use Rattle.line_rules.specs.Tables.{locations, model_types, polarities, enables, table_keywords}
 use Rattle.rules.specs.Component.{pin_in}

@@ -4,6 +4,7 @@ use Rattle.cut_lines.specs.Texts.{Text}
 use Rattle.rules.specs.Reading.{no_range, no_ramp}
 use Rattle.records.specs.Stored.{no_cells}
 use Rattle.records.specs.declared.Model.{Model}
+use Rattle.records.specs.declared.Model.Model.{ground}
 use Rattle.record_words.specs.Records.{model_words}
 use Rattle.model_record.specs.Bodies.{absent_table}
 use Rattle.section_words.specs.Models.{model_behind}

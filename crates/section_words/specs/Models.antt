@@ -11,6 +11,7 @@ use Rattle.layout.specs.Laid.{rows_of, table_at, waveforms_laid}
 use Rattle.records.specs.Stored.{stored}
 use Rattle.records.specs.declared.Model.{Model}
 use Rattle.records.specs.declared.Name.{Name}
+use Rattle.records.specs.declared.Model.Model.{ground}
 use Rattle.record_words.specs.Records.{model_words, waveform_words}
 use Rattle.table_rows.specs.Rows.{Lies}
 use Rattle.table_rows.specs.Parts.{key_rows}

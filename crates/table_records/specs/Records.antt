@@ -18,6 +18,7 @@ use Rattle.records.specs.declared.Selector.{Selector}
 use Rattle.records.specs.declared.Choice.{Choice}
 use Rattle.records.specs.declared.Model.{Model}
 use Rattle.records.specs.declared.Waveform.{Waveform}
+use Rattle.records.specs.declared.Model.Model.{ground}
 use Rattle.table_records.specs.declared.StoredRow.{StoredRow}
 use Rattle.table_records.specs.declared.StoredRow.TheVariants.{Kept, NoRow}
 use Rattle.table_records.specs.Values.{number_at, cell_at, flag_in, location_in, polarity_in, enable_in, edge_in, type_in, slope_in}

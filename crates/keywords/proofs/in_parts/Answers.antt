@@ -2,10 +2,8 @@
 use Prim.Native.Nat.{◌+◌}
 use mathlib.Core.Path.{◌≡◌, refl, sym, ap, ◌∙◌}
 use mathlib.Core.Bool.{true, false, Bool}
-use mathlib.Core.Logic.{⊎_elim}
 use native.Mathlib.Omega.{arith}
 use lib.ListN.{drop}
-use borrow.Author.Tests.{not-true, not-false}
 use Rattle.keywords.specs.Form.{in_parts}
 use Rattle.keywords.proofs.Laws.{parts-joint, parts_twice, parts-blank, parts_more, parts-end}
 use Rattle.keywords.proofs.in_parts.Goals as goal

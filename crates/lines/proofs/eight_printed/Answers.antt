@@ -1,6 +1,4 @@
 -- A byte a turn, and none ends the loop: `Block`. A printed byte is allowed.
-use mathlib.Core.Logic.{⊎_elim}
-use borrow.Author.Tests.{not-false}
 use Rattle.lines.specs.Lines.{is_allowed}
 use Rattle.lines.proofs.Laws.{printed-allowed}
 use Rattle.lines.proofs.Blocks.{block_none, block-fails, block_more, block-end}

@@ -1,5 +1,4 @@
 -- A byte a turn, and none ends the loop: `Block`.
-use mathlib.Core.Logic.{⊎_elim}
 use Rattle.laws.specs.Lists.{other}
 use Rattle.laws.proofs.Fronts.{other-yes}
 use Rattle.lines.proofs.Blocks.{block_none, block-fails, block_more, block-end}

@@ -1,5 +1,4 @@
 -- The line stops at the first LF or the end; what stands before it says which of the laws on the line handed out holds.
-use mathlib.Core.Logic.{⊎_elim}
 use native.Mathlib.Omega.{arith}
 use Rattle.lines.proofs.Handed.{hands-last, hands-empty, hands-return, hands-other}
 use Rattle.lines.proofs.line_to.Goals as goal

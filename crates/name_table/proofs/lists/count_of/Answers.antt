@@ -2,7 +2,6 @@
 use Prim.Native.Nat.{ℕ}
 use mathlib.Core.Path.{sym, ap}
 use lib.ListN.{length}
-use borrow.Author.Rules.{rules}
 use Rattle.laws.specs.Bytes.{is_blank}
 use Rattle.words.specs.Words.{words, grown, onto_word}
 use Rattle.name_table.specs.Listed.{names_in}
