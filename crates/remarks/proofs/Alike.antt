@@ -22,7 +22,8 @@ use Rattle.layout.specs.Laid.{laid}
 use Rattle.tables_say.specs.Kept.{header_answered}
 use Rattle.tables_say.proofs.Kept.{kept}
 use Rattle.fault_numbers.proofs.Whole.{runs-out}
-use Rattle.renumbered.proofs.Outcomes.{outcome_at, whole-at}
+use Rattle.renumbered.proofs.Outcomes.{whole-at}
+use Rattle.renumbered.proofs.Told.{outcome_at}
 use Rattle.renumbered.proofs.Tables.{laid-at}
 use Rattle.remarks.specs.Counted.{counted, list_of, line_at, skipped_in, skipped_before}
 use Rattle.remarks.specs.Alike.{Alike, SameTables, at_none, behind_last, at_entry as told_at, SameFault, Agree, CheckedAlike, LoadedAlike, Unchanged}

@@ -22,7 +22,8 @@ use Rattle.rules.specs.declared.Stage.{Stage}
 use Rattle.rules.specs.declared.Stage.TheVariants.{BeforeVersion}
 use Rattle.rules.specs.declared.Went.{Went}
 use Rattle.rules.specs.declared.Went.TheVariants.{On, Stop}
-use Rattle.renumbered.proofs.Outcomes.{outcome_at, Numbering, runs-at, whole-at}
+use Rattle.renumbered.proofs.Outcomes.{Numbering, runs-at, whole-at}
+use Rattle.renumbered.proofs.Told.{outcome_at}
 use Rattle.remarks.proofs.Texts.{text_for, texts_at, text_at_lem}
 
 unfoldable pub worth : Lengths → List (List ℕ) → Outcome

@@ -4,5 +4,6 @@ pub mod Header
 pub mod Component
 pub mod Model
 pub mod Steps
+pub mod Told
 pub mod Outcomes
 pub mod Tables

@@ -30,18 +30,7 @@ use Rattle.rules.specs.declared.Went.{Went}
 use Rattle.rules.specs.declared.Went.TheVariants.{On, Stop}
 use Rattle.renumbered.proofs.Stages.{stage_at, went_at}
 use Rattle.renumbered.proofs.Steps.{on-text-at}
-
--- ---- f is the new number of each line
-
-abbrev pub entry_at : (ℕ → ℕ) → Entry → Entry
-entry_at f e = record { kind = e.kind; line = f e.line; name = e.name; names = e.names }
-
-abbrev pub held_at : (ℕ → ℕ) → Held → Held
-held_at f h = record { entries = map (entry_at f) h.entries; waveforms = h.waveforms }
-
-abbrev pub outcome_at : (ℕ → ℕ) → Outcome → Outcome
-outcome_at f (passed h) = passed (held_at f h)
-outcome_at f (refused n k c) = refused n (f k) c
+use Rattle.renumbered.proofs.Told.{entry_at, held_at, outcome_at}
 
 abbrev admitted_at : (ℕ → ℕ) → Result LineFault Held → Result LineFault Held
 admitted_at f (says h) = says (held_at f h)

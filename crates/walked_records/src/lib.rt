@@ -1,2 +1,2 @@
-// The records of the tables, as the elements of lent slices that the walks of `table_walks` ask for. No code.
+// The records of the tables as plain data, the elements of lent slices that `table_walks` speaks of. No code.
 #![tactic(auto)]
