@@ -29,6 +29,8 @@ MADE_UP = (
     ("((result ≡ g) × (at ≤ result)) × (x.new ≡ h)", {"result", "x"}),
     ("WordAt x.now at result", {"result"}),
     ("Put x.old x.new at (byte ∷ []) result", {"result", "x"}),
+    ("Writes x.old x.new (byte ∷ [])", {"x"}),
+    ("sheet x.new ≡ g (sheet x.old)", {"x"}),
     ("Read x.now result y.new", {"result", "y"}),
     ("Lists x.now result (list_tables y.new z.new)", {"result", "y", "z"}),
     ("word_tables x.new y.new ≡ h result", set()),
@@ -58,6 +60,8 @@ MADE_UP = (
     ("x.new ≡ y.new", set()),
     ("Read x.now result (half y.new)", set()),
     ("Put x.old x.new at x.new result", set()),
+    ("Writes x.old x.new x.new", set()),
+    ("sheet x.new ≡ g (sheet x.new)", set()),
     ("(result ≡ g", set()),
     ("result ≡ record { at = 3 )", set()),
     # a part of the result, or of what is left, is not all of it; and what is lent is not what is left
@@ -184,12 +188,18 @@ def equation(terms):
         return set()
     if before in (["result"], ["result.now"]):
         return {"result"}
+    if before[:1] == ["sheet"]:
+        return left(before[1:])
     return left(before)
 
 
 def by_cases(terms):
     """What the promises that have a proof of their own fix: each says what is read or put, then the result and what is left."""
     head, parts = terms[0], terms[1:]
+    if head == "Writes" and len(parts) == 3:
+        before, after, text = parts
+        if left(after) and plain([before, text]):
+            return left(after)
     if head == "Put" and len(parts) == 5:
         before, after, at, text, place = parts
         if place == "result" and left(after) and plain([before, at, text]):
@@ -258,8 +268,8 @@ def functions():
 
 def wanted(signature):
     """What a promise has to fix: the result, where there is one, and each slice lent to be written."""
-    lent = set(re.findall(r"(\w+): &(?:'\w+ )?mut ", signature))
     head = signature.split("requires")[0].split("ensures")[0]
+    lent = set(re.findall(r"(\w+): &(?:'\w+ )?mut ", head)) | ({"self"} if "&mut self" in head else set())
     return lent | ({"result"} if "->" in head else set())
 
 

@@ -1,21 +1,18 @@
 -- What is known of a step that goes on: each of its checks passed. And that where a file passes, every step goes on.
+use Rattle.std.specs.Prelude.{Result, Ok, Err, Option, Some, None}
 use Prim.Native.Nat.{ℕ}
 use mathlib.Core.Path.{◌≡◌, refl, subst}
 use mathlib.Core.List.{List, [], ◌∷◌}
 use mathlib.Core.Bool.{Bool, true, false, cond}
-use mathlib.Core.Option.{Option}
 use lib.Dec.{eqb}
 use Rattle.laws.specs.Lists.{front}
 use Rattle.keywords.specs.declared.Keyword.{Keyword}
 use borrow.Author.Tests.{eqb-true}
-use Rattle.laws.specs.Said.{Result, says, fault}
 use Rattle.laws.proofs.Tests.{by-test, cond-all, impossible}
-use Rattle.name_table.specs.declared.Found.{Found}
-use Rattle.name_table.specs.declared.Found.TheVariants.{At, Nothing}
 use Rattle.cut_lines.specs.Texts.{Text}
 use Rattle.given.specs.Given.{has, with}
 use Rattle.given.specs.declared.Given.{Given}
-use Rattle.rules.specs.Going.{stop, stop_at, unless, passes, refuse, quietly, once, named_line}
+use Rattle.rules.specs.Going.{stop, stop_at, unless, passes, refuse, quietly, once, named_line, Went}
 use Rattle.rules.specs.Steps.{is_ended, on_text}
 use Rattle.rules.specs.Whole.{Held, Outcome, passed, refused, admit, text_of, line_of, after_admission, after_step, runs}
 use Rattle.records.specs.Flaws.{Flaw, told}
@@ -27,8 +24,6 @@ use Rattle.rules.proofs.Keys.{within-key}
 use Rattle.rules.specs.declared.Stage.{Stage}
 use Rattle.rules.specs.declared.Event.{Event}
 use Rattle.rules.specs.declared.Event.TheVariants.{Quiet}
-use Rattle.rules.specs.declared.Went.{Went}
-use Rattle.rules.specs.declared.Went.TheVariants.{On, Stop}
 use Rattle.layout_by_notes.proofs.Goes.{Goes}
 use Rattle.accepted_tables.specs.Fallbacks.{Flawless}
 
@@ -48,24 +43,24 @@ module _ (P : Stage → Event → Type 0) where
   pub past-once : (g : Given) (i : ℕ) (x : LineFault) (k : ℕ) (on : Given → Stage) → (has g i ≡ false → x.number ≡ 0 → P (on (with g i)) Quiet) → Goes P (once g i x k on)
   past-once g i x k on p = past-refuse (has g i) 8 k _ (λ h. past-passes x k (quietly (on (with g i))) (λ f. p h f))
 
-  pub past-named : (g : Given) (x : Found) (y : Flaw) (k : ℕ) (w : List ℕ) (on : Given → Stage)
-      → ((i : ℕ) → x ≡ At i → has g i ≡ false → Flawless y → P (on (with g i)) Quiet) → Goes P (named_line g x y k w on)
-  past-named g Nothing y k w on p = tt
-  past-named g (At i) y k w on p = past-once g i (told w y) k on (p i refl)
+  pub past-named : (g : Given) (x : Option ℕ) (y : Flaw) (k : ℕ) (w : List ℕ) (on : Given → Stage)
+      → ((i : ℕ) → x ≡ Some i → has g i ≡ false → Flawless y → P (on (with g i)) Quiet) → Goes P (named_line g x y k w on)
+  past-named g None y k w on p = tt
+  past-named g (Some i) y k w on p = past-once g i (told w y) k on (p i refl)
 
-  pub gone : (x : Went) (u : Stage) (e : Event) → Goes P x → x ≡ On u e → P u e
+  pub gone : (x : Went) (u : Stage) (e : Event) → Goes P x → x ≡ Ok (u, e) → P u e
   gone x u e g q = subst (Goes P) q g
 
 -- ---- every step goes on, up to [End]
 
 abbrev pub Passes : Stage → List Text → Type 0
 Passes s [] = is_ended s ≡ true
-Passes s (t ∷ ts) = (u : Stage) × (e : Event) × (on_text s t ≡ On u e) × Passes u ts
+Passes s (t ∷ ts) = (u : Stage) × (e : Event) × (on_text s t ≡ Ok (u, e)) × Passes u ts
 
 -- and what each line adds is admitted, h being what the file holds so far
 abbrev pub Runs : Lengths → Held → Stage → List Text → Type 0
 Runs l h s [] = is_ended s ≡ true
-Runs l h s (t ∷ ts) = (u : Stage) × (e : Event) × (on_text s t ≡ On u e) × (g : Held) × (admit l h (line_of t) (text_of t) e ≡ says g) × Runs l g u ts
+Runs l h s (t ∷ ts) = (u : Stage) × (e : Event) × (on_text s t ≡ Ok (u, e)) × (g : Held) × (admit l h (line_of t) (text_of t) e ≡ Ok g) × Runs l g u ts
 
 pub runs-pass : (l : Lengths) (ts : List Text) (h : Held) (s : Stage) → Runs l h s ts → Passes s ts
 runs-pass l [] h s r = r
@@ -75,16 +70,16 @@ ended : (past : ℕ) (s : Stage) (h z : Held) → cond (is_ended s) (passed h) (
 ended past s h z q =
     by-test (is_ended s) (λ t. t) (λ t. let e : refused 19 past 0 ≡ passed z = rw t at q in impossible (cc))
 
-admitted : (k : ℕ) (go : Held → Outcome) (a : Result LineFault Held) (z : Held) → after_admission k go a ≡ passed z → (g : Held) × (a ≡ says g) × (go g ≡ passed z)
-admitted k go (says g) z q = (g, refl, q)
-admitted k go (fault x) z q = impossible (cc)
+admitted : (k : ℕ) (go : Held → Outcome) (a : Result Held LineFault) (z : Held) → after_admission k go a ≡ passed z → (g : Held) × (a ≡ Ok g) × (go g ≡ passed z)
+admitted k go (Ok g) z q = (g, refl, q)
+admitted k go (Err x) z q = impossible (cc)
 
 pub stepped : (l : Lengths) (h : Held) (t : Text) (go : Stage → Held → Outcome) (w : Went) (z : Held) → after_step l h t go w ≡ passed z
-    → (u : Stage) × (e : Event) × (w ≡ On u e) × (g : Held) × (admit l h (line_of t) (text_of t) e ≡ says g) × (go u g ≡ passed z)
-stepped l h t go (On u e) z q =
+    → (u : Stage) × (e : Event) × (w ≡ Ok (u, e)) × (g : Held) × (admit l h (line_of t) (text_of t) e ≡ Ok g) × (go u g ≡ passed z)
+stepped l h t go (Ok (u, e)) z q =
     let a = admitted (line_of t) (go u) (admit l h (line_of t) (text_of t) e) z q in
     (u, e, refl, a.0, a.1, a.2)
-stepped l h t go (Stop f) z q = impossible (cc)
+stepped l h t go (Err f) z q = impossible (cc)
 
 pub runs_on : (l : Lengths) (past : ℕ) (ts : List Text) (s : Stage) (h z : Held) → runs l past s h ts ≡ passed z → Runs l h s ts
 unfolding runs

@@ -1,14 +1,13 @@
 -- The texts of a component, one after another: what each leaves, and what its checks say. By cases on the open list, and on the keyword.
+use Rattle.std.specs.Prelude.{Result, Ok, Err, Some}
 use Prim.Native.Nat.{ℕ}
 use mathlib.Core.Path.{◌≡◌, refl, sym, subst, ◌∙◌}
 use mathlib.Core.List.{List, [], ◌∷◌}
 use mathlib.Core.Bool.{Bool, true, false, ◌&&◌}
-use mathlib.Core.Option.{some}
 use borrow.Author.Tests.{not-false}
 use Rattle.laws.specs.Lists.{front}
-use Rattle.laws.specs.Said.{Result, Said, says, fault}
+use Rattle.laws.specs.Said.{Said}
 use Rattle.laws.proofs.Tests.{cond-all, and_first, and_second, impossible}
-use Rattle.name_table.specs.declared.Found.TheVariants.{At}
 use Rattle.keywords.specs.Form.{argument}
 use Rattle.keywords.specs.Carried.{key_of}
 use Rattle.keywords.specs.declared.Keyword.{Keyword}
@@ -19,7 +18,7 @@ use Rattle.line_rules.specs.Fields.{is_bracketed, line_at, word_line, cells_line
 use Rattle.line_rules.specs.Tables.{component_lines, locations, package_lines}
 use Rattle.given.specs.Given.{has, with, gave}
 use Rattle.given.specs.declared.Given.{Given}
-use Rattle.rules.specs.Going.{quietly, and_then}
+use Rattle.rules.specs.Going.{quietly, and_then, Went}
 use Rattle.rules.specs.Component.{with_list, pin_flaw, component_line, component_place, component_flaw, component_opens, component_part, component_shut, component_done}
 use Rattle.rules.specs.Steps.{shut, done, opened, on_version, on_keyword, keyed, on_plain, on_change, on_text}
 use Rattle.rules.specs.Whole.{Held, admit, text_of, line_of}
@@ -35,7 +34,6 @@ use Rattle.rules.specs.declared.Stage.{Stage}
 use Rattle.rules.specs.declared.Stage.TheVariants.{InComponent}
 use Rattle.rules.specs.declared.Event.{Event}
 use Rattle.rules.specs.declared.Event.TheVariants.{Quiet, PinRow}
-use Rattle.rules.specs.declared.Went.{Went}
 use Rattle.layout_by_notes.proofs.Goes.{Goes, past-closing, past_all, anywhere}
 use Rattle.layout_by_notes.proofs.Ahead.{key-at, no_key}
 use Rattle.accepted_tables.specs.Fallbacks.{Flawless}
@@ -70,7 +68,7 @@ shut-goes c (PinRows o long any) = past-refuse _ _ 9 o _ (λ h. (refl, not-false
 
 pub data ComponentText (c : ComponentState) (w : List ℕ) : ComponentState → Event → Type 0 where
   location_line : (g : Given) → c.list ≡ ComponentFirst → Flawless (flaw_in (word_line locations w)) → ComponentText c w (record { line = c.line; first = g; parts = c.parts; list = c.list }) Quiet
-  package_line : (o : ℕ) (g : Given) (i : ℕ) → c.list ≡ PackageLines o g → line_at package_lines w ≡ At i → Flawless (flaw_in (cells_line w))
+  package_line : (o : ℕ) (g : Given) (i : ℕ) → c.list ≡ PackageLines o g → line_at package_lines w ≡ Some i → Flawless (flaw_in (cells_line w))
       → ComponentText c w (with_list c (PackageLines o (with g i))) Quiet
   pin_row : (o : ℕ) (long any : Bool) → c.list ≡ PinRows o long any → Flawless (pin_flaw long w)
       → ComponentText c w (with_list c (PinRows o long true)) PinRow
@@ -105,9 +103,9 @@ part-goes c k w p =
 pub data ComponentStep (c : ComponentState) : Text → Stage → Event → Type 0 where
   by_change : {k : ℕ} {f : LineFault} → ComponentStep c (change k f) (InComponent c) Quiet
   by_line : {k : ℕ} {w : List ℕ} (n : ComponentState) {e : Event} → is_bracketed w ≡ false → ComponentText c w n e → ComponentStep c (plain k w) (InComponent n) e
-  by_key : {k : ℕ} {w : List ℕ} (p : ComponentPart) (n : ComponentState) → is_bracketed w ≡ true → key_of w ≡ says (key.InComponent p) → Shuts c.list
+  by_key : {k : ℕ} {w : List ℕ} (p : ComponentPart) (n : ComponentState) → is_bracketed w ≡ true → key_of w ≡ Ok (key.InComponent p) → Shuts c.list
       → ComponentKey c k (argument w) p n → ComponentStep c (plain k w) (InComponent n) Quiet
-  by_end : {k : ℕ} {w : List ℕ} {u : Stage} {e : Event} (x : Keyword) → is_bracketed w ≡ true → key_of w ≡ says x → is_end (some x) ≡ true → Shuts c.list
+  by_end : {k : ℕ} {w : List ℕ} {u : Stage} {e : Event} (x : Keyword) → is_bracketed w ≡ true → key_of w ≡ Ok x → is_end (Some x) ≡ true → Shuts c.list
       → component_done c ≡ 0 → ComponentStep c (plain k w) u e
 
 abbrev Step : ComponentState → Text → Stage → Event → Type 0
@@ -119,7 +117,7 @@ done-shut c = refl
 
 module _ (c : ComponentState) (k : ℕ) (w : List ℕ) (b : is_bracketed w ≡ true) (s : Shuts c.list) where
   -- the section ends, whatever goes on
-  end_goes : (x : Keyword) → key_of w ≡ says x → is_end (some x) ≡ true → (f : Stage → Went)
+  end_goes : (x : Keyword) → key_of w ≡ Ok x → is_end (Some x) ≡ true → (f : Stage → Went)
       → Goes (Step c (plain k w)) (and_then (done k (InComponent (with_list c ComponentShut))) f)
   end_goes x q e f =
       past-closing (Step c (plain k w)) (λ (t : Stage). component_done c ≡ 0) f (done k (InComponent (with_list c ComponentShut)))
@@ -127,7 +125,7 @@ module _ (c : ComponentState) (k : ℕ) (w : List ℕ) (b : is_bracketed w ≡ t
       (λ h. sym (done-shut c) ∙ h))
       (λ t d. past_all (Step c (plain k w)) (λ (u : Stage) (z : Event). Unit {0}) (f t) (anywhere (f t)) (λ u z a. by_end x b q e s d))
 
-  keyword-goes : (x : Keyword) → key_of w ≡ says x → Goes (Step c (plain k w)) (on_keyword (InComponent (with_list c ComponentShut)) k w x)
+  keyword-goes : (x : Keyword) → key_of w ≡ Ok x → Goes (Step c (plain k w)) (on_keyword (InComponent (with_list c ComponentShut)) k w x)
   unfolding on_version
   keyword-goes key.IbisVer q = tt
   keyword-goes (key.InHeader p) q = tt
@@ -139,8 +137,8 @@ module _ (c : ComponentState) (k : ℕ) (w : List ℕ) (b : is_bracketed w ≡ t
   keyword-goes key.End q = end_goes key.End q refl _
 
   keyed-goes : (x : Said Keyword) → key_of w ≡ x → Goes (Step c (plain k w)) (keyed (InComponent (with_list c ComponentShut)) k w x)
-  keyed-goes (fault n) q = tt
-  keyed-goes (says x) q = keyword-goes x q
+  keyed-goes (Err n) q = tt
+  keyed-goes (Ok x) q = keyword-goes x q
 
 plain-goes : (c : ComponentState) (k : ℕ) (w : List ℕ) → Goes (Step c (plain k w)) (on_plain (InComponent c) k w)
 unfolding on_plain
@@ -160,17 +158,17 @@ text-goes c (change k f) = past-refuse _ _ 7 k _ (λ a. past-refuse _ _ 5 k _ (�
 
 -- ---- what holds when the section ends, and holds before a text if behind it, holds of all its texts
 
-pub held_same : {F : Type 0} (g h : Held) → ◌≡◌ {A = Result F Held} (says h) (says g) → g ≡ h
+pub held_same : {F : Type 0} (g h : Held) → ◌≡◌ {A = Result Held F} (Ok h) (Ok g) → g ≡ h
 held_same g h q = cc
 
 module _ (l : Lengths) (P : ComponentState → Held → List Text → Type 0)
     (closing : (c : ComponentState) (h : Held) → Shuts c.list → component_done c ≡ 0 → P c h [])
     (changing : (c : ComponentState) (h : Held) (k : ℕ) (f : LineFault) (ts : List Text) → P c h ts → P c h (change k f ∷ ts))
     (lining : (c n : ComponentState) (h g : Held) (k : ℕ) (w : List ℕ) (e : Event) (ts : List Text) → is_bracketed w ≡ false → ComponentText c w n e
-    → admit l h k w e ≡ says g → P n g ts → P c h (plain k w ∷ ts))
-    (keying : (c n : ComponentState) (h : Held) (k : ℕ) (w : List ℕ) (p : ComponentPart) (ts : List Text) → is_bracketed w ≡ true → key_of w ≡ says (key.InComponent p)
+    → admit l h k w e ≡ Ok g → P n g ts → P c h (plain k w ∷ ts))
+    (keying : (c n : ComponentState) (h : Held) (k : ℕ) (w : List ℕ) (p : ComponentPart) (ts : List Text) → is_bracketed w ≡ true → key_of w ≡ Ok (key.InComponent p)
     → Shuts c.list → ComponentKey c k (argument w) p n → P n h ts → P c h (plain k w ∷ ts)) where
-  step-on : (c : ComponentState) (h g : Held) (t : Text) (ts : List Text) (u : Stage) (e : Event) → ComponentStep c t u e → admit l h (line_of t) (text_of t) e ≡ says g → Runs l g u ts
+  step-on : (c : ComponentState) (h g : Held) (t : Text) (ts : List Text) (u : Stage) (e : Event) → ComponentStep c t u e → admit l h (line_of t) (text_of t) e ≡ Ok g → Runs l g u ts
       → ((n : ComponentState) (z : Held) → Runs l z (InComponent n) ts → P n z (front is_within ts)) → P c h (front is_within (t ∷ ts))
   step-on c h g t ts u e (by_change {k = k} {f = f}) a r rest =
       subst (P c h) (sym (inside (change k f) ts refl refl)) (changing c h k f (front is_within ts) (subst (λ (z : Held). P c z (front is_within ts)) (held_same g h a) (rest c g r)))

@@ -1,22 +1,20 @@
 -- A component's package and pins, and a selector's rows, from text to text. What closed is complete, and what was given has been read.
+use Rattle.std.specs.Prelude.{Ok, None, Some}
 use Prim.Native.Nat.{ℕ, ◌≤◌}
 use Prim.Native.String.{String}
 use mathlib.Core.Path.{◌≡◌, refl, sym, ap, subst, ◌∙◌}
 use mathlib.Core.List.{List, [], ◌∷◌, ◌++◌}
 use mathlib.Core.Bool.{Bool, true, false, cond, not, ◌&&◌}
-use mathlib.Core.Option.{none, some}
 use native.Mathlib.Omega.{arith}
 use lib.ListN.{length, length-append, length-take}
 use lib.Dec.{eqb, leb}
 use borrow.Author.Tests.{not-false, leb-true}
 use Rattle.laws.specs.Bytes.{bytes, is_blank}
 use Rattle.laws.specs.Lists.{eqs, front, Every}
-use Rattle.laws.specs.Said.{says}
 use Rattle.laws.proofs.Tests.{by-test, cond-all, cond_no, cond_map, and_first, and_second, never, impossible}
 use Rattle.laws.proofs.Every.{every_append}
 use Rattle.words.specs.Words.{words, grown, onto_word}
 use Rattle.name_table.specs.Names.{place_from}
-use Rattle.name_table.specs.declared.Found.TheVariants.{At}
 use Rattle.keywords.specs.Form.{argument}
 use Rattle.keywords.specs.Carried.{key_of}
 use Rattle.keywords.specs.declared.Keyword.TheVariants as key
@@ -42,7 +40,7 @@ use Rattle.rules.specs.Keys.{key_at}
 use Rattle.rules.proofs.Keys.{lines-skip, lines-key, says-skip, says-key}
 use Rattle.keywords.proofs.Spelling.{spelling}
 use Rattle.records.specs.Stored.{name_laid}
-use Rattle.records.specs.declared.Name.{Name}
+use Rattle.records.specs.Texts.{Name}
 use Rattle.rules.specs.declared.ComponentList.{ComponentList}
 use Rattle.rules.specs.declared.ComponentList.TheVariants.{ComponentFirst, ComponentShut, PackageLines, PinRows}
 use Rattle.rules.specs.declared.ComponentState.{ComponentState}
@@ -82,15 +80,15 @@ list-shuts ComponentShut s = tt
 list-shuts (PackageLines o g) s = (λ x q. q s.0, λ x q. q s.1, λ x q. q s.2, tt)
 list-shuts (PinRows o long any) s = (λ h. absurd (never any s h), tt)
 
-resistance-place : place_from 0 (bytes "R_pkg") (words (bytes package_lines)) ≡ At 0
+resistance-place : place_from 0 (bytes "R_pkg") (words (bytes package_lines)) ≡ Some 0
 unfolding place_from words grown onto_word is_blank eqs
 resistance-place = refl
 
-inductance-place : place_from 0 (bytes "L_pkg") (words (bytes package_lines)) ≡ At 1
+inductance-place : place_from 0 (bytes "L_pkg") (words (bytes package_lines)) ≡ Some 1
 unfolding place_from words grown onto_word is_blank eqs
 inductance-place = refl
 
-capacitance-place : place_from 0 (bytes "C_pkg") (words (bytes package_lines)) ≡ At 2
+capacitance-place : place_from 0 (bytes "C_pkg") (words (bytes package_lines)) ≡ Some 2
 unfolding place_from words grown onto_word is_blank eqs
 capacitance-place = refl
 
@@ -98,7 +96,7 @@ list-line : (c n : ComponentState) (w : List ℕ) (e : Event) (ls : List (List �
 list-line c n w e ls (location_line g q ok) so =
     subst (λ (l : ComponentList). ListReads l (w ∷ ls)) (sym q) (ok, subst (λ (l : ComponentList). ListReads l ls) q so)
 list-line c n w e ls (package_line o g i q at ok) so =
-    let own : (j : ℕ) → i ≡ j → (v : Triple) × (cells_line w ≡ says v) × TypNumber v = λ j i. said (cells_line w) (cells-line-sure w) ok in
+    let own : (j : ℕ) → i ≡ j → (v : Triple) × (cells_line w ≡ Ok v) × TypNumber v = λ j i. said (cells_line w) (cells-line-sure w) ok in
     subst (λ (l : ComponentList). ListReads l (w ∷ ls)) (sym q) (
       reads-line TypNumber g package_lines "R_pkg" cells_line w ls i 0 resistance-place at (own 0) so.0,
       reads-line TypNumber g package_lines "L_pkg" cells_line w ls i 1 inductance-place at (own 1) so.1,
@@ -160,7 +158,7 @@ parts-done c s d =
 
 -- ---- a text without a keyword
 
-module _ (c n : ComponentState) (t : Text) (ts : List Text) (e : key_at t ≡ none) (same : c.parts ≡ n.parts) where
+module _ (c n : ComponentState) (t : Text) (ts : List Text) (e : key_at t ≡ None) (same : c.parts ≡ n.parts) where
   packaged-skip : (name : String) → Packaged n.parts name ts → Packaged c.parts name (t ∷ ts)
   packaged-skip name so x q =
       subst (λ (ls : List (List ℕ)). TypNumber (line_says name cells_line x ls)) (sym (lines-skip t ts (key.InComponent Package) e))
@@ -209,7 +207,7 @@ module _ (c : ComponentState) (k : ℕ) (w : List ℕ) (ts : List Text) (b : is_
       subst (λ (ls : List (List ℕ)). TypNumber (line_says name cells_line x ls)) (sym e) (so x (λ h. q (sym (has_other c.parts 1 i apart) ∙ h)))
 
   -- its own
-  packaged-own : (name : String) (j : ℕ) → place_from 0 (bytes name) (words (bytes package_lines)) ≡ At j
+  packaged-own : (name : String) (j : ℕ) → place_from 0 (bytes name) (words (bytes package_lines)) ≡ Some j
       → lines_under "package" (plain k w ∷ ts) ≡ under ts ++ lines_under "package" ts
       → Reads TypNumber none_given package_lines name cells_line (under ts)
       → Packaged (with c.parts 1) name ts → Packaged c.parts name (plain k w ∷ ts)
@@ -217,7 +215,7 @@ module _ (c : ComponentState) (k : ℕ) (w : List ℕ) (ts : List Text) (b : is_
       subst TypNumber (sym (ap (line_says name cells_line x) e ∙ says-append name cells_line x (under ts) (lines_under "package" ts)))
       (so (line_says name cells_line x (under ts)) (λ h. read x (gave-none package_lines name j placed)))
 
-  maker-other : (i : ℕ) (p : ComponentPart) → (0 ≡ i → ⊥) → key_at (plain k w) ≡ some (key.InComponent p) → eqs (bytes (spelling (key.InComponent p))) (bytes "manufacturer") ≡ false
+  maker-other : (i : ℕ) (p : ComponentPart) → (0 ≡ i → ⊥) → key_at (plain k w) ≡ Some (key.InComponent p) → eqs (bytes (spelling (key.InComponent p))) (bytes "manufacturer") ≡ false
       → Made (with c.parts i) ts → Made c.parts (plain k w ∷ ts)
   maker-other i p apart e n so x q =
       subst (λ (y : List ℕ). is_sized 40 y ≡ true)
@@ -225,7 +223,7 @@ module _ (c : ComponentState) (k : ℕ) (w : List ℕ) (ts : List Text) (b : is_
       ∙ ap (λ (t : Bool). key_says "manufacturer" (λ v ls. v) (cond t (argument w) x) ts) n))
       (so x (λ h. q (sym (has_other c.parts 0 i apart) ∙ h)))
 
-  maker-own : key_at (plain k w) ≡ some (key.InComponent Manufacturer) → Flawless (component_flaw (argument w) Manufacturer)
+  maker-own : key_at (plain k w) ≡ Some (key.InComponent Manufacturer) → Flawless (component_flaw (argument w) Manufacturer)
       → Made (with c.parts 0) ts → Made c.parts (plain k w ∷ ts)
   unfolding eqs
   maker-own e f so x q =
@@ -237,7 +235,7 @@ module _ (c : ComponentState) (k : ℕ) (w : List ℕ) (ts : List Text) (b : is_
   least_other i apart e so h =
       subst (λ (ls : List (List ℕ)). 1 ≤ length ls) (sym e) (so (has_other c.parts 2 i apart ∙ h))
 
-  parts-key : (p : ComponentPart) (n : ComponentState) → key_of w ≡ says (key.InComponent p) → ComponentKey c k (argument w) p n → Parts n ts → Parts c (plain k w ∷ ts)
+  parts-key : (p : ComponentPart) (n : ComponentState) → key_of w ≡ Ok (key.InComponent p) → ComponentKey c k (argument w) p n → Parts n ts → Parts c (plain k w ∷ ts)
   unfolding eqs
   parts-key p n q (part Manufacturer h f) so =
       let e = key-at k w ts b q in

@@ -1,4 +1,5 @@
 -- A file that passes has a component: [End] asks for one, and nothing goes on behind it.
+use Rattle.std.specs.Prelude.{Result, Ok, Err}
 use Prim.Native.Nat.{ℕ, ◌+◌, ◌≤◌}
 use mathlib.Core.Path.{◌≡◌, refl, sym, ap, subst, ◌∙◌}
 use mathlib.Core.List.{List, [], ◌∷◌, map}
@@ -7,7 +8,6 @@ use native.Mathlib.Omega.{arith}
 use lib.ListN.{length}
 use lib.Dec.{eqb}
 use borrow.Author.Tests.{eqb-false}
-use Rattle.laws.specs.Said.{Result, says, fault}
 use Rattle.records.specs.Flaws.{bare}
 use Rattle.records.specs.declared.LineFault.{LineFault}
 use Rattle.laws.proofs.Tests.{by-test, cond-all, cond_yes, cond_no, never, impossible}
@@ -40,23 +40,23 @@ nothing-goes (change k f) = past-refuse (λ (u : Stage) (e : Event). ⊥) true 7
 abbrev HasOne : Held → Type 0
 HasOne h = 1 ≤ count (is OfComponent) h.entries
 
-end-admitted : (l : Lengths) (h g : Held) (k : ℕ) (w : List ℕ) (f : LineFault) → admit l h k w (Ended f) ≡ says g → HasOne g
+end-admitted : (l : Lengths) (h g : Held) (k : ℕ) (w : List ℕ) (f : LineFault) → admit l h k w (Ended f) ≡ Ok g → HasOne g
 end-admitted l h g k w f q =
     let n : ℕ = count (is OfComponent) h.entries in
-    let kept : Result LineFault Held = says h in
+    let kept : Result Held LineFault = Ok h in
     by-test (eqb n 0)
-    (λ t. let z : fault (bare 9) ≡ says g = sym (cond_yes _ _ t) ∙ q in impossible (cc))
+    (λ t. let z : Err (bare 9) ≡ Ok g = sym (cond_yes _ _ t) ∙ q in impossible (cc))
     (λ t.
     by-test (eqb f.number 0)
     (λ a.
-    let z : kept ≡ says g = sym (cond_yes _ _ a) ∙ sym (cond_no _ _ t) ∙ q in
+    let z : kept ≡ Ok g = sym (cond_yes _ _ a) ∙ sym (cond_no _ _ t) ∙ q in
     let same : h ≡ g = cc in
     let some = eqb-false n 0 t in
     subst HasOne same (omega (arith, some)))
-    (λ a. let z : fault f ≡ says g = sym (cond_no _ _ a) ∙ sym (cond_no _ _ t) ∙ q in impossible (cc)))
+    (λ a. let z : Err f ≡ Ok g = sym (cond_no _ _ a) ∙ sym (cond_no _ _ t) ∙ q in impossible (cc)))
 
 -- the event that leaves the file ended is [End]
-ending : (l : Lengths) (h g : Held) (k : ℕ) (w v : List ℕ) (u : Stage) (e : Event) → Names v u e → is_ended u ≡ true → admit l h k w e ≡ says g → HasOne g
+ending : (l : Lengths) (h g : Held) (k : ℕ) (w v : List ℕ) (u : Stage) (e : Event) → Names v u e → is_ended u ≡ true → admit l h k w e ≡ Ok g → HasOne g
 ending l h g k w v u Quiet n i a = absurd (never (is_ended u) i n.1)
 ending l h g k w v u (Opened o) n i a = absurd (never (is_ended u) i n.1)
 ending l h g k w v u PinRow n i a = absurd (never (is_ended u) i n.1)

@@ -1,4 +1,5 @@
 -- What is noted of a file that passes: every name has passed its check, and stands on a line. Step by step, by what each line gives.
+use Rattle.std.specs.Prelude.{Result, Ok, Err}
 use Prim.Native.Nat.{ℕ, ◌+◌, ◌≤◌}
 use Prim.Native.Char.{code}
 use mathlib.Core.Path.{◌≡◌, refl, sym, ap, subst, ◌∙◌}
@@ -8,7 +9,7 @@ use native.Mathlib.Omega.{arith}
 use lib.ListN.{length}
 use lib.Dec.{eqb, leb}
 use borrow.Author.Tests.{leb-true}
-use Rattle.laws.specs.Said.{Result, Said, says, fault, or_else}
+use Rattle.laws.specs.Said.{Said, or_else}
 use Rattle.laws.specs.Lists.{Every}
 use Rattle.laws.proofs.Tests.{by-test, cond-all, cond_yes, cond_no, and_first, and_second, impossible}
 use Rattle.words.specs.Words.{word, words}
@@ -48,8 +49,7 @@ use Rattle.rules.specs.declared.Stage.{Stage}
 use Rattle.rules.specs.declared.Stage.TheVariants.{BeforeVersion, InHeader, InComponent, InSelector, InModel, AfterEnd}
 use Rattle.rules.specs.declared.Event.{Event}
 use Rattle.rules.specs.declared.Event.TheVariants.{Quiet, Opened, PinRow, ChoiceRow, WaveformOpened, TableRow, Ended}
-use Rattle.rules.specs.declared.Went.{Went}
-use Rattle.rules.specs.declared.Went.TheVariants.{On, Stop}
+use Rattle.rules.specs.Going.{Went}
 use Rattle.notes.specs.Noted.{Note, Log, empty_log, Logged, going, full, logged, Finish, whole, broken, out_of_lines, after_logged, after_went, run_log}
 use Rattle.layout_by_notes.proofs.Goes.{Goes, past-once as past-quiet, past-closing, anywhere}
 use Rattle.layout_by_notes.proofs.Counts.{log_after, Kept, kept-after}
@@ -96,9 +96,9 @@ component-goes c k w ComponentShut = tt
 component-goes c k w (PackageLines o g) = past-named (Names w) g (line_at package_lines w) _ k w _ (λ i a h f. (tt, refl))
 component-goes c k w (PinRows o long any) = past-passes (Names w) (told w (pin_flaw long w)) k _ (λ f. (pin-named long w f, refl))
 
-row_goes : (w : List ℕ) (on : RowsSeen → ModelList) (m : ModelState) (r : RowsSeen) (k : ℕ) (x : Result LineFault Row) → Goes (Names w) (row_line on m r k x)
-row_goes w on m r k (fault f) = tt
-row_goes w on m r k (says y) = past-refuse (Names w) _ 13 k _ (λ h. (tt, refl))
+row_goes : (w : List ℕ) (on : RowsSeen → ModelList) (m : ModelState) (r : RowsSeen) (k : ℕ) (x : Result Row LineFault) → Goes (Names w) (row_line on m r k x)
+row_goes w on m r k (Err f) = tt
+row_goes w on m r k (Ok y) = past-refuse (Names w) _ 13 k _ (λ h. (tt, refl))
 
 waveform-goes : (m : ModelState) (o : ℕ) (g : Given) (r : RowsSeen) (k : ℕ) (w : List ℕ) → Goes (Names w) (waveform_line m o g r k w)
 unfolding waveform_line
@@ -183,8 +183,8 @@ module _ (k : ℕ) (w : List ℕ) where
   keyword-goes s key.End = past-closing (Names w) (λ (t : Stage). Unit {0}) _ (done k s) (anywhere (done k s)) (λ t q. (tt, tt))
 
   keyed-goes : (s : Stage) (x : Said Keyword) → Goes (Names w) (keyed s k w x)
-  keyed-goes s (fault n) = tt
-  keyed-goes s (says x) = keyword-goes s x
+  keyed-goes s (Err n) = tt
+  keyed-goes s (Ok x) = keyword-goes s x
 
 pub text-goes : (s : Stage) (t : Text) → Goes (Names (text_of t)) (on_text s t)
 unfolding on_plain on_change
@@ -286,9 +286,9 @@ module _ (l : Lengths) (past : ℕ) (g : Log) where
 
     past-went : (t : Text) (h : Log) (x : Went) → 1 ≤ line_of t → Every Fine h.notes → Goes (Names (text_of t)) x
         → after_went l h t ts (λ (u : Stage) (y : Log). run_log l past u y ts) x ≡ whole g → Every Fine g.notes
-    past-went t h (On u e) n so w q =
+    past-went t h (Ok (u, e)) n so w q =
         past-logged u (logged l h t ts e) (kept-after (λ (y : Log). Every Fine y.notes) l h t ts e (λ room. fine-after h t ts e n w.0 so)) q
-    past-went t h (Stop f) n so w q = broken-never f h g q
+    past-went t h (Err f) n so w q = broken-never f h g q
 
   fine-run : (ts : List Text) (s : Stage) (h : Log) → Every Numbered ts → Every Fine h.notes → run_log l past s h ts ≡ whole g → Every Fine g.notes
   unfolding run_log

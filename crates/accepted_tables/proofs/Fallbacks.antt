@@ -1,4 +1,5 @@
 -- The lines of an accepted file are read without a fault, and each model's type is given. From text to text of each section.
+use Rattle.std.specs.Prelude.{Ok, Some}
 use Prim.Native.Nat.{ℕ}
 use mathlib.Core.Path.{◌≡◌, refl, sym, ap, subst, ◌∙◌}
 use mathlib.Core.List.{List, [], ◌∷◌, ◌++◌}
@@ -8,11 +9,9 @@ use lib.Dec.{eqb}
 use borrow.Author.Tests.{eqb-true}
 use Rattle.laws.specs.Bytes.{bytes, is_blank}
 use Rattle.laws.specs.Lists.{eqs, front, one_of, Every}
-use Rattle.laws.specs.Said.{says}
 use Rattle.laws.proofs.Tests.{by-test, cond_yes}
 use Rattle.laws.proofs.Every.{every_append}
 use Rattle.words.specs.Words.{words, grown, onto_word}
-use Rattle.name_table.specs.declared.Found.TheVariants.{At}
 use Rattle.keywords.specs.Form.{argument}
 use Rattle.keywords.specs.Carried.{key_of}
 use Rattle.keywords.specs.declared.Keyword.TheVariants as key
@@ -59,7 +58,7 @@ same_none : (g : Given) → gave g model_lines "Model_type" ≡ true → SameFro
 unfolding line_says
 same_none g h x y q = q h
 
-same_line : (g : Given) (w : List ℕ) (i : ℕ) (ls : List (List ℕ)) → line_at model_lines w ≡ At i → Flawless (first_flaw w) → SameFrom (with g i) ls → SameFrom g (w ∷ ls)
+same_line : (g : Given) (w : List ℕ) (i : ℕ) (ls : List (List ℕ)) → line_at model_lines w ≡ Some i → Flawless (first_flaw w) → SameFrom (with g i) ls → SameFrom g (w ∷ ls)
 unfolding line_says
 same_line g w i ls at ok so x y q =
     let read = word_line model_types in
@@ -67,7 +66,7 @@ same_line g w i ls at ok so x y q =
     (λ h.
     by-test (eqb i 0)
     (λ t.
-    let v = said (word_line model_types w) (word-line-sure model_types w) (subst Flawless (type-flaw w (at ∙ ap At (eqb-true i 0 t))) ok) in
+    let v = said (word_line model_types w) (word-line-sure model_types w) (subst Flawless (type-flaw w (at ∙ ap Some (eqb-true i 0 t))) ok) in
     takes-own model_lines "Model_type" 0 type-place read x w i at t v.1 ∙ sym (takes-own model_lines "Model_type" 0 type-place read y w i at t v.1))
     (λ t.
     takes-other model_lines "Model_type" 0 type-place read x w i at t
@@ -178,7 +177,7 @@ ramp-said k ls (Waveform Rising) r more so = so
 ramp-said k ls (Waveform Falling) r more so = so
 
 module _ (m : ModelState) (k : ℕ) (w : List ℕ) (ts : List Text) (b : is_bracketed w ≡ true) where
-  key-says : (n : ModelState) (p : ModelPart) → key_of w ≡ says (key.InModel p) → m.first ≡ n.first → n.list ≡ model_opens k p → Says n ts → Says m (plain k w ∷ ts)
+  key-says : (n : ModelState) (p : ModelPart) → key_of w ≡ Ok (key.InModel p) → m.first ≡ n.first → n.list ≡ model_opens k p → Says n ts → Says m (plain k w ∷ ts)
   key-says n p q first list so =
       record {
         list = subst (ListSaid m.list) (sym (under-key k w ts b)) (list-none m.list);
@@ -193,7 +192,7 @@ module _ (m : ModelState) (k : ℕ) (w : List ℕ) (ts : List Text) (b : is_brac
             (subst (SameFrom n.first) (other-first n (under ts) (ap is_first list ∙ opens-none k p) ∙ sym (nothing-first m (under-key k w ts b))) so.same);
       }
 
-  says-key : (p : ModelPart) (n : ModelState) → key_of w ≡ says (key.InModel p) → ModelKey m k (argument w) p n → Says n ts → Says m (plain k w ∷ ts)
+  says-key : (p : ModelPart) (n : ModelState) → key_of w ≡ Ok (key.InModel p) → ModelKey m k (argument w) p n → Says n ts → Says m (plain k w ∷ ts)
   says-key p n q (single x z h f) so = key-says n x q refl refl so
   says-key p n q (waveform e z) so = key-says n (Waveform e) q refl refl so
 

@@ -1,4 +1,5 @@
 -- What a line says where it has no fault: no fault is 0, and what is said has what its reading asks. By the definitions, reading by reading.
+use Rattle.std.specs.Prelude.{Result, Ok, Err, Option, None, Some}
 use Prim.Native.Nat.{ℕ, ◌+◌, ◌-◌, ◌^◌}
 use Prim.Native.Char.{code}
 use Prim.Native.String.{String}
@@ -6,14 +7,13 @@ use mathlib.Core.Path.{◌≡◌, refl, sym, ap, ◌∙◌}
 use mathlib.Core.List.{List, [], ◌∷◌}
 use mathlib.Core.Logic.{inl, inr}
 use mathlib.Core.Bool.{Bool, true, false, cond, ◌&&◌, ◌||◌}
-use mathlib.Core.Option.{Option, none, some}
 use native.Mathlib.Omega.{arith}
 use lib.ListN.{length, drop}
 use lib.Dec.{eqb, leb, ltb}
 use borrow.Author.Tests.{eqb-true}
 use Rattle.laws.specs.Bytes.{is_letter, is_blank}
 use Rattle.laws.specs.Lists.{after, begins, all, among}
-use Rattle.laws.specs.Said.{Result, Said, says, fault, fault_in, read_on, or_fault}
+use Rattle.laws.specs.Said.{Said, fault_in, read_on, or_fault}
 use Rattle.laws.proofs.Tests.{by-test, cond-all, and_first, and_second, never}
 use Rattle.laws.proofs.Lists.{none_of}
 use Rattle.decimal.specs.Decimal.{offset, figures, after_figures, letters, is_missing, ranged, result_of, unsigned, number_of, given_cell, cell_of}
@@ -37,9 +37,9 @@ use Rattle.accepted_tables.specs.Facts.{is_slope, Slopes, GroupFacts}
 
 -- ---- a value that has Q, or a fault that is one: of a word, and of a line
 
-pub data Sure {F A : Type 0} (number : F → ℕ) (Q : A → Type 0) : Result F A → Type 0 where
-  value : (a : A) → Q a → Sure number Q (says a)
-  faulty : (f : F) → (number f ≡ 0 → ⊥) → Sure number Q (fault f)
+pub data Sure {F A : Type 0} (number : F → ℕ) (Q : A → Type 0) : Result A F → Type 0 where
+  value : (a : A) → Q a → Sure number Q (Ok a)
+  faulty : (f : F) → (number f ≡ 0 → ⊥) → Sure number Q (Err f)
 
 abbrev pub SureWord : {A : Type 0} → (A → Type 0) → Said A → Type 0
 SureWord Q x = Sure (λ (n : ℕ). n) Q x
@@ -47,7 +47,7 @@ SureWord Q x = Sure (λ (n : ℕ). n) Q x
 abbrev pub SureLine : {A : Type 0} → (A → Type 0) → Reads A → Type 0
 SureLine Q x = Sure (λ (f : Flaw). f.number) Q x
 
-pub said : {A : Type 0} {Q : A → Type 0} (x : Reads A) → SureLine Q x → Flawless (flaw_in x) → (a : A) × (x ≡ says a) × Q a
+pub said : {A : Type 0} {Q : A → Type 0} (x : Reads A) → SureLine Q x → Flawless (flaw_in x) → (a : A) × (x ≡ Ok a) × Q a
 said x (value a q) h = (a, refl, q)
 said x (faulty f s) h = absurd (s h)
 
@@ -55,31 +55,31 @@ abbrev Any : {A : Type 0} → A → Type 0
 Any a = Unit {0}
 
 module _ {F : Type 0} {number : F → ℕ} where
-  sure-on : {A B : Type 0} {Q : A → Type 0} {R : B → Type 0} (x : Result F A) (go : A → Result F B) → Sure number Q x → ((a : A) → Q a → Sure number R (go a)) → Sure number R (read_on x go)
+  sure-on : {A B : Type 0} {Q : A → Type 0} {R : B → Type 0} (x : Result A F) (go : A → Result B F) → Sure number Q x → ((a : A) → Q a → Sure number R (go a)) → Sure number R (read_on x go)
   sure-on x go (value a q) g = g a q
   sure-on x go (faulty f s) g = faulty f s
 
-  sure-cond : {A : Type 0} (Q : A → Type 0) (t : Bool) (x y : Result F A) → Sure number Q x → Sure number Q y → Sure number Q (cond t x y)
+  sure-cond : {A : Type 0} (Q : A → Type 0) (t : Bool) (x y : Result A F) → Sure number Q x → Sure number Q y → Sure number Q (cond t x y)
   sure-cond Q t x y a b = cond-all (Sure number Q) t x y (λ h. a) (λ h. b)
 
-  sure-any : {A : Type 0} {Q : A → Type 0} {x : Result F A} → Sure number Q x → Sure number Any x
+  sure-any : {A : Type 0} {Q : A → Type 0} {x : Result A F} → Sure number Q x → Sure number Any x
   sure-any (value a q) = value a tt
   sure-any (faulty f s) = faulty f s
 
-  three-sure : {A B : Type 0} (Q R S : A → Type 0) (T : B → Type 0) (kept : A → A → A → B) (x y z : Result F A)
+  three-sure : {A B : Type 0} (Q R S : A → Type 0) (T : B → Type 0) (kept : A → A → A → B) (x y z : Result A F)
       → ((a b c : A) → Q a → R b → S c → T (kept a b c)) → Sure number Q x → Sure number R y → Sure number S z → Sure number T (typ_min_max kept x y z)
   three-sure Q R S T kept x y z k a b c = sure-on x _ a (λ p f. sure-on y _ b (λ q g. sure-on z _ c (λ r h. value (kept p q r) (k p q r f g h))))
 
-eleven : {A : Type 0} {Q : A → Type 0} → SureWord Q (fault 11)
+eleven : {A : Type 0} {Q : A → Type 0} → SureWord Q (Err 11)
 eleven = faulty 11 (omega arith)
 
-twelve : {A : Type 0} {Q : A → Type 0} → SureWord Q (fault 12)
+twelve : {A : Type 0} {Q : A → Type 0} → SureWord Q (Err 12)
 twelve = faulty 12 (omega arith)
 
-ten : {A : Type 0} {Q : A → Type 0} {rest : List ℕ} → SureLine Q (fault (flaw 10 rest))
+ten : {A : Type 0} {Q : A → Type 0} {rest : List ℕ} → SureLine Q (Err (flaw 10 rest))
 ten {rest = rest} = faulty (flaw 10 rest) (omega arith)
 
-thirteen : {A : Type 0} {Q : A → Type 0} → SureLine Q (fault (flaw 13 []))
+thirteen : {A : Type 0} {Q : A → Type 0} → SureLine Q (Err (flaw 13 []))
 thirteen = faulty (flaw 13 []) (omega arith)
 
 -- ---- numbers and cells
@@ -128,7 +128,7 @@ module _ {A : Type 0} (Q : A → Type 0) where
 
   alone-sure : (read : List ℕ → Said A) → ((w : List ℕ) → SureWord Q (read w)) → (v : List ℕ) → SureLine Q (alone read v)
   unfolding alone ended
-  alone-sure read s v = sure-on (word_by read 0 v) _ (word-sure read s 0 v) (λ a q. sure-cond Q (eqb (length (rest_from 1 v)) 0) (says a) _ (value a q) ten)
+  alone-sure read s v = sure-on (word_by read 0 v) _ (word-sure read s 0 v) (λ a q. sure-cond Q (eqb (length (rest_from 1 v)) 0) (Ok a) _ (value a q) ten)
 
   behind-sure : (read : List ℕ → Reads A) → ((v : List ℕ) → SureLine Q (read v)) → (w : List ℕ) → SureLine Q (behind_name read w)
   unfolding behind_name
@@ -154,7 +154,7 @@ group-line-says : (w : List ℕ) → Says GroupFacts (group_line w)
 unfolding group_line
 group-line-says w = from (cells_line w) (cells-line-sure w)
   where
-    from : (x : Reads Triple) → SureLine TypNumber x → Says GroupFacts (read_on x (λ c. says (record { given = true; cells = c })))
+    from : (x : Reads Triple) → SureLine TypNumber x → Says GroupFacts (read_on x (λ c. Ok (record { given = true; cells = c })))
     from x (value a q) = inr (refl, q)
     from x (faulty f s) = tt
 
@@ -168,8 +168,8 @@ unfolding word_line word_in
 word-line-sure table w = behind-sure Any (alone (word_in table)) (alone-sure Any (word_in table) (λ v. sure-or (meaning v table))) w
   where
     sure-or : {B : Type 0} (x : Option B) → SureWord Any (or_fault 10 x)
-    sure-or none = faulty 10 (omega arith)
-    sure-or (some b) = value b tt
+    sure-or None = faulty 10 (omega arith)
+    sure-or (Some b) = value b tt
 
 pub number-line-sure : (w : List ℕ) → SureLine IsNumber (number_line w)
 unfolding number_line behind_equals
@@ -188,7 +188,7 @@ IsRatio c = is_ratio c ≡ true
 
 ratio-sure : (x y : Said Decimal) → SureWord Any x → SureWord Any y → SureWord IsRatio (ratio_of x y)
 ratio-sure x y (value d q) b = sure-on y _ b (λ e r. value (Ratio d e) refl)
-ratio-sure x y (faulty n s) b = cond-all (λ (k : ℕ). SureWord IsRatio (fault k)) (eqb (fault_in y) 11) 11 n (λ h. eleven) (λ h. faulty n s)
+ratio-sure x y (faulty n s) b = cond-all (λ (k : ℕ). SureWord IsRatio (Err k)) (eqb (fault_in y) 11) 11 n (λ h. eleven) (λ h. faulty n s)
 
 slope-from-sure : (before behind : List ℕ) → SureWord IsRatio (slope_from before behind)
 unfolding slope_from
@@ -215,7 +215,7 @@ upward-sure t q =
     let typ : Bool = is_upward t.typ in
     let min : Bool = is_upward t.min in
     let max : Bool = is_upward t.max in
-    cond-all (SureLine Slopes) (typ && (min && max)) (says t) (fault (flaw 13 []))
+    cond-all (SureLine Slopes) (typ && (min && max)) (Ok t) (Err (flaw 13 []))
     (λ h.
     let others : (min && max) ≡ true = and_second typ (min && max) h in
     value t (record { typ = slope-is t.typ q (and_first typ (min && max) h); min = and_first min max others; max = and_second min max others }))

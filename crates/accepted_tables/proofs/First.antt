@@ -1,4 +1,5 @@
 -- A model's first lines: what they say when the model closes. What was given of them has been read, line by line.
+use Rattle.std.specs.Prelude.{Some}
 use Prim.Native.Nat.{ℕ}
 use mathlib.Core.Path.{◌≡◌, refl, sym, ap, subst, ◌∙◌}
 use mathlib.Core.List.{List, [], ◌∷◌}
@@ -14,7 +15,6 @@ use Rattle.decimal.specs.declared.Cell.{Cell}
 use Rattle.decimal.specs.declared.Cell.TheVariants.{Missing}
 use Rattle.words.specs.Words.{words, grown, onto_word}
 use Rattle.name_table.specs.Names.{place_from}
-use Rattle.name_table.specs.declared.Found.TheVariants.{At}
 use Rattle.keywords.specs.declared.ModelPart.{ModelPart}
 use Rattle.keywords.specs.declared.ModelPart.TheVariants.{VoltageRange, TemperatureRange, Current, Ramp, Waveform}
 use Rattle.cut_lines.specs.Texts.{Text, plain}
@@ -43,19 +43,19 @@ use Rattle.accepted_tables.proofs.ModelSteps.{ModelLine, first_line, current_row
 
 -- ---- places of the first lines, and the flaw of a line at its place
 
-pub type-place : place_from 0 (bytes "Model_type") (words (bytes model_lines)) ≡ At 0
+pub type-place : place_from 0 (bytes "Model_type") (words (bytes model_lines)) ≡ Some 0
 unfolding place_from words grown onto_word is_blank eqs
 type-place = refl
 
-polarity-place : place_from 0 (bytes "Polarity") (words (bytes model_lines)) ≡ At 1
+polarity-place : place_from 0 (bytes "Polarity") (words (bytes model_lines)) ≡ Some 1
 unfolding place_from words grown onto_word is_blank eqs
 polarity-place = refl
 
-enable-place : place_from 0 (bytes "Enable") (words (bytes model_lines)) ≡ At 2
+enable-place : place_from 0 (bytes "Enable") (words (bytes model_lines)) ≡ Some 2
 unfolding place_from words grown onto_word is_blank eqs
 enable-place = refl
 
-comp-place : place_from 0 (bytes "C_comp") (words (bytes model_lines)) ≡ At 3
+comp-place : place_from 0 (bytes "C_comp") (words (bytes model_lines)) ≡ Some 3
 unfolding place_from words grown onto_word is_blank eqs
 comp-place = refl
 
@@ -64,17 +64,17 @@ unfolding one_of words grown onto_word is_blank eqs
 comp-listed = refl
 
 module _ (w : List ℕ) where
-  pub type-flaw : line_at model_lines w ≡ At 0 → first_flaw w ≡ flaw_in (word_line model_types w)
+  pub type-flaw : line_at model_lines w ≡ Some 0 → first_flaw w ≡ flaw_in (word_line model_types w)
   unfolding first_flaw
   type-flaw e = rw (named-at model_lines "Model_type" w 0 0 e type-place)
 
-  is-comp : line_at model_lines w ≡ At 3 → one_of (name_of w) (words (bytes capacitances)) ≡ true
+  is-comp : line_at model_lines w ≡ Some 3 → one_of (name_of w) (words (bytes capacitances)) ≡ true
   unfolding is_named
   is-comp e =
       ap (λ (x : List ℕ). one_of x (words (bytes capacitances))) (eqs-eq (name_of w) (bytes "C_comp") (named-at model_lines "C_comp" w 3 3 e comp-place))
       ∙ comp-listed
 
-  comp-flaw : line_at model_lines w ≡ At 3 → first_flaw w ≡ flaw_in (cells_line w)
+  comp-flaw : line_at model_lines w ≡ Some 3 → first_flaw w ≡ flaw_in (cells_line w)
   unfolding first_flaw
   comp-flaw e =
       rw (
@@ -152,13 +152,13 @@ read_none : (m : ModelState) → Done m → FirstFrom m []
 unfolding line_says
 read_none m d comp c = record { comp = c d.comp; below = d.below }
 
-read-line : (m : ModelState) (w : List ℕ) (i : ℕ) (ls : List (List ℕ)) → line_at model_lines w ≡ At i → Flawless (first_flaw w)
+read-line : (m : ModelState) (w : List ℕ) (i : ℕ) (ls : List (List ℕ)) → line_at model_lines w ≡ Some i → Flawless (first_flaw w)
     → FirstFrom (with_first m w (with m.first i)) ls → FirstFrom m (w ∷ ls)
 unfolding line_says with_first
 read-line m w i ls at ok so comp c =
     let r = so (takes "C_comp" cells_line comp w)
     (taken-on model_lines "C_comp" 3 comp-place cells_line comp w i at (λ (x : Triple). is_number x.typ ≡ true) m.first
-    (λ e. said (cells_line w) (cells-line-sure w) (subst Flawless (comp-flaw w (at ∙ ap At e)) ok))
+    (λ e. said (cells_line w) (cells-line-sure w) (subst Flawless (comp-flaw w (at ∙ ap Some e)) ok))
     c)
     in
     record { comp = r.comp; below = r.below }

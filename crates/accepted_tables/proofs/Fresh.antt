@@ -1,4 +1,5 @@
 -- Pins within a component, and rows within a selector: each name is none of those before it there. From text to text, by what is admitted.
+use Rattle.std.specs.Prelude.{Ok}
 use Prim.Native.Nat.{ℕ, ◌≤◌}
 use mathlib.Core.Path.{◌≡◌, refl, sym, ap, subst, ◌∙◌}
 use mathlib.Core.List.{List, [], ◌∷◌, ◌++◌, map, append-nil}
@@ -7,7 +8,6 @@ use mathlib.Core.Bool.{Bool, true, false}
 use native.Mathlib.Omega.{arith}
 use lib.ListN.{length}
 use Rattle.laws.specs.Lists.{eqs, front, Every}
-use Rattle.laws.specs.Said.{says}
 use Rattle.records.specs.declared.LineFault.{LineFault}
 use Rattle.laws.proofs.Tests.{by-test, cond_yes, cond_no, never, impossible}
 use Rattle.words.specs.Words.{word, words}
@@ -153,7 +153,7 @@ module _ (l : Lengths) (k : ℕ) (w : List ℕ) (ts : List Text) (b : is_bracket
         once = λ q. skipped ∙ so.once (ap (λ (x : Given). has x 2) (sym same) ∙ q);
       }
 
-  pins-line : (c n : ComponentState) (h g : Held) (e : Event) → ComponentText c w n e → admit l h k w e ≡ says g → PinsFresh n g ts → PinsFresh c h (plain k w ∷ ts)
+  pins-line : (c n : ComponentState) (h g : Held) (e : Event) → ComponentText c w n e → admit l h k w e ≡ Ok g → PinsFresh n g ts → PinsFresh c h (plain k w ∷ ts)
   pins-line c n h g e (location_line x q ok) a so = pins-other c n h g (ap is_pins q) refl (held_same g h a) so
   pins-line c n h g e (package_line o x i q at ok) a so = pins-other c n h g (ap is_pins q) refl (held_same g h a) so
   pins-line c n h g e (pin_row o long any q ok) a so =
@@ -189,7 +189,7 @@ module _ (k : ℕ) (w : List ℕ) (ts : List Text) (b : is_bracketed w ≡ true)
         once = λ q. skip ∙ so.once (same ∙ q);
       }
 
-  pins-key : (c : ComponentState) (p : ComponentPart) (n : ComponentState) (h : Held) → key_of w ≡ says (key.InComponent p) → ComponentKey c k (argument w) p n → PinsFresh n h ts → PinsFresh c h (plain k w ∷ ts)
+  pins-key : (c : ComponentState) (p : ComponentPart) (n : ComponentState) (h : Held) → key_of w ≡ Ok (key.InComponent p) → ComponentKey c k (argument w) p n → PinsFresh n h ts → PinsFresh c h (plain k w ∷ ts)
   unfolding eqs
   pins-key c p n h q (part Manufacturer z f) so =
       pins-past c n h 0 (omega arith) refl (lines-key (plain k w) ts "pin" (key.InComponent Manufacturer) (key-at k w ts b q)) so

@@ -1,17 +1,17 @@
 -- The header of an accepted file, from text to text: its file name and its revision have been read, and have passed their checks.
+use Rattle.std.specs.Prelude.{Ok, Err, None, Some}
 use Prim.Native.Nat.{ℕ, ◌≤◌}
 use Prim.Native.String.{String}
 use mathlib.Core.Path.{◌≡◌, refl, sym, ap, subst, ◌∙◌}
 use mathlib.Core.List.{List, [], ◌∷◌}
 use mathlib.Core.Bool.{Bool, true, false, cond, ◌&&◌}
-use mathlib.Core.Option.{none, some}
 use native.Mathlib.Omega.{arith}
 use lib.ListN.{length}
 use lib.Dec.{eqb, leb}
 use borrow.Author.Tests.{eqb-false}
 use Rattle.laws.specs.Bytes.{bytes}
 use Rattle.laws.specs.Lists.{eqs, front}
-use Rattle.laws.specs.Said.{Said, says, fault}
+use Rattle.laws.specs.Said.{Said}
 use Rattle.laws.proofs.Tests.{by-test, cond-all, cond_no, and_first, and_second, impossible}
 use Rattle.keywords.specs.Form.{argument}
 use Rattle.keywords.specs.Carried.{key_of}
@@ -25,7 +25,7 @@ use Rattle.line_rules.specs.Fields.{is_bracketed, is_sized, is_file_name}
 use Rattle.given.specs.Given.{none_given, has, with}
 use Rattle.given.specs.declared.Given.{Given}
 use Rattle.given.proofs.Laws.{has_other}
-use Rattle.rules.specs.Going.{quietly, and_then}
+use Rattle.rules.specs.Going.{quietly, and_then, Went}
 use Rattle.rules.specs.Header.{version, header_place, header_flaw, header_part, header_line, header_done}
 use Rattle.rules.specs.Steps.{done, opened, on_version, on_keyword, keyed, on_plain, on_change, on_text}
 use Rattle.rules.specs.Reading.{key_says, is_within, header_says}
@@ -36,7 +36,6 @@ use Rattle.rules.specs.declared.HeaderState.{HeaderState}
 use Rattle.rules.specs.declared.Stage.{Stage}
 use Rattle.rules.specs.declared.Stage.TheVariants.{BeforeVersion, InHeader}
 use Rattle.rules.specs.declared.Event.{Event}
-use Rattle.rules.specs.declared.Went.{Went}
 use Rattle.layout_by_notes.proofs.Goes.{Goes, past-closing, past_all, anywhere}
 use Rattle.layout_by_notes.proofs.Ahead.{key-at, no_key}
 use Rattle.records.specs.Flaws.{told}
@@ -48,10 +47,10 @@ use Rattle.accepted_tables.proofs.Models.{not-given}
 -- ---- a text of the header
 
 pub data HeaderStep (h : HeaderState) : Text → Stage → Type 0 where
-  stays : {t : Text} (n : HeaderState) → key_at t ≡ none → n.parts ≡ h.parts → HeaderStep h t (InHeader n)
-  by_part : {k : ℕ} {w : List ℕ} (p : HeaderPart) (n : HeaderState) → key_at (plain k w) ≡ some (key.InHeader p) → n.parts ≡ with h.parts (header_place p)
+  stays : {t : Text} (n : HeaderState) → key_at t ≡ None → n.parts ≡ h.parts → HeaderStep h t (InHeader n)
+  by_part : {k : ℕ} {w : List ℕ} (p : HeaderPart) (n : HeaderState) → key_at (plain k w) ≡ Some (key.InHeader p) → n.parts ≡ with h.parts (header_place p)
       → Flawless (header_flaw (argument w) p) → HeaderStep h (plain k w) (InHeader n)
-  by_end : {t : Text} {u : Stage} (x : Keyword) → key_at t ≡ some x → is_end (some x) ≡ true → header_done h ≡ 0 → HeaderStep h t u
+  by_end : {t : Text} {u : Stage} (x : Keyword) → key_at t ≡ Some x → is_end (Some x) ≡ true → header_done h ≡ 0 → HeaderStep h t u
 
 abbrev Step : HeaderState → Text → Stage → Event → Type 0
 Step h t u e = HeaderStep h t u
@@ -62,7 +61,7 @@ closed h = record { line = h.line; text = false; parts = h.parts }
 
 module _ (h : HeaderState) (k : ℕ) (w : List ℕ) (b : is_bracketed w ≡ true) where
   -- the header ends, whatever goes on
-  end_goes : (x : Keyword) → key_of w ≡ says x → is_end (some x) ≡ true → (f : Stage → Went) → Goes (Step h (plain k w)) (and_then (done k (InHeader (closed h))) f)
+  end_goes : (x : Keyword) → key_of w ≡ Ok x → is_end (Some x) ≡ true → (f : Stage → Went) → Goes (Step h (plain k w)) (and_then (done k (InHeader (closed h))) f)
   unfolding header_done
   end_goes x q e f =
       past-closing (Step h (plain k w)) (λ (t : Stage). header_done h ≡ 0) f (done k (InHeader (closed h)))
@@ -73,7 +72,7 @@ module _ (h : HeaderState) (k : ℕ) (w : List ℕ) (b : is_bracketed w ≡ true
   abbrev opening : HeaderPart → Given → HeaderState
   opening p g = record { line = h.line; text = leb (header_place (FreeText Date)) (header_place p); parts = g }
 
-  keyword-goes : (x : Keyword) → key_of w ≡ says x → Goes (Step h (plain k w)) (on_keyword (InHeader (closed h)) k w x)
+  keyword-goes : (x : Keyword) → key_of w ≡ Ok x → Goes (Step h (plain k w)) (on_keyword (InHeader (closed h)) k w x)
   unfolding on_version header_part
   keyword-goes key.IbisVer q = tt
   keyword-goes (key.InHeader p) q =
@@ -84,8 +83,8 @@ module _ (h : HeaderState) (k : ℕ) (w : List ℕ) (b : is_bracketed w ≡ true
   keyword-goes key.End q = end_goes key.End q refl _
 
   keyed-goes : (x : Said Keyword) → key_of w ≡ x → Goes (Step h (plain k w)) (keyed (InHeader (closed h)) k w x)
-  keyed-goes (fault n) q = tt
-  keyed-goes (says x) q = keyword-goes x q
+  keyed-goes (Err n) q = tt
+  keyed-goes (Ok x) q = keyword-goes x q
 
 text-goes : (h : HeaderState) (t : Text) → Goes (Step h t) (on_text (InHeader h) t)
 unfolding on_plain on_change header_line
@@ -102,15 +101,15 @@ text-goes h (change k x) =
 abbrev IsName : List ℕ → Type 0
 IsName w = OneWord is_file_name w
 
-abbrev Some : List ℕ → Type 0
-Some w = 1 ≤ length w
+abbrev HasBytes : List ℕ → Type 0
+HasBytes w = 1 ≤ length w
 
 abbrev first : List ℕ → List (List ℕ) → List ℕ
 first w ls = w
 
 record Reads (g : Given) (ts : List Text) : Type 0 where
   name : (x : List ℕ) → (has g 0 ≡ true → IsName x) → IsName (key_says "file_name" first x ts)
-  revision : (x : List ℕ) → (has g 1 ≡ true → Some x) → Some (key_says "file_rev" first x ts)
+  revision : (x : List ℕ) → (has g 1 ≡ true → HasBytes x) → HasBytes (key_says "file_rev" first x ts)
 
 reads_end : (h : HeaderState) → header_done h ≡ 0 → Reads h.parts []
 unfolding header_done key_says
@@ -120,20 +119,20 @@ reads_end h d =
     let both : (a && b) ≡ true = by-test (a && b) (λ t. t) (λ t. let e : 9 ≡ 0 = sym (cond_no 0 9 t) ∙ d in absurd (omega arith)) in
     record { name = λ x q. q (and_first a b both); revision = λ x q. q (and_second a b both) }
 
-reads-skip : (g : Given) (t : Text) (ts : List Text) → key_at t ≡ none → Reads g ts → Reads g (t ∷ ts)
+reads-skip : (g : Given) (t : Text) (ts : List Text) → key_at t ≡ None → Reads g ts → Reads g (t ∷ ts)
 reads-skip g t ts e so =
     record {
       name = λ x q. subst IsName (sym (says-skip first x t ts (key.InHeader FileName) e)) (so.name x q);
-      revision = λ x q. subst Some (sym (says-skip first x t ts (key.InHeader FileRev) e)) (so.revision x q);
+      revision = λ x q. subst HasBytes (sym (says-skip first x t ts (key.InHeader FileRev) e)) (so.revision x q);
     }
 
 -- the [IBIS Ver] line says neither
-reads-version : (t : Text) (ts : List Text) → key_at t ≡ some key.IbisVer → Reads none_given ts → Reads none_given (t ∷ ts)
+reads-version : (t : Text) (ts : List Text) → key_at t ≡ Some key.IbisVer → Reads none_given ts → Reads none_given (t ∷ ts)
 unfolding eqs
 reads-version t ts e so =
     record {
       name = λ x q. subst IsName (sym (says-key first x t ts "file_name" key.IbisVer e)) (so.name x q);
-      revision = λ x q. subst Some (sym (says-key first x t ts "file_rev" key.IbisVer e)) (so.revision x q);
+      revision = λ x q. subst HasBytes (sym (says-key first x t ts "file_rev" key.IbisVer e)) (so.revision x q);
     }
 
 -- a file name, and a revision, without a fault
@@ -144,14 +143,14 @@ no_name = refl
 name-fine : (w : List ℕ) → Flawless (header_flaw w FileName) → IsName w
 name-fine w h = (alone-one is_file_name w h no_name, alone-passes is_file_name w h)
 
-revision-fine : (w : List ℕ) → Flawless (header_flaw w FileRev) → Some w
+revision-fine : (w : List ℕ) → Flawless (header_flaw w FileRev) → HasBytes w
 revision-fine w h =
     by-test (eqb (length w) 0)
     (λ t. let e : 10 ≡ 0 = rw t at h in absurd (omega arith))
     (λ t. let e = eqb-false (length w) 0 t in omega (arith, e))
 
 -- what stands at place i of the header's parts, under this name
-module _ (P : List ℕ → Type 0) (name : String) (i : ℕ) (g : Given) (k : ℕ) (w : List ℕ) (ts : List Text) (p : HeaderPart) (e : key_at (plain k w) ≡ some (key.InHeader p)) where
+module _ (P : List ℕ → Type 0) (name : String) (i : ℕ) (g : Given) (k : ℕ) (w : List ℕ) (ts : List Text) (p : HeaderPart) (e : key_at (plain k w) ≡ Some (key.InHeader p)) where
   abbrev From : Given → List Text → Type 0
   From f us = (x : List ℕ) → (has f i ≡ true → P x) → P (key_says name first x us)
 
@@ -165,43 +164,43 @@ module _ (P : List ℕ → Type 0) (name : String) (i : ℕ) (g : Given) (k : �
   own : eqs (bytes (spelling (key.InHeader p))) (bytes name) ≡ true → P (argument w) → From (with g (header_place p)) ts → From g (plain k w ∷ ts)
   own n fine so x q = subst P (sym (keyed-says true n x)) (so (argument w) (λ h. fine))
 
-reads-part : (g : Given) (k : ℕ) (w : List ℕ) (ts : List Text) (p : HeaderPart) → key_at (plain k w) ≡ some (key.InHeader p) → Flawless (header_flaw (argument w) p)
+reads-part : (g : Given) (k : ℕ) (w : List ℕ) (ts : List Text) (p : HeaderPart) → key_at (plain k w) ≡ Some (key.InHeader p) → Flawless (header_flaw (argument w) p)
     → Reads (with g (header_place p)) ts → Reads g (plain k w ∷ ts)
 unfolding eqs
 reads-part g k w ts FileName e f so =
     record {
       name = own IsName "file_name" 0 g k w ts FileName e refl (name-fine (argument w) f) so.name;
-      revision = other Some "file_rev" 1 g k w ts FileName e refl (omega arith) so.revision;
+      revision = other HasBytes "file_rev" 1 g k w ts FileName e refl (omega arith) so.revision;
     }
 reads-part g k w ts FileRev e f so =
     record {
       name = other IsName "file_name" 0 g k w ts FileRev e refl (omega arith) so.name;
-      revision = own Some "file_rev" 1 g k w ts FileRev e refl (revision-fine (argument w) f) so.revision;
+      revision = own HasBytes "file_rev" 1 g k w ts FileRev e refl (revision-fine (argument w) f) so.revision;
     }
 reads-part g k w ts (FreeText Date) e f so =
     record {
       name = other IsName "file_name" 0 g k w ts (FreeText Date) e refl (omega arith) so.name;
-      revision = other Some "file_rev" 1 g k w ts (FreeText Date) e refl (omega arith) so.revision;
+      revision = other HasBytes "file_rev" 1 g k w ts (FreeText Date) e refl (omega arith) so.revision;
     }
 reads-part g k w ts (FreeText Source) e f so =
     record {
       name = other IsName "file_name" 0 g k w ts (FreeText Source) e refl (omega arith) so.name;
-      revision = other Some "file_rev" 1 g k w ts (FreeText Source) e refl (omega arith) so.revision;
+      revision = other HasBytes "file_rev" 1 g k w ts (FreeText Source) e refl (omega arith) so.revision;
     }
 reads-part g k w ts (FreeText Notes) e f so =
     record {
       name = other IsName "file_name" 0 g k w ts (FreeText Notes) e refl (omega arith) so.name;
-      revision = other Some "file_rev" 1 g k w ts (FreeText Notes) e refl (omega arith) so.revision;
+      revision = other HasBytes "file_rev" 1 g k w ts (FreeText Notes) e refl (omega arith) so.revision;
     }
 reads-part g k w ts (FreeText Disclaimer) e f so =
     record {
       name = other IsName "file_name" 0 g k w ts (FreeText Disclaimer) e refl (omega arith) so.name;
-      revision = other Some "file_rev" 1 g k w ts (FreeText Disclaimer) e refl (omega arith) so.revision;
+      revision = other HasBytes "file_rev" 1 g k w ts (FreeText Disclaimer) e refl (omega arith) so.revision;
     }
 reads-part g k w ts (FreeText Copyright) e f so =
     record {
       name = other IsName "file_name" 0 g k w ts (FreeText Copyright) e refl (omega arith) so.name;
-      revision = other Some "file_rev" 1 g k w ts (FreeText Copyright) e refl (omega arith) so.revision;
+      revision = other HasBytes "file_rev" 1 g k w ts (FreeText Copyright) e refl (omega arith) so.revision;
     }
 
 -- ---- all its texts
@@ -222,17 +221,17 @@ header-reads (t ∷ ts) h r = step-on ts (header-reads ts) h t r.0 (gone (Step h
 -- ---- before it stands [IBIS Ver]
 
 abbrev Begins : Text → Stage → Event → Type 0
-Begins t u e = (h : HeaderState) × (u ≡ InHeader h) × (h.parts ≡ none_given) × (key_at t ≡ some key.IbisVer)
+Begins t u e = (h : HeaderState) × (u ≡ InHeader h) × (h.parts ≡ none_given) × (key_at t ≡ Some key.IbisVer)
 
 first-keyword : (k : ℕ) (w : List ℕ) (b : is_bracketed w ≡ true) (x : Said Keyword) → key_of w ≡ x → Goes (Begins (plain k w)) (keyed BeforeVersion k w x)
 unfolding on_version version
-first-keyword k w b (fault n) q = tt
-first-keyword k w b (says key.IbisVer) q = past-passes (Begins (plain k w)) _ k _ (λ h. (_, refl, refl, key-at k w [] b q))
-first-keyword k w b (says (key.InHeader p)) q = tt
-first-keyword k w b (says (key.Opens o)) q = tt
-first-keyword k w b (says (key.InComponent p)) q = tt
-first-keyword k w b (says (key.InModel p)) q = tt
-first-keyword k w b (says key.End) q = tt
+first-keyword k w b (Err n) q = tt
+first-keyword k w b (Ok key.IbisVer) q = past-passes (Begins (plain k w)) _ k _ (λ h. (_, refl, refl, key-at k w [] b q))
+first-keyword k w b (Ok (key.InHeader p)) q = tt
+first-keyword k w b (Ok (key.Opens o)) q = tt
+first-keyword k w b (Ok (key.InComponent p)) q = tt
+first-keyword k w b (Ok (key.InModel p)) q = tt
+first-keyword k w b (Ok key.End) q = tt
 
 first-text : (t : Text) → Goes (Begins t) (on_text BeforeVersion t)
 unfolding on_plain on_change

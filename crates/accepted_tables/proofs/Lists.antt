@@ -1,4 +1,5 @@
 -- The list that is open in a model: what its lines, from here to the next keyword, come to. Line by line, by the kind of list.
+use Rattle.std.specs.Prelude.{Result, Ok, Some}
 use Prim.Native.Nat.{ℕ}
 use Prim.Native.String.{String}
 use mathlib.Core.Path.{◌≡◌, refl, sym, ap, subst, ◌∙◌}
@@ -7,14 +8,12 @@ use mathlib.Core.Bool.{Bool, true, false}
 use lib.Dec.{eqb}
 use Rattle.laws.specs.Bytes.{bytes, is_blank, is_capital, is_letter}
 use Rattle.laws.specs.Lists.{eqs, front}
-use Rattle.laws.specs.Said.{Result, says}
 use Rattle.records.specs.Flaws.{Flaw, flaw_in}
 use Rattle.laws.proofs.Tests.{by-test, cond_no, impossible}
 use Rattle.laws.proofs.Same.{eqs-eq}
 use Rattle.decimal.specs.declared.Cell.{Cell}
 use Rattle.words.specs.Words.{word, words, grown, onto_word}
 use Rattle.name_table.specs.Names.{place_from}
-use Rattle.name_table.specs.declared.Found.TheVariants.{At}
 use Rattle.records.specs.declared.Row.{Row}
 use Rattle.records.specs.declared.RampTriple.{RampTriple}
 use Rattle.line_rules.specs.Fields.{name_of, is_named, line_at, number_line, slopes_line, row_of, takes, line_says}
@@ -38,7 +37,7 @@ use Rattle.accepted_tables.proofs.ModelSteps.{Shuts, ModelLine, first_line, curr
 
 -- ---- the line of a name, if it was given by the end, has Q: x is what was read of it before the lines ls
 
-abbrev pub Reads : {A : Type 0} → (A → Type 0) → Given → String → String → (List ℕ → Result Flaw A) → List (List ℕ) → Type 0
+abbrev pub Reads : {A : Type 0} → (A → Type 0) → Given → String → String → (List ℕ → Result A Flaw) → List (List ℕ) → Type 0
 Reads {A} Q g table name read ls = (x : A) → (gave g table name ≡ true → Q x) → Q (line_says name read x ls)
 
 abbrev pub IsNumber : Cell → Type 0
@@ -65,35 +64,35 @@ list-shuts (WaveformRows o g r) s = (none_left 1000 r s.2, λ x q. q s.0, λ x q
 
 -- ---- places
 
-pub rise-place : place_from 0 (bytes "dV/dt_r") (words (bytes ramp_lines)) ≡ At 0
+pub rise-place : place_from 0 (bytes "dV/dt_r") (words (bytes ramp_lines)) ≡ Some 0
 unfolding place_from words grown onto_word is_blank eqs
 rise-place = refl
 
-pub fall-place : place_from 0 (bytes "dV/dt_f") (words (bytes ramp_lines)) ≡ At 1
+pub fall-place : place_from 0 (bytes "dV/dt_f") (words (bytes ramp_lines)) ≡ Some 1
 unfolding place_from words grown onto_word is_blank eqs
 fall-place = refl
 
-load-place : place_from 0 (bytes "R_load") (words (bytes ramp_lines)) ≡ At 2
+load-place : place_from 0 (bytes "R_load") (words (bytes ramp_lines)) ≡ Some 2
 unfolding place_from words grown onto_word is_blank eqs
 load-place = refl
 
-pub resistor-place : place_from 0 (bytes "R_fixture") (words (bytes fixtures)) ≡ At 0
+pub resistor-place : place_from 0 (bytes "R_fixture") (words (bytes fixtures)) ≡ Some 0
 unfolding place_from words grown onto_word is_blank eqs
 resistor-place = refl
 
-pub voltage-place : place_from 0 (bytes "V_fixture") (words (bytes fixtures)) ≡ At 1
+pub voltage-place : place_from 0 (bytes "V_fixture") (words (bytes fixtures)) ≡ Some 1
 unfolding place_from words grown onto_word is_blank eqs
 voltage-place = refl
 
 -- ---- a named line
 
-ramp-flaw : (w : List ℕ) (i : ℕ) → line_at ramp_lines w ≡ At i → eqb i 2 ≡ false → ramp_flaw w ≡ flaw_in (slopes_line w)
+ramp-flaw : (w : List ℕ) (i : ℕ) → line_at ramp_lines w ≡ Some i → eqb i 2 ≡ false → ramp_flaw w ≡ flaw_in (slopes_line w)
 unfolding ramp_flaw
 ramp-flaw w i at h = rw (named-at ramp_lines "R_load" w i 2 at load-place, h)
 
-module _ {A : Type 0} (Q : A → Type 0) (g : Given) (table name : String) (read : List ℕ → Result Flaw A) (w : List ℕ) (ls : List (List ℕ)) where
-  pub reads-line : (i j : ℕ) → place_from 0 (bytes name) (words (bytes table)) ≡ At j → line_at table w ≡ At i
-      → (i ≡ j → (v : A) × (read w ≡ says v) × Q v) → Reads Q (with g i) table name read ls → Reads Q g table name read (w ∷ ls)
+module _ {A : Type 0} (Q : A → Type 0) (g : Given) (table name : String) (read : List ℕ → Result A Flaw) (w : List ℕ) (ls : List (List ℕ)) where
+  pub reads-line : (i j : ℕ) → place_from 0 (bytes name) (words (bytes table)) ≡ Some j → line_at table w ≡ Some i
+      → (i ≡ j → (v : A) × (read w ≡ Ok v) × Q v) → Reads Q (with g i) table name read ls → Reads Q g table name read (w ∷ ls)
   unfolding line_says
   reads-line i j placed at own so x q = so (takes name read x w) (taken-on table name j placed read x w i at Q g own q)
 
@@ -110,7 +109,7 @@ first-letter p [] h = h
 first-letter p (b ∷ bs) h = by-test (p b) (λ t. rw t at h) (λ t. let z : false ≡ true = rw t at h in cc)
 
 -- a name that begins with a letter is no row's
-row-unnamed : (name : String) (w : List ℕ) (y : Row) → begins_letter (bytes name) ≡ true → row_of w ≡ says y → is_named name w ≡ false
+row-unnamed : (name : String) (w : List ℕ) (y : Row) → begins_letter (bytes name) ≡ true → row_of w ≡ Ok y → is_named name w ≡ false
 unfolding is_named name_of
 row-unnamed name w y l e =
     by-test (is_named name w)
@@ -129,15 +128,15 @@ unfolding begins_letter is_letter is_capital
 voltage-letter = refl
 
 module _ (w : List ℕ) (ls : List (List ℕ)) where
-  row_more : (y : Row) → row_of w ≡ says y → rows_in (w ∷ ls) ≡ y ∷ rows_in ls
+  row_more : (y : Row) → row_of w ≡ Ok y → rows_in (w ∷ ls) ≡ y ∷ rows_in ls
   unfolding rows_in
-  row_more y e = ap (λ (x : Result Flaw Row). onto_rows x (rows_in ls)) e
+  row_more y e = ap (λ (x : Result Row Flaw). onto_rows x (rows_in ls)) e
 
   no_row : begins_letter (word 0 (words w)) ≡ true → rows_in (w ∷ ls) ≡ rows_in ls
   unfolding rows_in
-  no_row b = ap (λ (x : Result Flaw Row). onto_rows x (rows_in ls)) (letter-no-row w b)
+  no_row b = ap (λ (x : Result Row Flaw). onto_rows x (rows_in ls)) (letter-no-row w b)
 
-  rows_more : (most : ℕ) (r : RowsSeen) (y : Row) → row_of w ≡ says y → rises r y.number ≡ true
+  rows_more : (most : ℕ) (r : RowsSeen) (y : Row) → row_of w ≡ Ok y → rises r y.number ≡ true
       → RowsLeft most (with_row r y.number (is_number y.cells.typ)) (rows_in ls) → RowsLeft most r (rows_in (w ∷ ls))
   rows_more most r y e h so = subst (RowsLeft most r) (sym (row_more y e)) (one_more most r y (rows_in ls) h so)
 
@@ -147,8 +146,8 @@ pub list-line : (m : ModelState) (w : List ℕ) (n : ModelState) (ls : List (Lis
 list-line m w n ls (first_line i q at h ok) so = subst (λ (l : ModelList). ListReads l (w ∷ ls)) (sym q) tt
 list-line m w n ls (current_row o r y q e h) so = subst (λ (l : ModelList). ListReads l (w ∷ ls)) (sym q) (rows_more w ls 100 r y e h so)
 list-line m w n ls (ramp_line o g i q at h ok) so =
-    let own : (j : ℕ) → eqb j 2 ≡ false → i ≡ j → (v : RampTriple) × (slopes_line w ≡ says v) × Slopes v =
-    λ j z e. said (slopes_line w) (slopes-line-sure w) (subst Flawless (ramp-flaw w j (at ∙ ap At e) z) ok) in
+    let own : (j : ℕ) → eqb j 2 ≡ false → i ≡ j → (v : RampTriple) × (slopes_line w ≡ Ok v) × Slopes v =
+    λ j z e. said (slopes_line w) (slopes-line-sure w) (subst Flawless (ramp-flaw w j (at ∙ ap Some e) z) ok) in
     subst (λ (l : ModelList). ListReads l (w ∷ ls)) (sym q) (
       reads-line Slopes g ramp_lines "dV/dt_r" slopes_line w ls i 0 rise-place at (own 0 refl) so.0,
       reads-line Slopes g ramp_lines "dV/dt_f" slopes_line w ls i 1 fall-place at (own 1 refl) so.1,

@@ -1,16 +1,15 @@
 -- The texts of a model, one after another: what each leaves, and what its checks say. By cases on the open list, and on the keyword.
+use Rattle.std.specs.Prelude.{Ok, Err, Some}
 use Prim.Native.Nat.{ℕ, ◌+◌}
 use mathlib.Core.Path.{◌≡◌, refl, sym, subst, ◌∙◌}
 use mathlib.Core.List.{List, [], ◌∷◌}
 use mathlib.Core.Bool.{Bool, true, false, ◌&&◌}
-use mathlib.Core.Option.{some}
 use lib.Dec.{eqb, leb}
 use borrow.Author.Tests.{not-false}
 use Rattle.laws.specs.Lists.{front}
-use Rattle.laws.specs.Said.{Said, says, fault}
+use Rattle.laws.specs.Said.{Said}
 use Rattle.laws.proofs.Tests.{cond-all, and_first, and_second, impossible}
 use Rattle.words.specs.Words.{word, words}
-use Rattle.name_table.specs.declared.Found.TheVariants.{At}
 use Rattle.keywords.specs.Form.{argument}
 use Rattle.keywords.specs.Carried.{key_of}
 use Rattle.keywords.specs.declared.Keyword.{Keyword}
@@ -27,7 +26,7 @@ use Rattle.records.specs.Flaws.{Reads, flaw_in, told, told_in}
 use Rattle.records.specs.declared.LineFault.{LineFault}
 use Rattle.records.specs.declared.Row.{Row}
 use Rattle.records.specs.declared.Edge.{Edge}
-use Rattle.rules.specs.Going.{quietly, and_then}
+use Rattle.rules.specs.Going.{quietly, and_then, Went}
 use Rattle.rules.specs.Model.{with_parts, with_model_list, first_flaw, with_first, is_number, rises, with_row, row_line, ramp_flaw, begins_letter, waveform_line, model_line, model_place, model_flaw, model_opens, single_part, waveform_part, model_part, table_fault, model_shut, model_done}
 use Rattle.rules.specs.Steps.{shut, done, opened, on_version, on_keyword, keyed, on_plain, on_change, on_text}
 use Rattle.rules.specs.Reading.{is_within}
@@ -39,7 +38,6 @@ use Rattle.rules.specs.declared.ModelState.{ModelState}
 use Rattle.rules.specs.declared.Stage.{Stage}
 use Rattle.rules.specs.declared.Stage.TheVariants.{InModel}
 use Rattle.rules.specs.declared.Event.{Event}
-use Rattle.rules.specs.declared.Went.{Went}
 use Rattle.layout_by_notes.proofs.Goes.{Goes, past-closing, past_all, anywhere}
 use Rattle.layout_by_notes.proofs.Ahead.{key-at, no_key}
 use Rattle.accepted_tables.specs.Fallbacks.{Flawless}
@@ -76,25 +74,25 @@ shut-goes m (WaveformRows o g r) =
 -- ---- a line that is no keyword line
 
 pub data ModelLine (m : ModelState) (w : List ℕ) : ModelState → Type 0 where
-  first_line : (i : ℕ) → m.list ≡ ModelFirst → line_at model_lines w ≡ At i → has m.first i ≡ false → Flawless (first_flaw w)
+  first_line : (i : ℕ) → m.list ≡ ModelFirst → line_at model_lines w ≡ Some i → has m.first i ≡ false → Flawless (first_flaw w)
       → ModelLine m w (with_first m w (with m.first i))
-  current_row : (o : ℕ) (r : RowsSeen) (y : Row) → m.list ≡ CurrentRows o r → row_of w ≡ says y → rises r y.number ≡ true
+  current_row : (o : ℕ) (r : RowsSeen) (y : Row) → m.list ≡ CurrentRows o r → row_of w ≡ Ok y → rises r y.number ≡ true
       → ModelLine m w (with_model_list m (CurrentRows o (with_row r y.number (is_number y.cells.typ))))
-  ramp_line : (o : ℕ) (g : Given) (i : ℕ) → m.list ≡ RampLines o g → line_at ramp_lines w ≡ At i → has g i ≡ false → Flawless (ramp_flaw w)
+  ramp_line : (o : ℕ) (g : Given) (i : ℕ) → m.list ≡ RampLines o g → line_at ramp_lines w ≡ Some i → has g i ≡ false → Flawless (ramp_flaw w)
       → ModelLine m w (with_model_list m (RampLines o (with g i)))
   fixture_line : (o : ℕ) (g : Given) (r : RowsSeen) (i : ℕ) → m.list ≡ WaveformRows o g r → begins_letter (word 0 (words w)) ≡ true
-      → line_at fixtures w ≡ At i → has g i ≡ false → Flawless (flaw_in (number_line w)) → ModelLine m w (with_model_list m (WaveformRows o (with g i) r))
-  waveform_row : (o : ℕ) (g : Given) (r : RowsSeen) (y : Row) → m.list ≡ WaveformRows o g r → row_of w ≡ says y → rises r y.number ≡ true
+      → line_at fixtures w ≡ Some i → has g i ≡ false → Flawless (flaw_in (number_line w)) → ModelLine m w (with_model_list m (WaveformRows o (with g i) r))
+  waveform_row : (o : ℕ) (g : Given) (r : RowsSeen) (y : Row) → m.list ≡ WaveformRows o g r → row_of w ≡ Ok y → rises r y.number ≡ true
       → ModelLine m w (with_model_list m (WaveformRows o g (with_row r y.number (is_number y.cells.typ))))
 
 abbrev Line : ModelState → List ℕ → Stage → Event → Type 0
 Line m w u e = (n : ModelState) × (u ≡ InModel n) × ModelLine m w n
 
 row_goes : (P : Stage → Event → Type 0) (on : RowsSeen → ModelList) (m : ModelState) (r : RowsSeen) (k : ℕ) (w : List ℕ) (x : Reads Row)
-    → ((y : Row) → x ≡ says y → rises r y.number ≡ true → (e : Event) → P (InModel (with_model_list m (on (with_row r y.number (is_number y.cells.typ))))) e)
+    → ((y : Row) → x ≡ Ok y → rises r y.number ≡ true → (e : Event) → P (InModel (with_model_list m (on (with_row r y.number (is_number y.cells.typ))))) e)
     → Goes P (row_line on m r k (told_in w x))
-row_goes P on m r k w (fault f) p = tt
-row_goes P on m r k w (says y) p = past-refuse P _ 13 k _ (λ h. p y refl (not-false _ h) _)
+row_goes P on m r k w (Err f) p = tt
+row_goes P on m r k w (Ok y) p = past-refuse P _ 13 k _ (λ h. p y refl (not-false _ h) _)
 
 waveform-goes : (m : ModelState) (o : ℕ) (g : Given) (r : RowsSeen) (k : ℕ) (w : List ℕ) → m.list ≡ WaveformRows o g r
     → Goes (Line m w) (waveform_line m o g r k w)
@@ -143,9 +141,9 @@ part-goes m k w (Waveform e) = past-passes _ _ k _ (λ f. past-refuse (Key m k (
 pub data ModelStep (m : ModelState) : Text → Stage → Type 0 where
   by_change : {k : ℕ} {f : LineFault} → ModelStep m (change k f) (InModel m)
   by_line : {k : ℕ} {w : List ℕ} (n : ModelState) → is_bracketed w ≡ false → ModelLine m w n → ModelStep m (plain k w) (InModel n)
-  by_key : {k : ℕ} {w : List ℕ} (p : ModelPart) (n : ModelState) → is_bracketed w ≡ true → key_of w ≡ says (key.InModel p) → Shuts m.list
+  by_key : {k : ℕ} {w : List ℕ} (p : ModelPart) (n : ModelState) → is_bracketed w ≡ true → key_of w ≡ Ok (key.InModel p) → Shuts m.list
       → ModelKey m k (argument w) p n → ModelStep m (plain k w) (InModel n)
-  by_end : {k : ℕ} {w : List ℕ} {u : Stage} (x : Keyword) → is_bracketed w ≡ true → key_of w ≡ says x → is_end (some x) ≡ true → Shuts m.list
+  by_end : {k : ℕ} {w : List ℕ} {u : Stage} (x : Keyword) → is_bracketed w ≡ true → key_of w ≡ Ok x → is_end (Some x) ≡ true → Shuts m.list
       → model_done m ≡ 0 → ModelStep m (plain k w) u
 
 abbrev Step : ModelState → Text → Stage → Event → Type 0
@@ -157,7 +155,7 @@ done-shut m = refl
 
 module _ (m : ModelState) (k : ℕ) (w : List ℕ) (b : is_bracketed w ≡ true) (s : Shuts m.list) where
   -- the section ends, whatever goes on
-  end_goes : (x : Keyword) → key_of w ≡ says x → is_end (some x) ≡ true → (f : Stage → Went)
+  end_goes : (x : Keyword) → key_of w ≡ Ok x → is_end (Some x) ≡ true → (f : Stage → Went)
       → Goes (Step m (plain k w)) (and_then (done k (InModel (with_model_list m ModelShut))) f)
   end_goes x q e f =
       past-closing (Step m (plain k w)) (λ (t : Stage). model_done m ≡ 0) f (done k (InModel (with_model_list m ModelShut)))
@@ -165,7 +163,7 @@ module _ (m : ModelState) (k : ℕ) (w : List ℕ) (b : is_bracketed w ≡ true)
       (λ h. sym (done-shut m) ∙ h))
       (λ t d. past_all (Step m (plain k w)) (λ (u : Stage) (z : Event). Unit {0}) (f t) (anywhere (f t)) (λ u z a. by_end x b q e s d))
 
-  keyword-goes : (x : Keyword) → key_of w ≡ says x → Goes (Step m (plain k w)) (on_keyword (InModel (with_model_list m ModelShut)) k w x)
+  keyword-goes : (x : Keyword) → key_of w ≡ Ok x → Goes (Step m (plain k w)) (on_keyword (InModel (with_model_list m ModelShut)) k w x)
   unfolding on_version
   keyword-goes key.IbisVer q = tt
   keyword-goes (key.InHeader p) q = tt
@@ -177,8 +175,8 @@ module _ (m : ModelState) (k : ℕ) (w : List ℕ) (b : is_bracketed w ≡ true)
   keyword-goes key.End q = end_goes key.End q refl _
 
   keyed-goes : (x : Said Keyword) → key_of w ≡ x → Goes (Step m (plain k w)) (keyed (InModel (with_model_list m ModelShut)) k w x)
-  keyed-goes (fault n) q = tt
-  keyed-goes (says x) q = keyword-goes x q
+  keyed-goes (Err n) q = tt
+  keyed-goes (Ok x) q = keyword-goes x q
 
 plain-goes : (m : ModelState) (k : ℕ) (w : List ℕ) → Goes (Step m (plain k w)) (on_plain (InModel m) k w)
 unfolding on_plain
@@ -202,7 +200,7 @@ module _ (P : ModelState → List Text → Type 0)
     (closing : (m : ModelState) → Shuts m.list → model_done m ≡ 0 → P m [])
     (changing : (m : ModelState) (k : ℕ) (f : LineFault) (ts : List Text) → P m ts → P m (change k f ∷ ts))
     (lining : (m n : ModelState) (k : ℕ) (w : List ℕ) (ts : List Text) → is_bracketed w ≡ false → ModelLine m w n → P n ts → P m (plain k w ∷ ts))
-    (keying : (m n : ModelState) (k : ℕ) (w : List ℕ) (p : ModelPart) (ts : List Text) → is_bracketed w ≡ true → key_of w ≡ says (key.InModel p)
+    (keying : (m n : ModelState) (k : ℕ) (w : List ℕ) (p : ModelPart) (ts : List Text) → is_bracketed w ≡ true → key_of w ≡ Ok (key.InModel p)
     → Shuts m.list → ModelKey m k (argument w) p n → P n ts → P m (plain k w ∷ ts)) where
   step-on : (m : ModelState) (t : Text) (ts : List Text) (u : Stage) → ModelStep m t u → Passes u ts
       → ((n : ModelState) → Passes (InModel n) ts → P n (front is_within ts)) → P m (front is_within (t ∷ ts))

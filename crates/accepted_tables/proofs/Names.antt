@@ -1,10 +1,10 @@
 -- Names in the tables are those noted: none is used twice, what is named is found, and what is there is listed. By the notes' entries.
+use Rattle.std.specs.Prelude.{Option, None, Some}
 use Prim.Native.Nat.{ℕ, ◌≤◌}
 use mathlib.Core.Path.{◌≡◌, refl, sym, ap, subst, ◌∙◌}
 use mathlib.Core.List.{List, [], ◌∷◌, map, reverse}
 use mathlib.Core.Logic.{◌⊎◌, inl, inr, ⊎_elim}
 use mathlib.Core.Bool.{Bool, true, false, cond, ◌&&◌, ◌||◌}
-use mathlib.Core.Option.{Option, none, some}
 use native.Mathlib.Omega.{arith}
 use lib.ListN.{length, take}
 use lib.Seq.{take_all, take-append_seam}
@@ -17,7 +17,7 @@ use Rattle.laws.proofs.Same.{eqs-refl, eqs-eq}
 use Rattle.words.specs.Words.{word, words}
 use Rattle.line_rules.specs.Fields.{needs_no_model}
 use Rattle.records.specs.Stored.{padded, name_laid}
-use Rattle.records.specs.declared.Name.{Name}
+use Rattle.records.specs.Texts.{Name}
 use Rattle.records.specs.declared.Kind.{Kind}
 use Rattle.records.specs.declared.Kind.TheVariants.{OfComponent, OfPin, OfSelector, OfChoice, OfModel}
 use Rattle.rules.specs.Component.{kept_model}
@@ -276,12 +276,12 @@ module _ (ns : List Note) (fine : Every Fine ns) where
 
 -- ---- no name is used twice
 
-clash-parts : (e : Entry) (u : Bool) (c : Option ℕ) → or_used e u c ≡ none → (c ≡ none) × (u ≡ false)
-clash-parts e u (some k) h = impossible (cc)
-clash-parts e true none h = impossible (cc)
-clash-parts e false none h = (refl, refl)
+clash-parts : (e : Entry) (u : Bool) (c : Option ℕ) → or_used e u c ≡ None → (c ≡ None) × (u ≡ false)
+clash-parts e u (Some k) h = impossible (cc)
+clash-parts e true None h = impossible (cc)
+clash-parts e false None h = (refl, refl)
 
-clash-split : (e : Entry) (es : List Entry) → clash (e ∷ es) ≡ none → (clash es ≡ none) × (is_used e.kind e.name es ≡ false)
+clash-split : (e : Entry) (es : List Entry) → clash (e ∷ es) ≡ None → (clash es ≡ None) × (is_used e.kind e.name es ≡ false)
 unfolding clash
 clash-split e es h = clash-parts e (is_used e.kind e.name es) (clash es) h
 
@@ -295,7 +295,7 @@ module _ (k : Kind) (p : Entry → Bool) (used : (x : List ℕ) (es : List Entry
       (named_in p n.name (entry_of m) (map entry_of ns) (among-map entry_of m ns x) q e)
       (sym (used n.name (map entry_of ns)) ∙ sym (ap (λ (y : Kind). is_used y n.name (map entry_of ns)) (kind-is k (entry_of n) t)) ∙ u)
 
-  unique-pick : ((e : Entry) → is k e ≡ true → p e ≡ true) → (ns : List Note) → Every Fine ns → clash (map entry_of ns) ≡ none → Unique (map note_name (pick (is_of k) ns))
+  unique-pick : ((e : Entry) → is k e ≡ true → p e ≡ true) → (ns : List Note) → Every Fine ns → clash (map entry_of ns) ≡ None → Unique (map note_name (pick (is_of k) ns))
   unfolding pick
   unique-pick own [] fine h = tt
   unique-pick own (n ∷ ns) fine h =
@@ -323,10 +323,10 @@ unique-latest f (a ∷ l) u =
 
 -- a model and a selector
 module _ (ns : List Note) where
-  both-differ : Every Fine ns → clash (map entry_of ns) ≡ none → (a b : Note) → Among a ns → Among b ns → is_of OfModel a ≡ true → is_of OfSelector b ≡ true → a.name ≡ b.name → ⊥
+  both-differ : Every Fine ns → clash (map entry_of ns) ≡ None → (a b : Note) → Among a ns → Among b ns → is_of OfModel a ≡ true → is_of OfSelector b ≡ true → a.name ≡ b.name → ⊥
   both-differ fine h a b x y s t e = by ns h x y
     where
-      by : (l : List Note) → clash (map entry_of l) ≡ none → Among a l → Among b l → ⊥
+      by : (l : List Note) → clash (map entry_of l) ≡ None → Among a l → Among b l → ⊥
       by [] c u v = u
       by (n ∷ l) c (inl i) (inl j) =
           let same : OfModel ≡ OfSelector = sym (kind-is OfModel (entry_of a) s) ∙ ap (λ (z : Note). z.kind) (i ∙ sym j) ∙ kind-is OfSelector (entry_of b) t in
@@ -341,7 +341,7 @@ module _ (ns : List Note) where
           (ap (λ (z : Note). z.name) (sym j) ∙ sym e)
       by (n ∷ l) c (inr u) (inr v) = by l (clash-split (entry_of n) (map entry_of l) c).0 u v
 
-module _ (ns : List Note) (fine : Every Fine ns) (h : clash (map entry_of ns) ≡ none) where
+module _ (ns : List Note) (fine : Every Fine ns) (h : clash (map entry_of ns) ≡ None) where
   pub components-unique : Unique (map note_name (of ns fine OfComponent))
   components-unique = unique-latest note_name (pick (is_of OfComponent) ns) (unique-pick OfComponent (is OfComponent) (λ x es. refl) (λ e t. t) ns fine h)
 

@@ -1,16 +1,16 @@
 -- A model's parts: its ranges, its ramp and its tables, from text to text. What closed has its facts, and what was given has been read.
+use Rattle.std.specs.Prelude.{Result, Ok, None, Some}
 use Prim.Native.Nat.{ℕ, ◌+◌, ◌≤◌}
 use Prim.Native.String.{String}
 use mathlib.Core.Path.{◌≡◌, refl, sym, ap, subst, ◌∙◌}
 use mathlib.Core.List.{List, [], ◌∷◌, ◌++◌}
 use mathlib.Core.Bool.{Bool, true, false, cond, not, ◌||◌}
-use mathlib.Core.Option.{none, some}
 use native.Mathlib.Omega.{arith}
 use lib.Dec.{eqb, leb}
 use borrow.Author.Tests.{eqb-true, eqb-false, leb-false}
 use Rattle.laws.specs.Bytes.{bytes, is_blank}
 use Rattle.laws.specs.Lists.{eqs, front, one_of, Every}
-use Rattle.laws.specs.Said.{Result, says, or_else}
+use Rattle.laws.specs.Said.{or_else}
 use Rattle.laws.proofs.Tests.{cond-all, cond_yes}
 use Rattle.decimal.specs.declared.Cell.TheVariants.{Missing}
 use Rattle.words.specs.Words.{words, grown, onto_word}
@@ -125,7 +125,7 @@ unfolding tables_in one_of eqs words grown onto_word is_blank
 tables-skip t ts e =
     ap (λ (name : List ℕ). cond (one_of name (words (bytes table_keywords))) (record { key = name; lines = under ts } ∷ []) [] ++ tables_in ts) e
 
-unkeyed : (m n : ModelState) (t : Text) (ts : List Text) → key_at t ≡ none → key_name t ≡ [] → m.parts ≡ n.parts → m.waveforms ≡ n.waveforms
+unkeyed : (m n : ModelState) (t : Text) (ts : List Text) → key_at t ≡ None → key_name t ≡ [] → m.parts ≡ n.parts → m.waveforms ≡ n.waveforms
     → ListReads m.list (under (t ∷ ts))
     → wants_ramp m.kind (first_lines m (t ∷ ts)) ≡ wants_ramp n.kind (first_lines n ts)
     → Parts n ts → Parts m (t ∷ ts)
@@ -233,7 +233,7 @@ ramp-named (Waveform Falling) = refl
 
 -- what is read under a keyword
 module _ {A : Type 0} (read : List ℕ → List (List ℕ) → A) (x : A) (k : ℕ) (w : List ℕ) (ts : List Text) (p : ModelPart)
-    (e : key_at (plain k w) ≡ some (key.InModel p)) (name : String) (j : ℕ) (n : named p name ≡ eqb (model_place p) j) where
+    (e : key_at (plain k w) ≡ Some (key.InModel p)) (name : String) (j : ℕ) (n : named p name ≡ eqb (model_place p) j) where
   keyed-says : key_says name read x (plain k w ∷ ts) ≡ key_says name read (cond (eqb (model_place p) j) (read (argument w) (under ts)) x) ts
   keyed-says =
       says-key read x (plain k w) ts name (key.InModel p) e
@@ -245,7 +245,7 @@ ranged : (a : List ℕ) (p : ModelPart) (j : ℕ) → leb j 1 ≡ true → model
 ranged a p j l e f =
     let ok : Flawless (flaw_in (three_cells a)) = subst Flawless (cond_yes (flaw_in (three_cells a)) (no_argument a) (ap (λ (i : ℕ). leb i 1) e ∙ l)) f in
     let v = said (three_cells a) (cells-sure a) ok in
-    subst (λ (x : Result Flaw Triple). IsNumber (or_else no_cells x).typ) (sym v.1) v.2
+    subst (λ (x : Result Triple Flaw). IsNumber (or_else no_cells x).typ) (sym v.1) v.2
 
 module _ (k : ℕ) (ls : List (List ℕ)) where
   ramp-opened : (p : ModelPart) (a : List ℕ) → model_place p ≡ 6 → ListReads (model_opens k p) ls → RampReads (ramp_in a ls)
@@ -303,7 +303,7 @@ module _ {A : Type 0} (Q : A → Type 0) (g : Given) (i j : ℕ) (v x : A) where
   key-held own so h =
       cond-all Q (eqb i j) v x (λ t. own (eqb-true i j t)) (λ t. so (sym (has_other g j i (λ e. eqb-false i j t (sym e))) ∙ h))
 
-pub tables-key : (k : ℕ) (w : List ℕ) (ts : List Text) (p : ModelPart) → key_at (plain k w) ≡ some (key.InModel p)
+pub tables-key : (k : ℕ) (w : List ℕ) (ts : List Text) (p : ModelPart) → key_at (plain k w) ≡ Some (key.InModel p)
     → tables_in (plain k w ∷ ts) ≡ with_table k (under ts) p (tables_in ts)
 unfolding tables_in
 tables-key k w ts p e =
@@ -321,9 +321,9 @@ module _ (m : ModelState) (k : ℕ) (w : List ℕ) (ts : List Text) (b : is_brac
   list-key : ListReads m.list (under (plain k w ∷ ts))
   list-key = subst (ListReads m.list) (sym (under-key k w ts b)) (list-shuts m.list s)
 
-  parts-key : (p : ModelPart) (n : ModelState) → key_of w ≡ says (key.InModel p) → ModelKey m k (argument w) p n → Parts n ts → Parts m (plain k w ∷ ts)
+  parts-key : (p : ModelPart) (n : ModelState) → key_of w ≡ Ok (key.InModel p) → ModelKey m k (argument w) p n → Parts n ts → Parts m (plain k w ∷ ts)
   parts-key p n q (single x apart h f) so =
-      let e : key_at (plain k w) ≡ some (key.InModel x) = key-at k w ts b q in
+      let e : key_at (plain k w) ≡ Some (key.InModel x) = key-at k w ts b q in
       let i : ℕ = model_place x in
       record {
         list = list-key;
@@ -349,7 +349,7 @@ module _ (m : ModelState) (k : ℕ) (w : List ℕ) (ts : List Text) (b : is_brac
             (so.needed _ (key-held (λ (z : RampTable). z.given ≡ true) m.parts i 6 (ramp_in (argument w) (under ts)) y (λ z. refl) r) (sym (driven-key n refl (opens-none k x)) ∙ d));
       }
   parts-key p n q (waveform x few) so =
-      let e : key_at (plain k w) ≡ some (key.InModel (Waveform x)) = key-at k w ts b q in
+      let e : key_at (plain k w) ≡ Some (key.InModel (Waveform x)) = key-at k w ts b q in
       record {
         list = list-key;
         tables = subst (Every TableReads) (sym (tables-key k w ts (Waveform x) e)) (table-opened k (under ts) (Waveform x) so.list (tables_in ts) so.tables);

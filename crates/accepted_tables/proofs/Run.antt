@@ -1,14 +1,13 @@
 -- A file that passes: its run, with what is noted of it, and its last checks. By the laws of `notes` and `layout_by_notes`.
+use Rattle.std.specs.Prelude.{Option, None, Some, Ok}
 use Prim.Native.Nat.{ℕ, ◌+◌}
 use mathlib.Core.Path.{◌≡◌, refl, sym, ap, subst, ◌∙◌}
 use mathlib.Core.List.{List, reverse}
-use mathlib.Core.Option.{Option, none, some}
 use lib.ListN.{length}
 use lib.Dec.{eqb}
 use borrow.Author.Tests.{eqb-true}
 use Rattle.laws.proofs.Tests.{by-test, cond_yes, cond_no, impossible}
 use Rattle.lines.specs.Lines.{lines_of, bytes_fault}
-use Rattle.lines.specs.declared.Bytes.TheVariants.{Clean}
 use Rattle.rules.proofs.Outcomes.{bytes-passed}
 use Rattle.rules.specs.Outline.{Entry, count, first_failing}
 use Rattle.rules.specs.Whole.{Held, nothing_held, Outcome, passed, refused, runs, last_checks, concluded, texts_of, outcome}
@@ -48,21 +47,21 @@ concluded-checked (refused n k c) z q = impossible (cc)
 -- ---- the notes
 
 record Noted (f : Finish) (h : Held) : Type 0 where
-  unused : clash (entries f.log) ≡ none
+  unused : clash (entries f.log) ≡ None
   whole : f ≡ whole f.log
   held : held_of f.log ≡ h
 
 held-is : (g h : Held) → passed g ≡ passed h → g ≡ h
 held-is g h q = cc
 
-fault-none : (g : Log) (x : Option Fault) (h : Held) → outcome_is g x ≡ passed h → x ≡ none
-fault-none g none h q = refl
-fault-none g (some y) h q = impossible (cc)
+fault-none : (g : Log) (x : Option Fault) (h : Held) → outcome_is g x ≡ passed h → x ≡ None
+fault-none g None h q = refl
+fault-none g (Some y) h q = impossible (cc)
 
 settled-passed : (f : Finish) (c : Option ℕ) (h : Held) → clash (entries f.log) ≡ c → settled f c ≡ passed h → Noted f h
-settled-passed f (some k) h e q = impossible (cc)
-settled-passed f none h e q =
-    let n : f.fault ≡ none = fault-none f.log f.fault h q in
+settled-passed f (Some k) h e q = impossible (cc)
+settled-passed f None h e q =
+    let n : f.fault ≡ None = fault-none f.log f.fault h q in
     record {
       unused = e;
       whole = λ i. record { fault = n i; log = f.log };
@@ -80,12 +79,12 @@ nothing-counted OfModel = refl
 -- ---- a file that passes
 
 pub record Passed (l : Lengths) (s : List ℕ) : Type 0 where
-  pub clean : bytes_fault s ≡ Clean
+  pub clean : bytes_fault s ≡ Ok tt
   pub past : ℕ
   pub log : Log
   pub read : runs l past BeforeVersion nothing_held (texts_of s) ≡ passed (held_of log)
   pub run : run_log l past BeforeVersion empty_log (texts_of s) ≡ whole log
-  pub unused : clash (entries log) ≡ none
+  pub unused : clash (entries log) ≡ None
   pub checked : Checked (reverse (entries log))
 
 pub passes : (l : Lengths) (s : List ℕ) (z : Held) → outcome l s ≡ passed z → Passed l s

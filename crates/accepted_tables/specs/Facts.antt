@@ -13,7 +13,7 @@ use Rattle.rules.specs.Reading.{no_range}
 use Rattle.layout.specs.Laid.{Laid, counts_of}
 use Rattle.records.specs.Bounds.{most_rows}
 use Rattle.records.specs.Stored.{name_laid}
-use Rattle.records.specs.declared.Name.{Name}
+use Rattle.records.specs.Texts.{Name}
 use Rattle.records.specs.declared.Lengths.{Lengths}
 use Rattle.records.specs.declared.Row.{Row}
 use Rattle.records.specs.declared.RampCell.{RampCell}

@@ -1,9 +1,8 @@
 -- Where what is read falls back (a bad cell to a missing one, a bad row to none, no type to Terminator, no file name to an empty one, a long name to
 -- its first 40 bytes), the fallback never speaks in an accepted file.
-use Rattle.std.specs.Prelude.{ℕ, ◌≤◌, ◌≡◌, List, [], ◌⊎◌, Bool, true, false, length}
+use Rattle.std.specs.Prelude.{ℕ, ◌≤◌, ◌≡◌, List, [], ◌⊎◌, Bool, true, false, length, Ok}
 use Rattle.laws.specs.Bytes.{bytes}
 use Rattle.laws.specs.Lists.{one_of, Every}
-use Rattle.laws.specs.Said.{says}
 use Rattle.words.specs.Words.{word, words}
 use Rattle.cut_lines.specs.Texts.{Text}
 use Rattle.records.specs.Flaws.{Flaw, flaw_in}
@@ -36,7 +35,7 @@ ChoiceLine w = is_model_name (word 0 (words w)) ≡ true
 
 -- a number and three cells
 abbrev pub RowLine : List ℕ → Type 0
-RowLine w = (r : Row) × (row_of w ≡ says r)
+RowLine w = (r : Row) × (row_of w ≡ Ok r)
 
 -- a waveform's named line, which begins with a letter
 abbrev pub FixtureLine : List ℕ → Type 0

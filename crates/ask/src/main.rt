@@ -5,10 +5,9 @@
 use as_doubles::print_doubles;
 use program_output::print_refusal;
 use program_output::tables::{
-    CHOICE_TABLE, COMPONENT_TABLE, MODEL_TABLE, PIN_TABLE, ROW_TABLE, SELECTOR_TABLE,
+    CHOICE_TABLE, COMPONENT_TABLE, MODEL_TABLE, PIN_TABLE, ROW_TABLE, SELECTOR_TABLE, Tables,
     WAVEFORM_TABLE,
 };
-use records::Verdict;
 use std::env::Env;
 
 mod as_doubles; // as_doubles.rt: every cell as a double
@@ -19,17 +18,8 @@ enum Question {
     Doubles,
 }
 
-#[derive(Clone, Copy)]
-enum Asked {
-    Known(Question),
-    Unknown,
-}
-
-fn asked_by(word: &[u8]) -> Asked {
-    if words::same(word, b"doubles") {
-        return Asked::Known(Question::Doubles);
-    }
-    Asked::Unknown
+fn asked_by(word: &[u8]) -> Option<Question> {
+    words::same(word, b"doubles").then_some(Question::Doubles)
 }
 
 fn print_questions() {
@@ -58,35 +48,32 @@ fn print_answer(question: Question, src: &[u8]) {
         &mut waveforms,
         &mut rows,
     );
-    let verdict = answer.verdict;
-    match verdict {
-        Verdict::Refused(f) => print_refusal(f),
-        Verdict::Accepted => match question {
-            Question::Doubles => print_doubles(
-                answer.counts,
-                &components,
-                &pins,
-                &selectors,
-                &models,
-                &waveforms,
-                &rows,
-            ),
+    let tables = Tables {
+        components: &components,
+        pins: &pins,
+        selectors: &selectors,
+        choices: &choices,
+        models: &models,
+        waveforms: &waveforms,
+        rows: &rows,
+    };
+    match answer.verdict {
+        Err(f) => print_refusal(f),
+        Ok(()) => match question {
+            Question::Doubles => print_doubles(tables.in_use(answer.counts)),
         },
     }
 }
 
 fn main(rt: HostRuntime) {
     let mut word = io::buffer();
-    let n = match rt.arg(1, &mut word) {
-        Ok(n) => n,
-        Err(_) => 0,
-    };
+    let n = rt.arg(1, &mut word).unwrap_or(0);
     match asked_by(&word[..n]) {
-        Asked::Known(question) => {
+        Some(question) => {
             let mut src = program_output::file_buffer();
             let m = io::read_full(0, &mut src);
             print_answer(question, &src[..m]);
         }
-        Asked::Unknown => print_questions(),
+        None => print_questions(),
     }
 }

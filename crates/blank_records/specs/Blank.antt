@@ -1,5 +1,5 @@
 -- Blank records, and tables of them at the limits of document 01.
-use Rattle.std.specs.Prelude.{false, List, [], replicate}
+use Rattle.std.specs.Prelude.{false, List, [], replicate, None}
 use Rattle.decimal.specs.declared.Cell.TheVariants.{Missing}
 use Rattle.records.specs.Bounds.{most, most_waveforms}
 use Rattle.records.specs.declared.Kind.TheVariants.{OfComponent, OfPin, OfSelector, OfChoice, OfModel}
@@ -7,8 +7,6 @@ use Rattle.records.specs.declared.Edge.TheVariants.{Rising}
 use Rattle.records.specs.Stored.{no_cells, name_laid, words_laid}
 use Rattle.rules.specs.Reading.{no_range, no_split, no_ramp}
 use Rattle.records.specs.declared.Location.TheVariants.{AtPin}
-use Rattle.records.specs.declared.Polarity.TheVariants.{NoPolarity}
-use Rattle.records.specs.declared.Enable.TheVariants.{NoEnable}
 use Rattle.records.specs.declared.ModelType.TheVariants.{Input}
 use Rattle.records.specs.declared.Span.{Span}
 use Rattle.records.specs.declared.Table.{Table}
@@ -46,8 +44,8 @@ blank_model =
       section = 0;
       name = name_laid [];
       kind = Input;
-      polarity = NoPolarity;
-      enable = NoEnable;
+      polarity = None;
+      enable = None;
       comp = no_cells;
       split = no_split;
       vinl = Missing;

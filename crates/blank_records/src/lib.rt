@@ -94,8 +94,8 @@ pub fn blank_model() -> Model
         section: 0,
         name: records::no_name(),
         kind: ModelType::Input,
-        polarity: Polarity::NoPolarity,
-        enable: Enable::NoEnable,
+        polarity: None,
+        enable: None,
         comp: cells,
         split: Split {
             pullup: absent,

@@ -1,4 +1,5 @@
 -- What the promise fixes on a file (reader's `Strength`) and what is computed of that file contradict each cheat, whatever the lent tables held.
+use Rattle.std.specs.Prelude.{Result, Ok, Err}
 use Prim.Native.Nat.{ℕ}
 use mathlib.Core.Path.{◌≡◌, sym, ap, ◌∙◌}
 use mathlib.Core.List.{List, ◌++◌}
@@ -10,8 +11,6 @@ use Rattle.layout.specs.Laid.{counts_of}
 use Rattle.records.specs.declared.Fault.{Fault}
 use Rattle.records.specs.declared.Counts.{Counts}
 use Rattle.records.specs.declared.Answer.{Answer}
-use Rattle.records.specs.declared.Verdict.{Verdict}
-use Rattle.records.specs.declared.Verdict.TheVariants.{Accepted, Refused}
 use Rattle.reader.specs.Promise.{Lent, lending_in, Reads}
 use Rattle.reader.proofs.Strength as strength
 use Rattle.demand_three.specs.Demand.{AcceptedFile}
@@ -20,7 +19,7 @@ use Rattle.cheats.specs.Cheats.{all_lent, AtBounds, name_length, Refuses, Accept
 use Rattle.cheats.proofs.Computed.{comp_digits, laid_of, listed-passes, misnamed-fails, altered-passes, clamped-passes, listed-counts, clamped-rows, listed-name, listed-comp, altered-comp, clamped-clamp}
 
 -- no verdict is both
-apart : (v : Verdict) (f : Fault) → v ≡ Accepted → v ≡ Refused f → ⊥
+apart : (v : Result (Unit {0}) Fault) (f : Fault) → v ≡ Ok tt → v ≡ Err f → ⊥
 apart v f taken denied = impossible (cc)
 
 -- whatever the tables hold
@@ -33,7 +32,7 @@ module _ (t : Lent) (long : AtBounds t) (r : Answer) (u : Lent) where
     passes : loading (lending_in t) s ≡ passed fine.held
     passes = at s ∙ fine.passes
 
-    pub accepted : r.verdict ≡ Accepted
+    pub accepted : r.verdict ≡ Ok tt
     accepted = strength.accepts-it s t r u reads fine.held passes
 
     models : u.models ≡ (laid_of s).models ++ drop (length (laid_of s).models) t.models
@@ -46,7 +45,7 @@ module _ (t : Lent) (long : AtBounds t) (r : Answer) (u : Lent) where
     rows = ap (λ (c : Counts). c.rows) counts
 
   -- ---- what it says of a file that is refused
-  pub told : Reads misnamed t r u → r.verdict ≡ Refused (record { number = 15; line = 12; column = 0 })
+  pub told : Reads misnamed t r u → r.verdict ≡ Err (record { number = 15; line = 12; column = 0 })
   told reads = strength.refuses-it misnamed t r u reads 15 12 0 (at misnamed ∙ misnamed-fails)
 
   -- "after a fault, the lent tables hold what they held before"

@@ -1,13 +1,12 @@
 -- Document 01, "Strength of each contract": "Try these: a reader that refuses all files, one that accepts all with empty tables, one that writes
 -- nothing, one that reads the first section and pretends for the rest, one that makes up its counts of rows."
-use Rattle.std.specs.Prelude.{ℕ, ◌≡◌, true, List, [], ◌∷◌, ◌++◌}
+use Rattle.std.specs.Prelude.{ℕ, ◌≡◌, true, List, [], ◌∷◌, ◌++◌, Ok, Err}
 use Prim.Native.Char.{code}
 use Rattle.lines.specs.Lines.{Physical, lines_of}
 use Rattle.cut_lines.specs.InForce.{char_after_lines}
 use Rattle.demand_three.specs.Lines.{sections_on, begins_another}
 use Rattle.notes.specs.Noted.{nothing_used}
 use Rattle.records.specs.declared.Fault.{Fault}
-use Rattle.records.specs.declared.Verdict.TheVariants.{Accepted, Refused}
 use Rattle.records.specs.Bounds.{most_rows}
 use Rattle.records.specs.declared.Answer.{Answer}
 use Rattle.records.specs.declared.Lending.{Lending}
@@ -44,10 +43,10 @@ name_length (m ∷ ms) = m.name.len
 -- a fault is told, whichever
 pub record Refuses (r : Answer) : Type 0 where
   pub fault : Fault
-  pub told : r.verdict ≡ Refused fault
+  pub told : r.verdict ≡ Err fault
 
 pub record AcceptsEmpty (r : Answer) : Type 0 where
-  pub accepted : r.verdict ≡ Accepted
+  pub accepted : r.verdict ≡ Ok tt
   pub empty : r.counts ≡ nothing_used
 
 abbrev pub WritesNothing : Lent → Lent → Type 0
@@ -100,7 +99,7 @@ ReadsFirstOnly p =
 -- the number of rows told of an accepted file does not come from the file
 pub record MakesUpAllRows (p : Reader) : Type 0 where
   pub number : Lent → ℕ
-  pub told : (s : List ℕ) (t : Lent) → (p.answers s t).verdict ≡ Accepted → (p.answers s t).counts.rows ≡ number t
+  pub told : (s : List ℕ) (t : Lent) → (p.answers s t).verdict ≡ Ok tt → (p.answers s t).counts.rows ≡ number t
 
 -- ---- "Demand 2 shuts out all five"
 

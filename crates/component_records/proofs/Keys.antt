@@ -1,9 +1,9 @@
 -- The keywords of the header and of a component, as folds over the keywords; and the component as it lies in its table.
+use Rattle.std.specs.Prelude.{None, Some}
 use Prim.Native.Nat.{ℕ, ◌+◌}
 use mathlib.Core.Path.{◌≡◌, refl, sym}
 use mathlib.Core.List.{List, [], ◌∷◌, ◌++◌}
 use mathlib.Core.Bool.{Bool, true, false, cond}
-use mathlib.Core.Option.{none, some}
 use native.Mathlib.Omega.{arith}
 use lib.ListN.{length, length-append, length-map}
 use Rattle.laws.specs.Bytes.{bytes}
@@ -30,7 +30,7 @@ use Rattle.component_records.specs.declared.sections.Parts.{Parts}
 
 -- ---- the header
 
-head-skip : (h : Header) (t : Text) (ts : List Text) → key_at t ≡ none → head_in h (t ∷ ts) ≡ head_in h ts
+head-skip : (h : Header) (t : Text) (ts : List Text) → key_at t ≡ None → head_in h (t ∷ ts) ≡ head_in h ts
 unfolding head_in
 head-skip h t ts e =
     rw (says-skip (λ w ls. words_laid w) h.name t ts (InHeader FileName) e, says-skip (λ w ls. words_laid w) h.revision t ts (InHeader FileRev) e)
@@ -47,7 +47,7 @@ head-by : (h : Header) (w : List ℕ) (ls : List (List ℕ)) (ts : List Text) (k
 unfolding head_in eqs
 head-by h w ls ts = each-keyword _ refl refl refl refl refl refl refl refl refl refl refl refl refl refl refl refl refl refl refl refl refl refl refl refl
 
-head_more : (h : Header) (t : Text) (ts : List Text) (k : Keyword) → key_at t ≡ some k → head_in h (t ∷ ts) ≡ head_in (head_step h k (argument_at t) (under ts)) ts
+head_more : (h : Header) (t : Text) (ts : List Text) (k : Keyword) → key_at t ≡ Some k → head_in h (t ∷ ts) ≡ head_in (head_step h k (argument_at t) (under ts)) ts
 unfolding head_in
 head_more h t ts k e =
     rw (says-key (λ w ls. words_laid w) h.name t ts "file_name" k e, says-key (λ w ls. words_laid w) h.revision t ts "file_rev" k e)
@@ -69,7 +69,7 @@ unfolding boxes_in
 boxes-append b ls ks =
     rw (says-append "R_pkg" cells_line b.resistance ls ks, says-append "L_pkg" cells_line b.inductance ls ks, says-append "C_pkg" cells_line b.capacitance ls ks)
 
-part-skip : (q : Parts) (t : Text) (ts : List Text) → key_at t ≡ none → parts_in q (t ∷ ts) ≡ parts_in q ts
+part-skip : (q : Parts) (t : Text) (ts : List Text) → key_at t ≡ None → parts_in q (t ∷ ts) ≡ parts_in q ts
 unfolding parts_in
 part-skip q t ts e =
     rw (says-skip (λ w ls. name_laid w) q.manufacturer t ts (InComponent Manufacturer) e, lines-skip t ts (InComponent Package) e, lines-skip t ts (InComponent Pin) e)
@@ -90,7 +90,7 @@ more-lines : (n : ℕ) (t : Bool) (ls ks : List (List ℕ)) → n + length (cond
 more-lines n true ls ks = omega (arith, length-append ls ks)
 more-lines n false ls ks = refl
 
-part-more : (q : Parts) (t : Text) (ts : List Text) (k : Keyword) → key_at t ≡ some k → parts_in q (t ∷ ts) ≡ parts_in (part_step q k (argument_at t) (under ts)) ts
+part-more : (q : Parts) (t : Text) (ts : List Text) (k : Keyword) → key_at t ≡ Some k → parts_in q (t ∷ ts) ≡ parts_in (part_step q k (argument_at t) (under ts)) ts
 unfolding parts_in
 part-more q t ts k e =
     rw (

@@ -1,16 +1,12 @@
 -- Lists of named lines as folds over the lines; and a line more, by its place and by what it says.
+use Rattle.std.specs.Prelude.{Ok, Err, Some, None}
 use Prim.Native.Nat.{ℕ}
-use mathlib.Core.Path.{◌≡◌, refl}
+use mathlib.Core.Path.{◌≡◌, refl, sym}
 use mathlib.Core.List.{List}
 use Rattle.laws.specs.Bytes.{is_blank}
 use Rattle.laws.specs.Lists.{eqs}
-use Rattle.laws.specs.Said.{Result, says, fault}
-use native.Mathlib.Omega.{arith}
-use Rattle.named_lines.specs.Views.{location_read}
-use Rattle.named_lines.specs.declared.LocationRead.TheVariants.{Located, NoLocation}
 use Rattle.words.specs.Words.{words, grown, onto_word}
 use Rattle.name_table.specs.Names.{place_from}
-use Rattle.name_table.specs.declared.Found.TheVariants.{At, Nothing}
 use Rattle.records.specs.Flaws.{told_in}
 use Rattle.records.specs.declared.LineFault.{LineFault}
 use Rattle.records.specs.declared.Triple.{Triple}
@@ -33,46 +29,32 @@ unfolding sites_in line_says
 site-fold = record { none = λ x. refl; more = λ x w ws. refl }
 
 module _ (b : Boxes) (w : List ℕ) where
-  pub box-named : (n : ℕ) (t : Triple) → line_at package_lines w ≡ At n → cells_line w ≡ says t → box_at b n t ≡ box_line b w
+  pub box-named : (n : ℕ) (t : Triple) → line_at package_lines w ≡ Some n → cells_line w ≡ Ok t → box_at b n t ≡ box_line b w
   unfolding place_from words grown onto_word is_blank eqs
   box-named n t e q =
       rw (takes_at "R_pkg" cells_line b.resistance w package_lines n 0 e refl q, takes_at "L_pkg" cells_line b.inductance w package_lines n 1 e refl q, takes_at "C_pkg" cells_line b.capacitance w package_lines n 2 e refl q)
 
-  pub box-flawed : {f : LineFault} → told_in w (cells_line w) ≡ fault f → b ≡ box_line b w
+  pub box-flawed : {f : LineFault} → told_in w (cells_line w) ≡ Err f → b ≡ box_line b w
   box-flawed q =
       rw (takes-flawed "R_pkg" cells_line b.resistance w q, takes-flawed "L_pkg" cells_line b.inductance w q, takes-flawed "C_pkg" cells_line b.capacitance w q)
 
-  pub box-nothing : line_at package_lines w ≡ Nothing → b ≡ box_line b w
+  pub box-nothing : line_at package_lines w ≡ None → b ≡ box_line b w
   unfolding place_from words grown onto_word is_blank eqs
   box-nothing e =
       rw (takes-nothing "R_pkg" cells_line b.resistance w package_lines 0 e refl, takes-nothing "L_pkg" cells_line b.inductance w package_lines 1 e refl, takes-nothing "C_pkg" cells_line b.capacitance w package_lines 2 e refl)
 
--- what the code answers to a location's word
-
-clash : {X : Type 0} → ◌≡◌ {A = ℕ} 0 1 → X
-clash e = absurd (omega arith)
-
-told : (x : Result LineFault Location) (l : Location) → Located l ≡ location_read x → x ≡ says l
-told (says k) l e = cc
-told (fault f) l e = clash cc
-
-untold : (x : Result LineFault Location) (f : LineFault) → NoLocation f ≡ location_read x → x ≡ fault f
-untold (says k) f e = clash cc
-untold (fault g) f e = cc
-
 module _ (x : Sites) (w : List ℕ) where
-  pub site-named : (n : ℕ) (l : Location) → line_at component_lines w ≡ At n → Located l ≡ location_read (told_in w (word_line locations w)) → site_at x n l ≡ site_line x w
+  pub site-named : (n : ℕ) (l : Location) → line_at component_lines w ≡ Some n → Ok l ≡ told_in w (word_line locations w) → site_at x n l ≡ site_line x w
   unfolding place_from words grown onto_word is_blank eqs
   site-named n l e h =
-      let q = told-says w (word_line locations w) (told (told_in w (word_line locations w)) l h) in
+      let q = told-says w (word_line locations w) (sym h) in
       rw (takes_at "Si_location" (word_line locations) x.si w component_lines n 0 e refl q, takes_at "Timing_location" (word_line locations) x.timing w component_lines n 1 e refl q)
 
-  pub site-unread : {f : LineFault} → NoLocation f ≡ location_read (told_in w (word_line locations w)) → x ≡ site_line x w
+  pub site-unread : {f : LineFault} → Err f ≡ told_in w (word_line locations w) → x ≡ site_line x w
   site-unread h =
-      let q = untold (told_in w (word_line locations w)) _ h in
-      rw (takes-flawed "Si_location" (word_line locations) x.si w q, takes-flawed "Timing_location" (word_line locations) x.timing w q)
+      rw (takes-flawed "Si_location" (word_line locations) x.si w (sym h), takes-flawed "Timing_location" (word_line locations) x.timing w (sym h))
 
-  pub site-nothing : line_at component_lines w ≡ Nothing → x ≡ site_line x w
+  pub site-nothing : line_at component_lines w ≡ None → x ≡ site_line x w
   unfolding place_from words grown onto_word is_blank eqs
   site-nothing e =
       rw (takes-nothing "Si_location" (word_line locations) x.si w component_lines 0 e refl, takes-nothing "Timing_location" (word_line locations) x.timing w component_lines 1 e refl)

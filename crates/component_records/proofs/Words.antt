@@ -1,4 +1,5 @@
 -- The words of a row by their places: the first from a place on, and the others behind it.
+use Rattle.std.specs.Prelude.{Result}
 use Prim.Native.Nat.{ℕ, suc, ◌+◌, ◌-◌, ◌≤◌}
 use mathlib.Core.Path.{◌≡◌, refl, sym, ap, ◌∙◌}
 use mathlib.Core.List.{List, [], ◌∷◌}
@@ -17,12 +18,11 @@ use Rattle.words.specs.declared.Word.{Word}
 use Rattle.words.proofs.Laws.{words-rest, words-none, words-some}
 use Rattle.line_cells.specs.Threes.{bytes_of, Within}
 use Rattle.line_cells.proofs.Rows.{pin-cells-blank}
-use Rattle.line_rules.specs.Answers.{triple_read, triple_says}
-use Rattle.line_rules.specs.declared.TripleRead.{TripleRead}
-use Rattle.line_rules.proofs.Answers.{triple-said}
 use Rattle.rules.specs.Component.{kept_model, pin_cells, pin_in}
 use Rattle.records.specs.Flaws.{told_in}
 use Rattle.records.specs.Stored.{name_laid, no_cells}
+use Rattle.records.specs.declared.LineFault.{LineFault}
+use Rattle.records.specs.declared.Triple.{Triple}
 use Rattle.records.proofs.Columns.{told-else}
 
 pub record WordFrom (s : List ℕ) (at : ℕ) (r : Word) : Type 0 where
@@ -61,8 +61,8 @@ word-third (a ∷ b ∷ ws) = refl
 -- ---- a pin row: three words, each from where the one before ends, and the cells behind them
 
 module _ (w : List ℕ) (name signal model : Word) (a : WordFrom w 0 name) (b : WordFrom w name.end signal) (c : WordFrom w signal.end model) where
-  pub pin-is : (r : TripleRead) → r ≡ triple_read (told_in w (pin_cells (drop model.end w)))
-      → (let cells = or_else no_cells (triple_says r) in
+  pub pin-is : (r : Result Triple LineFault) → r ≡ told_in w (pin_cells (drop model.end w))
+      → (let cells = or_else no_cells r in
       record {
         name = name_laid (bytes_of w name);
         signal = name_laid (bytes_of w signal);
@@ -79,7 +79,7 @@ module _ (w : List ℕ) (name signal model : Word) (a : WordFrom w 0 name) (b : 
       let third = c.text ∙ ap (word 0) (b.others ∙ ap next a.others) ∙ word-third (words w) in
       let behind = ap pin_cells (a.next 2 ∙ b.next 1 ∙ c.next 0) ∙ pin-cells-blank (drop model.end w) in
       let cells =
-      ap (or_else no_cells) (triple-said r (told_in w (pin_cells (drop model.end w))) e)
+      ap (or_else no_cells) e
       ∙ told-else w no_cells (pin_cells (drop model.end w))
       ∙ ap (or_else no_cells) (sym behind)
       in

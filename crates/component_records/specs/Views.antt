@@ -17,11 +17,9 @@ use Rattle.records.specs.declared.Triple.{Triple}
 use Rattle.records.specs.declared.Location.{Location}
 use Rattle.records.specs.declared.Location.TheVariants.{AtPin}
 use Rattle.records.specs.declared.Header.{Header}
-use Rattle.lines_under.specs.Under.{StopsAt, is_keyless}
+use Rattle.lines_under.specs.Under.{is_keyless}
 use Rattle.component_records.specs.declared.lists.Boxes.{Boxes}
-use Rattle.component_records.specs.declared.lists.BoxesRead.{BoxesRead}
 use Rattle.component_records.specs.declared.lists.Sites.{Sites}
-use Rattle.component_records.specs.declared.lists.SitesRead.{SitesRead}
 use Rattle.component_records.specs.declared.sections.Parts.{Parts}
 use Rattle.component_records.specs.declared.sections.PartRead.{PartRead}
 
@@ -74,10 +72,6 @@ box_at b n t =
       capacitance = cond (eqb n 2) t b.capacitance;
     }
 
-pub record BoxesAre (s : List ℕ) (c : Cursor) (b : Boxes) (r : BoxesRead) : Type 0 where
-  pub boxes : r.boxes ≡ boxes_in b (under (rest s c))
-  pub stops : StopsAt s c r.next
-
 unfoldable pub sites_in : Sites → List (List ℕ) → Sites
 sites_in x ls =
     record { si = line_says "Si_location" (word_line locations) x.si ls; timing = line_says "Timing_location" (word_line locations) x.timing ls }
@@ -91,10 +85,6 @@ site_at x n l = record { si = cond (eqb n 0) l x.si; timing = cond (eqb n 1) l x
 
 abbrev pub no_sites : Sites
 no_sites = record { si = AtPin; timing = AtPin }
-
-pub record SitesAre (s : List ℕ) (c : Cursor) (r : SitesRead) : Type 0 where
-  pub sites : r.sites ≡ sites_in no_sites (under (rest s c))
-  pub stops : StopsAt s c r.next
 
 -- ---- a component's keywords
 

@@ -6,7 +6,6 @@ ghost use Rattle.component_records.specs.Views.{no_header, head_step, header_lai
 
 use cut_lines::Cursor;
 use keywords::{HeaderPart, Keyword};
-use lines_under::KeyNext;
 use records::{Header, no_words, words_of};
 
 fn no_header() -> Header
@@ -40,11 +39,7 @@ fn with_key(h: Header, k: Keyword, argument: &[u8]) -> Header
 {
     match k {
         Keyword::InHeader(p) => with_part(h, p, argument),
-        Keyword::IbisVer => h,
-        Keyword::Opens(_) => h,
-        Keyword::InComponent(_) => h,
-        Keyword::InModel(_) => h,
-        Keyword::End => h,
+        _ => h,
     }
 }
 
@@ -54,21 +49,12 @@ pub fn header_of(src: &[u8], c: Cursor) -> Header
 {
     let mut header = no_header();
     let mut d = c;
-    loop {
-        match lines_under::next_key(src, d) {
-            KeyNext::Key {
-                keyword,
-                start,
-                end,
-                next,
-            } => {
-                if lines_under::ends(keyword) {
-                    return header;
-                }
-                header = with_key(header, keyword, &src[start..end]);
-                d = next;
-            }
-            KeyNext::NoKey => return header,
+    while let Some(key) = lines_under::next_key(src, d) {
+        if lines_under::ends(key.keyword) {
+            return header;
         }
+        header = with_key(header, key.keyword, &src[key.start..key.end]);
+        d = key.next;
     }
+    header
 }

@@ -8,10 +8,9 @@ ghost use Rattle.rules.specs.Reading.{is_within, pins_in, component_in, choices_
 ghost use Rattle.records.specs.Stored.{name_laid};
 ghost use Rattle.component_records.specs.Views.{no_parts, parts_in, PartIs};
 
-use crate::lists::{Boxes, boxes_under, sites_under};
+use crate::lists::{Boxes, Sites};
 use cut_lines::Cursor;
 use keywords::{ComponentPart, Keyword};
-use lines_under::KeyNext;
 use records::{Component, Name, Selector, Span, name_of, no_cells, no_name};
 
 pub fn selector_of(src: &[u8], c: Cursor, name: &[u8], section: usize, start: usize) -> Selector
@@ -20,10 +19,10 @@ pub fn selector_of(src: &[u8], c: Cursor, name: &[u8], section: usize, start: us
 {
     let rows = lines_under::count_lines(src, c);
     Selector {
-        section: section,
+        section,
         name: name_of(name),
         choices: Span {
-            start: start,
+            start,
             count: rows.count,
         },
     }
@@ -43,96 +42,76 @@ pub struct PartRead {
     pub next: Cursor,
 }
 
-fn no_parts() -> Parts
-    ensures { result ≡ no_parts }
-{
-    Parts {
-        manufacturer: no_name(),
-        boxes: Boxes {
-            resistance: no_cells(),
-            inductance: no_cells(),
-            capacitance: no_cells(),
-        },
-        pins: 0,
-    }
-}
-
-fn with_package(src: &[u8], q: Parts, c: Cursor) -> PartRead
-    requires placed { Placed src.now c }
-    requires pins_le_at { q.pins ≤ c.at }
-    ensures { (w : List ℕ) → PartIs src.now q (InComponent Package) w c result }
-{
-    let manufacturer = q.manufacturer;
-    let boxes = q.boxes;
-    let read = boxes_under(src, c, boxes);
-    let packaged = read.boxes;
-    let next = read.next;
-    PartRead {
-        parts: Parts {
-            manufacturer: manufacturer,
-            boxes: packaged,
-            pins: q.pins,
-        },
-        next: next,
-    }
-}
-
-fn with_pins(src: &[u8], q: Parts, c: Cursor) -> PartRead
-    requires placed { Placed src.now c }
-    requires pins_le_at { q.pins ≤ c.at }
-    ensures { (w : List ℕ) → PartIs src.now q (InComponent Pin) w c result }
-{
-    let manufacturer = q.manufacturer;
-    let boxes = q.boxes;
-    let lines = lines_under::count_lines(src, c);
-    let rows = q.pins + lines.count;
-    let next = lines.next;
-    PartRead {
-        parts: Parts {
-            manufacturer: manufacturer,
-            boxes: boxes,
-            pins: rows,
-        },
-        next: next,
-    }
-}
-
-// A keyword of the component, and the lines under it, from c on.
-fn with_part(src: &[u8], q: Parts, p: ComponentPart, argument: &[u8], c: Cursor) -> PartRead
-    requires placed { Placed src.now c }
-    requires pins_le_at { q.pins ≤ c.at }
-    ensures { PartIs src.now q (InComponent p) argument.now c result }
-{
-    match p {
-        ComponentPart::Manufacturer => {
-            let boxes = q.boxes;
-            PartRead {
-                parts: Parts {
-                    manufacturer: name_of(argument),
-                    boxes: boxes,
-                    pins: q.pins,
-                },
-                next: c,
-            }
+impl Parts {
+    fn none() -> Parts
+        ensures { result ≡ no_parts }
+    {
+        Parts {
+            manufacturer: no_name(),
+            boxes: Boxes {
+                resistance: no_cells(),
+                inductance: no_cells(),
+                capacitance: no_cells(),
+            },
+            pins: 0,
         }
-        ComponentPart::Package => with_package(src, q, c),
-        ComponentPart::Pin => with_pins(src, q, c),
     }
-}
 
-// A keyword of another section changes nothing.
-fn with_key(src: &[u8], q: Parts, k: Keyword, argument: &[u8], c: Cursor) -> PartRead
-    requires placed { Placed src.now c }
-    requires pins_le_at { q.pins ≤ c.at }
-    ensures { PartIs src.now q k argument.now c result }
-{
-    match k {
-        Keyword::InComponent(p) => with_part(src, q, p, argument, c),
-        Keyword::IbisVer => PartRead { parts: q, next: c },
-        Keyword::InHeader(_) => PartRead { parts: q, next: c },
-        Keyword::Opens(_) => PartRead { parts: q, next: c },
-        Keyword::InModel(_) => PartRead { parts: q, next: c },
-        Keyword::End => PartRead { parts: q, next: c },
+    fn with_package(self, src: &[u8], c: Cursor) -> PartRead
+        requires placed { Placed src.now c }
+        requires pins_le_at { self.pins ≤ c.at }
+        ensures { (w : List ℕ) → PartIs src.now self (InComponent Package) w c result }
+    {
+        let mut parts = self;
+        let (boxes, next) = self.boxes.under(src, c);
+        parts.boxes = boxes;
+        PartRead { parts, next }
+    }
+
+    fn with_pins(self, src: &[u8], c: Cursor) -> PartRead
+        requires placed { Placed src.now c }
+        requires pins_le_at { self.pins ≤ c.at }
+        ensures { (w : List ℕ) → PartIs src.now self (InComponent Pin) w c result }
+    {
+        let mut parts = self;
+        let lines = lines_under::count_lines(src, c);
+        parts.pins += lines.count;
+        PartRead {
+            parts,
+            next: lines.next,
+        }
+    }
+
+    // A keyword of the component, and the lines under it, from c on.
+    fn with_part(self, src: &[u8], p: ComponentPart, argument: &[u8], c: Cursor) -> PartRead
+        requires placed { Placed src.now c }
+        requires pins_le_at { self.pins ≤ c.at }
+        ensures { PartIs src.now self (InComponent p) argument.now c result }
+    {
+        match p {
+            ComponentPart::Manufacturer => {
+                let mut parts = self;
+                parts.manufacturer = name_of(argument);
+                PartRead { parts, next: c }
+            }
+            ComponentPart::Package => self.with_package(src, c),
+            ComponentPart::Pin => self.with_pins(src, c),
+        }
+    }
+
+    // A keyword of another section changes nothing.
+    fn with_key(self, src: &[u8], k: Keyword, argument: &[u8], c: Cursor) -> PartRead
+        requires placed { Placed src.now c }
+        requires pins_le_at { self.pins ≤ c.at }
+        ensures { PartIs src.now self k argument.now c result }
+    {
+        match k {
+            Keyword::InComponent(p) => self.with_part(src, p, argument, c),
+            _ => PartRead {
+                parts: self,
+                next: c,
+            },
+        }
     }
 }
 
@@ -141,53 +120,36 @@ fn parts_from(src: &[u8], c: Cursor) -> Parts
     requires { Placed src.now c }
     ensures { result ≡ parts_in no_parts (front is_within (rest src.now c)) }
 {
-    let mut parts = no_parts();
+    let mut parts = Parts::none();
     let mut d = c;
-    loop {
-        match lines_under::next_key(src, d) {
-            KeyNext::Key {
-                keyword,
-                start,
-                end,
-                next,
-            } => {
-                if lines_under::ends(keyword) {
-                    return parts;
-                }
-                let read = with_key(src, parts, keyword, &src[start..end], next);
-                parts = read.parts;
-                d = read.next;
-            }
-            KeyNext::NoKey => return parts,
+    while let Some(key) = lines_under::next_key(src, d) {
+        if lines_under::ends(key.keyword) {
+            return parts;
         }
+        let read = parts.with_key(src, key.keyword, &src[key.start..key.end], key.next);
+        parts = read.parts;
+        d = read.next;
     }
+    parts
 }
 
 pub fn component_of(src: &[u8], c: Cursor, name: &[u8], section: usize, start: usize) -> Component
     requires { Placed src.now c }
     ensures { result ≡ component_in section (record { start = start; count = length (pins_in (front is_within (rest src.now c))) }) name.now (front is_within (rest src.now c)) }
 {
-    let read = sites_under(src, c);
-    let sites = read.sites;
-    let si = sites.si;
-    let timing = sites.timing;
-    let parts = parts_from(src, read.next);
-    let manufacturer = parts.manufacturer;
-    let boxes = parts.boxes;
-    let resistance = boxes.resistance;
-    let inductance = boxes.inductance;
-    let capacitance = boxes.capacitance;
+    let (sites, next) = Sites::under(src, c);
+    let parts = parts_from(src, next);
     Component {
-        section: section,
+        section,
         name: name_of(name),
-        si: si,
-        timing: timing,
-        manufacturer: manufacturer,
-        resistance: resistance,
-        inductance: inductance,
-        capacitance: capacitance,
+        si: sites.si,
+        timing: sites.timing,
+        manufacturer: parts.manufacturer,
+        resistance: parts.boxes.resistance,
+        inductance: parts.boxes.inductance,
+        capacitance: parts.boxes.capacitance,
         pins: Span {
-            start: start,
+            start,
             count: parts.pins,
         },
     }

@@ -1,4 +1,5 @@
 -- Laws of the pin rows: the leftmost name that fails, else what stands behind the names; and of a package's lines by their names.
+use Rattle.std.specs.Prelude.{Result, Ok, Err}
 use Prim.Native.Nat.{ℕ, suc, ◌≤◌, ◌<◌}
 use mathlib.Core.Path.{◌≡◌, refl, sym, ap, ◌∙◌}
 use mathlib.Core.List.{List}
@@ -6,7 +7,7 @@ use mathlib.Core.Bool.{Bool, true, false, cond, ◌&&◌, ◌||◌, or-true}
 use native.Mathlib.Omega.{arith}
 use lib.ListN.{length, drop, drop_of_length-le}
 use lib.Dec.{eqb, leb}
-use borrow.Author.Tests.{eq-eqb, ne_eqb, le-leb, lt-leb}
+use borrow.Author.Tests.{eq-eqb, le-leb, lt-leb}
 use Rattle.laws.specs.Bytes.{is_blank}
 use Rattle.laws.specs.Lists.{eqs}
 use Rattle.laws.proofs.Tests.{by-test, by_order, cond_yes, cond_no}
@@ -16,10 +17,9 @@ use Rattle.words.specs.declared.Word.{Word}
 use Rattle.words.proofs.Laws.{words-rest}
 use Rattle.words.proofs.Chains.{link, done, words-under, words-past}
 use Rattle.name_table.specs.Names.{place_from}
-use Rattle.laws.specs.Said.{says}
 use Rattle.records.specs.Stored.{no_cells}
 use Rattle.records.proofs.Columns.{told-sound}
-use Rattle.records.specs.Flaws.{Flaw, Reads, flaw, flaw_in, told, bare, at_place}
+use Rattle.records.specs.Flaws.{Flaw, Reads, flaw, flaw_in, told, at_place, checked}
 use Rattle.records.specs.declared.LineFault.{LineFault}
 use Rattle.records.specs.declared.Triple.{Triple}
 use Rattle.line_rules.specs.Fields.{is_pin_name, is_sized, is_pin_model}
@@ -48,6 +48,13 @@ word_next s at r h n =
 -- a fault of the names, or else of what stands behind them
 abbrev or_behind : LineFault → LineFault → LineFault
 or_behind behind f = cond (eqb f.number 0) behind f
+
+abbrev or_checked : Result (Unit {0}) LineFault → Result (Unit {0}) LineFault → Result (Unit {0}) LineFault
+or_checked behind (Ok u) = behind
+or_checked behind (Err f) = Err f
+
+behind-checked : (behind f : LineFault) → or_checked (checked behind) (checked f) ≡ checked (or_behind behind f)
+behind-checked behind f = by-test (eqb f.number 0) (λ h. rw h refl) (λ h. rw h (rw h refl))
 
 module _ (w : List ℕ) (r : PinNames) (l : NamesLie w r) where
   within : (x : Word) {at : ℕ} → WordAt w at x → x.start ≤ length w
@@ -80,7 +87,7 @@ module _ (w : List ℕ) (r : PinNames) (l : NamesLie w r) where
   abbrev behind : Bool → Flaw
   behind long = cond (long || leb (length (words w)) 3) (flaw_in (pin_cells (rest_from 3 w))) (flaw 10 (rest_from 3 w))
 
-  no_cells_lem : length (words w) ≤ 3 → pin_cells (rest_from 3 w) ≡ says no_cells
+  no_cells_lem : length (words w) ≤ 3 → pin_cells (rest_from 3 w) ≡ Ok no_cells
   unfolding pin_cells
   no_cells_lem few = cond_yes _ _ (eq-eqb (length (words (rest_from 3 w))) 0 (ap length (words-rest 3 w ∙ drop_of_length-le (words w) few)))
 
@@ -98,41 +105,44 @@ module _ (w : List ℕ) (r : PinNames) (l : NamesLie w r) where
       (λ b. rw (a, b) signal-told))
       (λ a. rw a pin-told))
 
-  -- a name that fails
-  pub row-fails : (long : Bool) {f : LineFault} → f ≡ names_fault w r.pin r.signal r.model → (f.number ≡ 0 → ⊥) → f ≡ told w (pin_flaw long w)
-  row-fails long {f} e h = sym (row_told long ∙ ap (or_behind (told w (behind long))) (sym e) ∙ cond_no _ _ (ne_eqb f.number 0 h))
+  -- what the names' check answers, a name that fails or none
+  module _ {a : Result (Unit {0}) LineFault} (e : a ≡ checked (names_fault w r.pin r.signal r.model)) (long : Bool) where
+    pub row-checked : {b : Result (Unit {0}) LineFault} → a ≡ b → or_checked (checked (told w (behind long))) b ≡ checked (told w (pin_flaw long w))
+    row-checked is =
+        ap (or_checked (checked (told w (behind long)))) (sym is ∙ e)
+        ∙ behind-checked (told w (behind long)) (names_fault w r.pin r.signal r.model)
+        ∙ sym (ap checked (row_told long))
 
-  module _ {f : LineFault} (e : f ≡ names_fault w r.pin r.signal r.model) (h : f.number ≡ 0) where
-    row-behind : (long : Bool) → told w (pin_flaw long w) ≡ told w (behind long)
-    row-behind long = row_told long ∙ ap (or_behind (told w (behind long))) (sym e) ∙ cond_yes _ _ (eq-eqb f.number 0 h)
-
-    pub row-cells : (long : Bool) → long ≡ true → told w (flaw_in (pin_cells (drop r.model.end w))) ≡ told w (pin_flaw long w)
-    row-cells long k =
-        sym
-        (row-behind long
-        ∙ ap (λ (t : Bool). told w (cond (t || leb (length (words w)) 3) (flaw_in (pin_cells (rest_from 3 w))) (flaw 10 (rest_from 3 w)))) k
-        ∙ ap (λ (x : Reads Triple). told w (flaw_in x)) (ap pin_cells cells_rest ∙ pin-cells-blank (drop r.model.end w)))
-
-    -- the word behind the names
-    module _ {cell : Word} (next : WordAt w r.model.end cell) where
-      pub row-short : (long : Bool) → long ≡ false → cell.start < length w → at_place 10 cell.start ≡ told w (pin_flaw long w)
-      row-short long k q =
-          let many : 3 < length (words w) = words-past (link l.pin (link l.signal (link l.model done))) next q in
+    module _ {u : Unit {0}} (sound : a ≡ Ok u) where
+      pub row-cells : long ≡ true → checked (told w (flaw_in (pin_cells (drop r.model.end w)))) ≡ checked (told w (pin_flaw long w))
+      row-cells k =
           sym
-          (row-behind long
-          ∙ ap (λ (t : Bool). told w (cond (t || leb (length (words w)) 3) (flaw_in (pin_cells (rest_from 3 w))) (flaw 10 (rest_from 3 w)))) k
-          ∙ ap (told w) (cond_no _ _ (lt-leb (length (words w)) 3 many))
-          ∙ ap (λ (v : List ℕ). told w (flaw 10 v)) (cells_rest ∙ next.here)
-          ∙ ten-at w cell.start (within cell next))
+          (ap (λ (t : Bool). checked (told w (cond (t || leb (length (words w)) 3) (flaw_in (pin_cells (rest_from 3 w))) (flaw 10 (rest_from 3 w))))) k
+          ∙ ap (λ (x : Reads Triple). checked (told w (flaw_in x))) (ap pin_cells cells_rest ∙ pin-cells-blank (drop r.model.end w)))
+          ∙ row-checked sound
 
-      pub row-names : (long : Bool) → length w ≤ cell.start → bare 0 ≡ told w (pin_flaw long w)
-      row-names long q =
-          let few : length (words w) ≤ 3 = words-under (link l.pin (link l.signal (link l.model done))) next q in
-          sym
-          (row-behind long
-          ∙ ap (told w) (cond_yes _ _ (ap (λ (t : Bool). long || t) (le-leb (length (words w)) 3 few) ∙ or-true long))
-          ∙ ap (λ (x : Reads Triple). told w (flaw_in x)) (no_cells_lem few)
-          ∙ told-sound w)
+      -- the word behind the names
+      module _ {cell : Word} (next : WordAt w r.model.end cell) where
+        pub row-short : long ≡ false → cell.start < length w → Err (at_place 10 cell.start) ≡ checked (told w (pin_flaw long w))
+        row-short k q =
+            let many : 3 < length (words w) = words-past (link l.pin (link l.signal (link l.model done))) next q in
+            sym
+            (ap checked
+            (ap (λ (t : Bool). told w (cond (t || leb (length (words w)) 3) (flaw_in (pin_cells (rest_from 3 w))) (flaw 10 (rest_from 3 w)))) k
+            ∙ ap (told w) (cond_no _ _ (lt-leb (length (words w)) 3 many))
+            ∙ ap (λ (v : List ℕ). told w (flaw 10 v)) (cells_rest ∙ next.here)
+            ∙ ten-at w cell.start (within cell next)))
+            ∙ row-checked sound
+
+        pub row-names : length w ≤ cell.start → Ok tt ≡ checked (told w (pin_flaw long w))
+        row-names q =
+            let few : length (words w) ≤ 3 = words-under (link l.pin (link l.signal (link l.model done))) next q in
+            sym
+            (ap checked
+            (ap (told w) (cond_yes _ _ (ap (λ (t : Bool). long || t) (le-leb (length (words w)) 3 few) ∙ or-true long))
+            ∙ ap (λ (x : Reads Triple). told w (flaw_in x)) (no_cells_lem few)
+            ∙ told-sound w))
+            ∙ row-checked sound
 
 -- ---- [Package]
 

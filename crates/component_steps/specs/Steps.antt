@@ -8,12 +8,11 @@ use Rattle.line_rules.specs.Fields.{is_sized, is_pin_name, is_pin_model}
 use Rattle.line_cells.specs.Threes.{bytes_of}
 use Rattle.given.specs.Given.{has}
 use Rattle.given.specs.declared.Given.{Given}
-use Rattle.rules.specs.Going.{refuse, quietly}
+use Rattle.rules.specs.Going.{refuse, quietly, Went}
 use Rattle.rules.specs.Component.{with_list}
 use Rattle.rules.specs.declared.ComponentList.TheVariants.{ComponentShut}
 use Rattle.rules.specs.declared.ComponentState.{ComponentState}
 use Rattle.rules.specs.declared.Stage.TheVariants.{InComponent}
-use Rattle.rules.specs.declared.Went.{Went}
 use Rattle.component_steps.specs.declared.PinNames.{PinNames}
 
 -- the three names of a pin row: the first words of its text

@@ -3,11 +3,11 @@
 
 ghost use Rattle.std.specs.Prelude.{◌≡◌, true, false, ◌≤◌, length, drop};
 ghost use Rattle.laws.specs.Said.{or_else};
-ghost use Rattle.records.specs.Flaws.{told};
+ghost use Rattle.records.specs.Flaws.{told, bare, checked};
 ghost use Rattle.keywords.specs.Answers.{ArgumentFrom};
 ghost use Rattle.given.specs.Given.{none_given};
 ghost use Rattle.line_rules.specs.Fields.{heading};
-ghost use Rattle.rules.specs.Component.{with_list, pin_flaw, component_line, component_place, component_opens, component_part, component_shut, component_done};
+ghost use Rattle.rules.specs.Component.{pin_flaw, component_line, component_place, component_opens, component_part, component_shut, component_done};
 ghost use Rattle.rules.specs.Selector.{selector_line, selector_shut};
 ghost use Rattle.rules.specs.declared.ComponentList.TheVariants.{ComponentFirst, PackageLines, PinRows};
 ghost use Rattle.line_cells.specs.Threes.{Within};
@@ -15,10 +15,8 @@ ghost use Rattle.component_steps.specs.Steps.{NamesLie, names_fault, all_three, 
 
 use given::Given;
 use keywords::ComponentPart;
-use line_cells::HeadingRead;
-use name_table::Found;
 use named_lines::Form;
-use records::LineFault;
+use records::{LineFault, at_line};
 use rules::{ComponentList, ComponentState, Event, SelectorState, Stage, Went};
 use words::Word;
 
@@ -36,8 +34,8 @@ pub fn new_component(k: u64) -> ComponentState
 {
     ComponentState {
         line: k,
-        first: given::none_given(),
-        parts: given::none_given(),
+        first: Given::none(),
+        parts: Given::none(),
         list: ComponentList::ComponentFirst,
     }
 }
@@ -45,28 +43,22 @@ pub fn new_component(k: u64) -> ComponentState
 // ---- a pin row
 
 // What is wrong with a row's three names, which lie here: the leftmost counts.
-fn names_fault(w: &[u8], pin: Word, signal: Word, model: Word) -> LineFault
+fn names_fault(w: &[u8], pin: Word, signal: Word, model: Word) -> Result<(), LineFault>
     requires within { Within w.now pin }
     requires within_2 { Within w.now signal }
     requires within_3 { Within w.now model }
-    ensures { result ≡ names_fault w.now pin signal model }
+    ensures { result ≡ checked (names_fault w.now pin signal model) }
 {
-    let pin_start = pin.start;
-    let pin_end = pin.end;
-    if !named_lines::pin_name(&w[pin_start..pin_end]) {
-        return records::at_fault(10, pin_start);
+    if !named_lines::pin_name(&w[pin.start..pin.end]) {
+        return Err(records::at_fault(10, pin.start));
     }
-    let signal_start = signal.start;
-    let signal_end = signal.end;
-    if !named_lines::sized(&w[signal_start..signal_end], 40) {
-        return records::at_fault(10, signal_start);
+    if !named_lines::sized(&w[signal.start..signal.end], 40) {
+        return Err(records::at_fault(10, signal.start));
     }
-    let model_start = model.start;
-    let model_end = model.end;
-    if !named_lines::pin_model(&w[model_start..model_end]) {
-        return records::at_fault(10, model_start);
+    if !named_lines::pin_model(&w[model.start..model.end]) {
+        return Err(records::at_fault(10, model.start));
     }
-    records::bare_fault(0)
+    Ok(())
 }
 
 // Where a row's three names lie.
@@ -76,34 +68,26 @@ pub fn pin_names(w: &[u8]) -> PinNames
     let pin = words::word_at(w, 0);
     let signal = words::word_at(w, pin.end);
     let model = words::word_at(w, signal.end);
-    PinNames {
-        pin: pin,
-        signal: signal,
-        model: model,
-    }
+    PinNames { pin, signal, model }
 }
 
 // Three names, which lie here; cells behind them stand under the long heading alone.
-pub fn row_fault(w: &[u8], names: PinNames, long: bool) -> LineFault
+pub fn row_fault(w: &[u8], names: PinNames, long: bool) -> Result<(), LineFault>
     requires { NamesLie w.now names }
-    ensures { result ≡ told w.now (pin_flaw long w.now) }
+    ensures { result ≡ checked (told w.now (pin_flaw long w.now)) }
 {
-    let pin = names.pin;
-    let signal = names.signal;
-    let model = names.model;
-    let fault = names_fault(w, pin, signal, model);
-    if fault.number != 0 {
-        return fault;
-    }
+    let PinNames { pin, signal, model } = names;
+    names_fault(w, pin, signal, model)?;
     // A part is handed on, and w itself stays where it is quickest read.
     if long {
-        return line_cells::triple_fault(line_cells::pin_cells(&w[0..], model.end));
+        line_cells::pin_cells(&w[0..], model.end)?;
+        return Ok(());
     }
     let cell = words::word_at(w, model.end);
     if cell.start < w.len() {
-        return records::at_fault(10, cell.start);
+        return Err(records::at_fault(10, cell.start));
     }
-    records::bare_fault(0)
+    Ok(())
 }
 
 // ---- a line that is no keyword line, by the list that is open
@@ -111,87 +95,46 @@ pub fn row_fault(w: &[u8], names: PinNames, long: bool) -> LineFault
 fn location_line(c: ComponentState, k: u64, w: &[u8]) -> Went
     ensures { result ≡ component_line c k w.now ComponentFirst }
 {
-    let found = named_lines::component_line(w);
-    let Found::At(n) = found else {
+    let Some(n) = named_lines::component_line(w) else {
         return rules::stopped_at(named_lines::name_fault(w), k);
     };
-    let first = c.first;
-    if given::is_given(first, n) {
-        return rules::stopped(8, k);
-    }
-    let fault = line_faults::location_fault(w);
-    if fault.number != 0 {
-        return rules::stopped_at(fault, k);
-    }
-    let parts = c.parts;
-    let list = c.list;
-    let next = ComponentState {
-        line: c.line,
-        first: given::also(first, n),
-        parts: parts,
-        list: list,
-    };
-    Went::On(Stage::InComponent(next), Event::Quiet)
-}
-
-// The component with another list open, or none.
-fn with_list(c: ComponentState, list: ComponentList) -> ComponentState
-    ensures { result ≡ with_list c list }
-{
-    let first = c.first;
-    let parts = c.parts;
-    ComponentState {
-        line: c.line,
-        first: first,
-        parts: parts,
-        list: list,
-    }
+    let first = rules::once(c.first, n, k, line_faults::location_fault(w))?;
+    let next = ComponentState { first, ..c };
+    Ok((Stage::InComponent(next), Event::Quiet))
 }
 
 // A line of [Package], which stands at line o.
 fn package_line(c: ComponentState, o: u64, g: Given, k: u64, w: &[u8]) -> Went
     ensures { result ≡ component_line c k w.now (PackageLines o g) }
 {
-    let found = named_lines::package_line(w);
-    let Found::At(n) = found else {
+    let Some(n) = named_lines::package_line(w) else {
         return rules::stopped_at(named_lines::name_fault(w), k);
     };
-    if given::is_given(g, n) {
-        return rules::stopped(8, k);
-    }
-    let fault = line_faults::cells_fault(w);
-    if fault.number != 0 {
-        return rules::stopped_at(fault, k);
-    }
-    let list = ComponentList::PackageLines {
-        line: o,
-        given: given::also(g, n),
-    };
-    Went::On(Stage::InComponent(with_list(c, list)), Event::Quiet)
+    let given = rules::once(g, n, k, line_faults::cells_fault(w))?;
+    let list = ComponentList::PackageLines { line: o, given };
+    let next = ComponentState { list, ..c };
+    Ok((Stage::InComponent(next), Event::Quiet))
 }
 
 // A row of [Pin], which stands at line o.
 fn rows_line(c: ComponentState, o: u64, long: bool, k: u64, w: &[u8]) -> Went
     ensures { result ≡ component_line c k w.now (PinRows o long true) }
 {
-    let fault = row_fault(w, pin_names(w), long);
-    if fault.number != 0 {
-        return rules::stopped_at(fault, k);
-    }
+    at_line(row_fault(w, pin_names(w), long), k)?;
     let list = ComponentList::PinRows {
         line: o,
-        long: long,
+        long,
         any: true,
     };
-    Went::On(Stage::InComponent(with_list(c, list)), Event::PinRow)
+    let next = ComponentState { list, ..c };
+    Ok((Stage::InComponent(next), Event::PinRow))
 }
 
 // A line of a component that is no keyword line.
 pub fn component_line(c: ComponentState, k: u64, w: &[u8]) -> Went
     ensures { result ≡ component_line c k w.now c.list }
 {
-    let list = c.list;
-    match list {
+    match c.list {
         ComponentList::ComponentFirst => location_line(c, k, w),
         ComponentList::ComponentShut => rules::stopped(7, k),
         ComponentList::PackageLines { line, given } => package_line(c, line, given, k, w),
@@ -220,7 +163,7 @@ fn part_opens(k: u64, w: &[u8], at: usize, p: ComponentPart) -> ComponentList
         ComponentPart::Manufacturer => ComponentList::ComponentShut,
         ComponentPart::Package => ComponentList::PackageLines {
             line: k,
-            given: given::none_given(),
+            given: Given::none(),
         },
         ComponentPart::Pin => ComponentList::PinRows {
             line: k,
@@ -235,11 +178,7 @@ fn is_long(w: &[u8], at: usize) -> bool
     requires { at ≤ length w.now }
     ensures { result ≡ or_else false (heading (drop at w.now)) }
 {
-    match line_cells::heading_of(w, at) {
-        HeadingRead::Short => false,
-        HeadingRead::Long => true,
-        HeadingRead::NoHeading(_) => false,
-    }
+    line_cells::heading_of(w, at).unwrap_or(false)
 }
 
 // A keyword of a component at line k, whose argument begins at a place.
@@ -247,23 +186,11 @@ pub fn component_part(c: ComponentState, k: u64, w: &[u8], at: usize, p: Compone
     requires { ArgumentFrom w.now at }
     ensures { result ≡ component_part c k w.now p }
 {
-    let place = part_place(p);
-    let parts = c.parts;
-    if given::is_given(parts, place) {
-        return rules::stopped(8, k);
-    }
-    let fault = line_faults::component_fault(w, at, p);
-    if fault.number != 0 {
-        return rules::stopped_at(fault, k);
-    }
-    let first = c.first;
-    let next = ComponentState {
-        line: c.line,
-        first: first,
-        parts: given::also(parts, place),
-        list: part_opens(k, w, at, p),
-    };
-    Went::On(Stage::InComponent(next), Event::Quiet)
+    let own = line_faults::component_fault(w, at, p);
+    let parts = rules::once(c.parts, part_place(p), k, own)?;
+    let list = part_opens(k, w, at, p);
+    let next = ComponentState { parts, list, ..c };
+    Ok((Stage::InComponent(next), Event::Quiet))
 }
 
 // ---- closing
@@ -272,13 +199,7 @@ pub fn component_part(c: ComponentState, k: u64, w: &[u8], at: usize, p: Compone
 fn all_three(g: Given) -> bool
     ensures { result ≡ all_three g }
 {
-    if !given::is_given(g, 0) {
-        return false;
-    }
-    if !given::is_given(g, 1) {
-        return false;
-    }
-    given::is_given(g, 2)
+    g.is_given(0) && g.is_given(1) && g.is_given(2)
 }
 
 // The list that is open is whole, or 9 is told at line o.
@@ -288,31 +209,30 @@ fn shut(c: ComponentState, whole: bool, o: u64) -> Went
     if !whole {
         return rules::stopped(9, o);
     }
-    Went::On(
-        Stage::InComponent(with_list(c, ComponentList::ComponentShut)),
-        Event::Quiet,
-    )
+    let list = ComponentList::ComponentShut;
+    let next = ComponentState { list, ..c };
+    Ok((Stage::InComponent(next), Event::Quiet))
 }
 
 // What a keyword line closes of a component.
 pub fn component_shut(c: ComponentState) -> Went
     ensures { result ≡ component_shut c c.list }
 {
-    let list = c.list;
-    match list {
-        ComponentList::ComponentFirst => shut(c, true, 0),
-        ComponentList::ComponentShut => shut(c, true, 0),
+    match c.list {
+        ComponentList::ComponentFirst | ComponentList::ComponentShut => shut(c, true, 0),
         ComponentList::PackageLines { line, given } => shut(c, all_three(given), line),
         ComponentList::PinRows { line, long, any } => shut(c, any, line),
     }
 }
 
 // What a component lacks.
-pub fn component_done(c: ComponentState) -> u8
-    ensures { result ≡ component_done c }
+pub fn component_done(c: ComponentState) -> Result<(), LineFault>
+    ensures { result ≡ checked (bare (component_done c)) }
 {
-    let parts = c.parts;
-    if all_three(parts) { 0 } else { 9 }
+    if !all_three(c.parts) {
+        return Err(records::bare_fault(9));
+    }
+    Ok(())
 }
 
 // ---- [Model Selector]
@@ -331,15 +251,9 @@ pub fn new_selector(k: u64) -> SelectorState
 pub fn selector_line(s: SelectorState, k: u64, w: &[u8]) -> Went
     ensures { result ≡ selector_line s k w.now }
 {
-    let fault = named_lines::word_fault(w, 0, Form::ModelName);
-    if fault.number != 0 {
-        return rules::stopped_at(fault, k);
-    }
-    let next = SelectorState {
-        line: s.line,
-        any: true,
-    };
-    Went::On(Stage::InSelector(next), Event::ChoiceRow)
+    at_line(named_lines::word_fault(w, 0, Form::ModelName), k)?;
+    let next = SelectorState { any: true, ..s };
+    Ok((Stage::InSelector(next), Event::ChoiceRow))
 }
 
 // The rows of a selector end.
@@ -349,5 +263,5 @@ pub fn selector_shut(s: SelectorState) -> Went
     if !s.any {
         return rules::stopped(9, s.line);
     }
-    Went::On(Stage::InSelector(s), Event::Quiet)
+    Ok((Stage::InSelector(s), Event::Quiet))
 }

@@ -1,4 +1,5 @@
 -- Laws of `specs/Change.antt`, one for each branch of the code.
+use Rattle.std.specs.Prelude.{Ok, Err}
 use Prim.Native.Nat.{ℕ, ◌+◌, ◌≤◌, ◌<◌}
 use Prim.Native.Char.{code}
 use mathlib.Core.Path.{◌≡◌, refl, sym, ap, ◌∙◌}
@@ -11,14 +12,9 @@ use lib.Dec.{eqb}
 use borrow.Author.Tests.{eq-eqb, ne_eqb}
 use Rattle.laws.specs.Bytes.{bytes, is_blank}
 use Rattle.laws.specs.Lists.{begins, front, after, among, eqs, other, part}
-use Rattle.laws.specs.Said.{Result, says, fault}
 use Rattle.words.specs.Words.{is_ink}
 use Rattle.records.specs.Flaws.{Reads, flaw, column_in, told_in, bare, at_place}
 use Rattle.records.proofs.Columns.{told_at}
-use Rattle.records.specs.declared.LineFault.{LineFault}
-use Rattle.cut_lines.specs.Cursors.{change_read, change_says}
-use Rattle.cut_lines.specs.declared.ChangeRead.{ChangeRead}
-use Rattle.cut_lines.specs.declared.ChangeRead.TheVariants.{Wrong}
 use Rattle.laws.proofs.Tests.{cond_yes, cond_no, and_both, and_left, and_right}
 use Rattle.laws.proofs.Lists.{from_cons}
 use Rattle.laws.proofs.Fronts.{after-at, front_at, after-stops, other-is}
@@ -65,7 +61,7 @@ module _ (w : List ℕ) (stop : ℕ) (found : stop ≡ 1 + length (front (other 
 
   -- ---- `change_of`
 
-  pub change-unclosed : is_closed (drop stop w) ≡ false → change_of w ≡ fault (flaw 5 [])
+  pub change-unclosed : is_closed (drop stop w) ≡ false → change_of w ≡ Err (flaw 5 [])
   unfolding change_of
   change-unclosed h = cond_no _ _ (ap is_closed (sym (closing_at w stop found)) ∙ h)
 
@@ -78,7 +74,7 @@ module _ (w : List ℕ) (stop : ℕ) (found : stop ≡ 1 + length (front (other 
       ∙ ap (λ (x : List ℕ). change_to (after is_blank x)) (drop-drop 1 stop w)
       ∙ ap change_to (after-at is_blank w (stop + 1) at e)
 
-pub change-none : (w : List ℕ) → length w ≡ 0 → change_of w ≡ fault (flaw 5 [])
+pub change-none : (w : List ℕ) → length w ≡ 0 → change_of w ≡ Err (flaw 5 [])
 unfolding change_of closing after is_closed
 change-none [] h = refl
 change-none (b ∷ w) h = absurd (omega arith)
@@ -86,26 +82,26 @@ change-none (b ∷ w) h = absurd (omega arith)
 -- ---- `change_to`
 
 -- a flaw at a place, as the code tells it
-pub to-wrong : (w : List ℕ) (p : ℕ) (said : Reads ℕ) → said ≡ fault (flaw 10 (drop p w)) → p ≤ length w → Wrong (at_place 10 p) ≡ change_read (told_in w said)
-to-wrong w p said e h = sym (ap (λ (x : Reads ℕ). change_read (told_in w x)) e ∙ ap Wrong (told_at w 10 p (omega arith) (omega arith) h))
+pub to-wrong : (w : List ℕ) (p : ℕ) (said : Reads ℕ) → said ≡ Err (flaw 10 (drop p w)) → p ≤ length w → Err (at_place 10 p) ≡ told_in w said
+to-wrong w p said e h = sym (ap (λ (x : Reads ℕ). told_in w x) e ∙ ap Err (told_at w 10 p (omega arith) (omega arith) h))
 
-pub to-unformed : (w : List ℕ) (said : Reads ℕ) → said ≡ fault (flaw 5 []) → Wrong (bare 5) ≡ change_read (told_in w said)
+pub to-unformed : (w : List ℕ) (said : Reads ℕ) → said ≡ Err (flaw 5 []) → Err (bare 5) ≡ told_in w said
 unfolding column_in
-to-unformed w said e = sym (ap (λ (x : Reads ℕ). change_read (told_in w x)) e)
+to-unformed w said e = sym (ap (λ (x : Reads ℕ). told_in w x) e)
 
 module _ (w : List ℕ) (at : ℕ) where
-  pub to_none : length w ≤ at → change_to (drop at w) ≡ fault (flaw 10 (drop at w))
+  pub to_none : length w ≤ at → change_to (drop at w) ≡ Err (flaw 10 (drop at w))
   unfolding change_to
   to_none k = rw (drop_of_length-le w k)
 
   module _ (h : at < length w) where
     abbrev word_told : Reads ℕ
-    word_told = fault (flaw 10 (drop at w))
+    word_told = Err (flaw 10 (drop at w))
 
     -- the first character, the rest of its word, and what follows both
     to-split : change_to (drop at w)
         ≡ cond (among (get_or w at 0) marks && eqs (front is_ink (drop (at + 1) w)) (bytes "_char"))
-        (cond (none_or (get_or w at 0) (after is_blank (after is_ink (drop (at + 1) w)))) (says (get_or w at 0)) (fault (flaw 10 (after is_blank (after is_ink (drop (at + 1) w))))))
+        (cond (none_or (get_or w at 0) (after is_blank (after is_ink (drop (at + 1) w)))) (Ok (get_or w at 0)) (Err (flaw 10 (after is_blank (after is_ink (drop (at + 1) w))))))
         word_told
     unfolding change_to
     to-split = rw (from_cons w at 0 h)
@@ -119,29 +115,20 @@ module _ (w : List ℕ) (at : ℕ) where
           to-split ∙ cond_no _ _ (and_right (among (get_or w at 0) marks) _ (ap (λ (v : List ℕ). eqs v (bytes "_char")) (sym (front_at is_ink w (at + 1) end ends)) ∙ e))
 
       module _ (marked : among (get_or w at 0) marks ≡ true) (word : eqs (part (at + 1) end w) (bytes "_char") ≡ true) (behind : ℕ) (goes : behind ≡ end + length (front is_blank (drop end w))) where
-        to-behind : change_to (drop at w) ≡ cond (none_or (get_or w at 0) (drop behind w)) (says (get_or w at 0)) (fault (flaw 10 (drop behind w)))
+        to-behind : change_to (drop at w) ≡ cond (none_or (get_or w at 0) (drop behind w)) (Ok (get_or w at 0)) (Err (flaw 10 (drop behind w)))
         to-behind =
             to-split
             ∙ cond_yes _ _ (and_both (among (get_or w at 0) marks) _ marked (ap (λ (v : List ℕ). eqs v (bytes "_char")) (sym (front_at is_ink w (at + 1) end ends)) ∙ word))
-            ∙ ap (λ (v : List ℕ). cond (none_or (get_or w at 0) v) (says (get_or w at 0)) (fault (flaw 10 v))) (ap (after is_blank) (after-at is_ink w (at + 1) end ends) ∙ after-at is_blank w end behind goes)
+            ∙ ap (λ (v : List ℕ). cond (none_or (get_or w at 0) v) (Ok (get_or w at 0)) (Err (flaw 10 v))) (ap (after is_blank) (after-at is_ink w (at + 1) end ends) ∙ after-at is_blank w end behind goes)
 
-        pub to_end : length w ≤ behind → change_to (drop at w) ≡ says (get_or w at 0)
+        pub to_end : length w ≤ behind → change_to (drop at w) ≡ Ok (get_or w at 0)
         unfolding none_or
         to_end k = to-behind ∙ rw (drop_of_length-le w k)
 
-        pub to-remark : behind < length w → get_or w behind 0 ≡ get_or w at 0 → change_to (drop at w) ≡ says (get_or w at 0)
+        pub to-remark : behind < length w → get_or w behind 0 ≡ get_or w at 0 → change_to (drop at w) ≡ Ok (get_or w at 0)
         unfolding none_or
         to-remark k e = to-behind ∙ cond_yes _ _ (ap (none_or (get_or w at 0)) (from_cons w behind 0 k) ∙ eq-eqb (get_or w behind 0) (get_or w at 0) e)
 
-        pub to-followed : behind < length w → (get_or w behind 0 ≡ get_or w at 0 → ⊥) → change_to (drop at w) ≡ fault (flaw 10 (drop behind w))
+        pub to-followed : behind < length w → (get_or w behind 0 ≡ get_or w at 0 → ⊥) → change_to (drop at w) ≡ Err (flaw 10 (drop behind w))
         unfolding none_or
         to-followed k e = to-behind ∙ cond_no _ _ (ap (none_or (get_or w at 0)) (from_cons w behind 0 k) ∙ ne_eqb (get_or w behind 0) (get_or w at 0) e)
-
--- ---- an answer says what it was made of
-
-change-back : (x : Result LineFault ℕ) → change_says (change_read x) ≡ x
-change-back (says c) = refl
-change-back (fault f) = refl
-
-pub change-said : (r : ChangeRead) (x : Result LineFault ℕ) → r ≡ change_read x → change_says r ≡ x
-change-said r x e = ap change_says e ∙ change-back x

@@ -1,4 +1,5 @@
 -- Laws of `specs/Texts.antt`: the line at a cursor gives the first text, or none, and the others follow from the next cursor; and what `next_text` answers once lines are passed.
+use Rattle.std.specs.Prelude.{Result, Ok}
 use Prim.Native.Nat.{ℕ, ◌+◌, ◌-◌, ◌≤◌, ◌<◌}
 use mathlib.Core.Path.{◌≡◌, refl, sym, ap, ◌∙◌}
 use mathlib.Core.List.{List, [], ◌∷◌}
@@ -7,14 +8,13 @@ use native.Mathlib.Omega.{arith}
 use lib.ListN.{length, take, drop, drop_of_length-le, length-take}
 use lib.Seq.{take-take}
 use Rattle.laws.specs.Lists.{part}
-use Rattle.laws.specs.Said.{Result, or_else}
+use Rattle.laws.specs.Said.{or_else}
 use Rattle.records.specs.Flaws.{flaw_in, told, told_in, line_fault_in}
 use Rattle.records.specs.declared.LineFault.{LineFault}
 use Rattle.records.proofs.Columns.{told-fault, told-else}
 use Rattle.laws.proofs.Tests.{cond_yes, cond_no}
 use Rattle.laws.proofs.Lists.{part_length}
 use Rattle.lines.specs.Lines.{Physical, lines_of, fault_from, cut}
-use Rattle.lines.specs.declared.Bytes.TheVariants.{Clean}
 use Rattle.lines.proofs.Places.{cut-take}
 use Rattle.cut_lines.specs.Texts.{Text, plain, change, onto_texts, texts_from}
 use Rattle.lines.proofs.Numbers.{others-clean, line-short, cut_short}
@@ -80,7 +80,7 @@ module _ (s : List ℕ) (at line c : ℕ) (l : CutLine) (some : at < length s) (
         ends = omega (arith, e, read.ends, read.starts, cut_short c (part at l.whole.end s), part_length s at l.whole.end read.ends);
       }
 
-  pub changed-is : (x : Result LineFault ℕ) → x ≡ told_in (part at l.whole.end s) (change_of (part at l.whole.end s)) → is_change (part at l.whole.end s) ≡ true
+  pub changed-is : (x : Result ℕ LineFault) → x ≡ told_in (part at l.whole.end s) (change_of (part at l.whole.end s)) → is_change (part at l.whole.end s) ≡ true
       → ChangedIs s (record { at = at; line = line; comment = c }) (line_fault_in x) (record { at = l.whole.next; line = line + 1; comment = or_else c x })
   changed-is x e k =
       let said = e ∙ ap (λ (w : List ℕ). told_in w (change_of w)) read.text in
@@ -114,7 +114,7 @@ module _ (s : List ℕ) (c n : Cursor) (l : Physical) (h : Steps s c l n) where
   placed-step p = record { within = h.within; lines = omega (arith, h.line, h.rises, p.lines) }
 
   -- the line's bytes have no fault, and nor have those behind it
-  first-clean : CleanFrom s c → fault_from c.line (l ∷ lines_of (drop n.at s)) ≡ Clean
+  first-clean : CleanFrom s c → fault_from c.line (l ∷ lines_of (drop n.at s)) ≡ Ok tt
   first-clean g = ap (fault_from c.line) (sym h.more) ∙ g
 
   clean_step : CleanFrom s c → CleanFrom s n

@@ -1,14 +1,10 @@
 -- What the cursors and places that the code answers say of the texts.
-use Rattle.std.specs.Prelude.{ℕ, ◌+◌, ◌≤◌, ◌<◌, ◌≡◌, List, [], ◌∷◌, length, drop}
+use Rattle.std.specs.Prelude.{ℕ, ◌+◌, ◌≤◌, ◌<◌, ◌≡◌, List, [], ◌∷◌, length, drop, Ok}
 use Prim.Native.Char.{code}
 use Rattle.laws.specs.Lists.{part}
-use Rattle.laws.specs.Said.{Result, says, fault}
 use Rattle.records.specs.declared.LineFault.{LineFault}
 use Rattle.lines.specs.Lines.{lines_of, fault_from}
-use Rattle.lines.specs.declared.Bytes.TheVariants.{Clean}
 use Rattle.cut_lines.specs.Texts.{Text, plain, change, texts_from}
-use Rattle.cut_lines.specs.declared.ChangeRead.{ChangeRead}
-use Rattle.cut_lines.specs.declared.ChangeRead.TheVariants.{To, Wrong}
 use Rattle.cut_lines.specs.declared.Cursor.{Cursor}
 use Rattle.cut_lines.specs.declared.Next.{Next}
 use Rattle.cut_lines.specs.declared.Next.TheVariants as next
@@ -26,17 +22,9 @@ past s c = c.line + length (lines_of (drop c.at s))
 
 -- no line from a cursor on has a fault of its bytes
 abbrev pub CleanFrom : List ℕ → Cursor → Type 0
-CleanFrom s c = fault_from c.line (lines_of (drop c.at s)) ≡ Clean
+CleanFrom s c = fault_from c.line (lines_of (drop c.at s)) ≡ Ok tt
 
 -- ---- what the code's answers are
-
-abbrev pub change_read : Result LineFault ℕ → ChangeRead
-change_read (says x) = To x
-change_read (fault f) = Wrong f
-
-abbrev pub change_says : ChangeRead → Result LineFault ℕ
-change_says (To x) = says x
-change_says (Wrong f) = fault f
 
 -- a cursor that stands in a file: every line before it has at least one byte
 pub record Placed (s : List ℕ) (c : Cursor) : Type 0 where

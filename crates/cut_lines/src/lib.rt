@@ -6,8 +6,7 @@ ghost use Rattle.laws.specs.Lists.{among};
 ghost use Rattle.laws.specs.Said.{or_else};
 ghost use Rattle.records.specs.Flaws.{told_in, line_fault_in, at_place};
 ghost use Rattle.cut_lines.specs.Change.{is_change, change_of, change_to, marks};
-ghost use Rattle.cut_lines.specs.Cursors.{first_cursor, change_read, change_says, Placed, NextIs};
-ghost use Rattle.cut_lines.specs.declared.ChangeRead.TheVariants.{Wrong};
+ghost use Rattle.cut_lines.specs.Cursors.{first_cursor, Placed, NextIs};
 ghost use Rattle.cut_lines.specs.declared.Next.TheVariants.{Change};
 
 use records::LineFault;
@@ -20,14 +19,8 @@ pub struct Cursor {
     pub comment: u8,
 }
 
-// What a [Comment Char] line says: the new character, or its fault.
-#[derive(Clone, Copy)]
-pub enum ChangeRead {
-    To(u8),
-    Wrong(LineFault),
-}
-
-// The next text: what is left of a line; a [Comment Char] line with its fault, if any; or the line after the last.
+// The next text: what is left of a line; a [Comment Char] line with its fault, number 0 for none, as `change` of specs/Texts.antt has it; or the
+// line after the last.
 #[derive(Clone, Copy)]
 pub enum Next {
     Text {
@@ -79,22 +72,21 @@ fn changes(w: &[u8]) -> bool
 fn is_mark(b: u8) -> bool
     ensures { result ≡ among b marks }
 {
-    let marks = b"!\"#$%&'()*,:;<>?@\\^`{|}~";
-    words::find(marks, 0, b) < 24
+    b"!\"#$%&'()*,:;<>?@\\^`{|}~".contains(&b)
 }
 
 // Fault 10 at a place of the line.
-fn wrong_at(place: usize) -> ChangeRead
+fn wrong_at(place: usize) -> Result<u8, LineFault>
     requires { place < 2 ^ 63 }
-    ensures { result ≡ Wrong (at_place 10 place) }
+    ensures { result ≡ Err (at_place 10 place) }
 {
-    ChangeRead::Wrong(records::at_fault(10, place))
+    Err(records::at_fault(10, place))
 }
 
 // What the argument of a [Comment Char] line says: it lies from a place on.
-fn change_to(w: &[u8], at: usize) -> ChangeRead
+fn change_to(w: &[u8], at: usize) -> Result<u8, LineFault>
     requires { at ≤ length w.now }
-    ensures { result ≡ change_read (told_in w.now (change_to (drop at w.now))) }
+    ensures { result ≡ told_in w.now (change_to (drop at w.now)) }
 {
     if w.len() <= at {
         return wrong_at(at);
@@ -109,56 +101,46 @@ fn change_to(w: &[u8], at: usize) -> ChangeRead
     }
     let behind = words::skip_blanks(w, end);
     if w.len() <= behind {
-        return ChangeRead::To(x);
+        return Ok(x);
     }
     if w[behind] == x {
-        return ChangeRead::To(x);
+        return Ok(x);
     }
     wrong_at(behind)
 }
 
 // What a [Comment Char] line says.
-fn change_of(w: &[u8]) -> ChangeRead
-    ensures { result ≡ change_read (told_in w.now (change_of w.now)) }
+fn change_of(w: &[u8]) -> Result<u8, LineFault>
+    ensures { result ≡ told_in w.now (change_of w.now) }
 {
     if w.len() == 0 {
-        return ChangeRead::Wrong(records::bare_fault(5));
+        return Err(records::bare_fault(5));
     }
     let stop = words::find(w, 1, b']');
     if !keywords::closed_at(w, stop) {
-        return ChangeRead::Wrong(records::bare_fault(5));
+        return Err(records::bare_fault(5));
     }
     change_to(w, words::skip_blanks(w, stop + 1))
 }
 
 // A [Comment Char] line and the cursor behind it: a good one's character holds from there on.
-fn changed(line: u64, behind: usize, comment: u8, said: ChangeRead) -> Next
+fn changed(line: u64, behind: usize, comment: u8, said: Result<u8, LineFault>) -> Next
     requires { line < 2 ^ 63 }
-    ensures { result ≡ Change line (line_fault_in (change_says said)) (record { at = behind; line = line + 1; comment = or_else comment (change_says said) }) }
+    ensures { result ≡ Change line (line_fault_in said) (record { at = behind; line = line + 1; comment = or_else comment said }) }
 {
-    match said {
-        ChangeRead::To(x) => Next::Change {
-            line: line,
-            fault: records::bare_fault(0),
-            next: Cursor {
-                at: behind,
-                line: line + 1,
-                comment: x,
-            },
-        },
-        ChangeRead::Wrong(f) => Next::Change {
-            line: line,
-            fault: f,
-            next: Cursor {
-                at: behind,
-                line: line + 1,
-                comment: comment,
-            },
-        },
-    }
+    let (fault, comment) = match said {
+        Ok(x) => (records::bare_fault(0), x),
+        Err(f) => (f, comment),
+    };
+    let next = Cursor {
+        at: behind,
+        line: line + 1,
+        comment,
+    };
+    Next::Change { line, fault, next }
 }
 
-// The next text from a line's place and number on. They are numbers by themselves, so that they stay in registers.
+// The next text from a line's place and number on. They are numbers by themselves, so that they stay in registers; a turn is a line, not a byte.
 fn text_from(s: &[u8], from: usize, number: u64, comment: u8) -> Next
     requires { Placed s.now (record { at = from; line = number; comment = comment }) }
     ensures { NextIs s.now (record { at = from; line = number; comment = comment }) result }
@@ -173,21 +155,22 @@ fn text_from(s: &[u8], from: usize, number: u64, comment: u8) -> Next
             return changed(line, l.whole.next, comment, change_of(w));
         }
         if at < l.cut {
+            let next = Cursor {
+                at: l.whole.next,
+                line: line + 1,
+                comment,
+            };
             return Next::Text {
-                line: line,
+                line,
                 start: at,
                 end: l.cut,
-                next: Cursor {
-                    at: l.whole.next,
-                    line: line + 1,
-                    comment: comment,
-                },
+                next,
             };
         }
         at = l.whole.next;
         line += 1;
     }
-    Next::Out { line: line }
+    Next::Out { line }
 }
 
 // The next text.

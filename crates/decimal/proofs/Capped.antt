@@ -1,8 +1,8 @@
 -- Capped numbers: what the code keeps of a long number, and tens.
-use Prim.Native.Nat.{ℕ, zero, suc, ◌+◌, ◌-◌, ◌*◌, ◌^◌, ◌≤◌, ◌<◌, min}
+use Prim.Native.Nat.{ℕ, ◌+◌, ◌*◌, ◌^◌, ◌≤◌, min}
 use mathlib.Core.Path.{◌≡◌, sym, ap, ◌∙◌}
-use native.Mathlib.Nat.{not-suc-le-zero, le_of_lt, mul-one, le-mul_of_pos_right, mul_assoc, pow-succ', one-le-pow, min-eq_left, min-eq_right}
-use native.Mathlib.Numerals.{sub-one}
+use native.Mathlib.Nat.{le_of_lt, le-mul_of_pos_right, mul_assoc, pow-suc, one-le-pow, min-eq_left, min-eq_right}
+use native.Mathlib.Numerals.{add-one}
 use native.Mathlib.Omega.{arith}
 use Rattle.laws.proofs.Tests.{by_order}
 
@@ -18,24 +18,11 @@ capped-mul n p c h =
     ap (λ (x : ℕ). min (x * p) c) (min-eq_right (le_of_lt k))
     ∙ omega (arith, le-mul_of_pos_right c h, le-mul_of_pos_right n h))
 
--- one ten more, and the rest
-grow-step : (m z c : ℕ) → min (min (m * 10) c * 10 ^ z) c ≡ min (m * 10 ^ suc z) c
-grow-step m z c =
-    capped-mul (m * 10) (10 ^ z) c (ten-pos z)
-    ∙ ap (λ (x : ℕ). min x c) (mul_assoc m 10 (10 ^ z) ∙ ap (λ (x : ℕ). m * x) (sym (pow-succ' 10 z)))
-
-pub grow-turn : (m z c t : ℕ) → 0 < z → t ≡ min (m * 10 + 0) c → min (t * 10 ^ (z - 1)) c ≡ min (m * 10 ^ z) c
-grow-turn m zero c t h e = absurd (not-suc-le-zero h)
-grow-turn m (suc z) c t h e =
-    let q : t ≡ min (m * 10) c = omega arith in
-    ap (λ (x : ℕ). min (t * 10 ^ x) c) (sub-one (suc z))
-    ∙ ap (λ (x : ℕ). min (x * 10 ^ z) c) q
-    ∙ grow-step m z c
-
--- no ten left
-pub grow-end : (m z c : ℕ) → z ≤ 0 → m ≤ c → m ≡ min (m * 10 ^ z) c
-grow-end m zero c h k = sym (ap (λ (x : ℕ). min x c) (mul-one m) ∙ min-eq_left k)
-grow-end m (suc z) c h k = absurd (not-suc-le-zero h)
+-- one ten more
+pub grow-turn : (n z c g t : ℕ) → g ≡ min (n * 10 ^ z) c → t ≡ min (g * 10 + 0) c → t ≡ min (n * 10 ^ (z + 1)) c
+grow-turn n z c g t h e =
+    let p : n * 10 ^ (z + 1) ≡ n * 10 ^ z * 10 = ap (λ (k : ℕ). n * 10 ^ k) (add-one z) ∙ ap (λ (k : ℕ). n * k) (pow-suc 10 z) ∙ sym (mul_assoc n (10 ^ z) 10) in
+    omega (arith, h, e, p)
 
 -- the tens of a capped number, and then a digit
 pub grown : (n m z c g : ℕ) → n ≡ min m c → g ≡ min (n * 10 ^ z) c → g ≡ min (m * 10 ^ z) c

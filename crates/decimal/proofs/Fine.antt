@@ -1,4 +1,5 @@
 -- Every number that is read has at most 15 digits, a power from −40 to 24 and no trailing zero; so its cell comes back from its word.
+use Rattle.std.specs.Prelude.{Ok, Err}
 use Prim.Native.Nat.{ℕ, ◌+◌, ◌-◌, ◌*◌, ◌%◌, ◌^◌}
 use Prim.Native.Char.{code}
 use mathlib.Core.Path.{◌≡◌, refl, ap}
@@ -11,7 +12,7 @@ use lib.ListN.{length}
 use borrow.Author.Tests.{leb-true, leb-false, ltb-false, eqb-false}
 use Rattle.laws.specs.Bytes.{is_digit, is_letter}
 use Rattle.laws.specs.Lists.{front, after, all, trim, keep}
-use Rattle.laws.specs.Said.{Said, says, fault, read_on}
+use Rattle.laws.specs.Said.{Said, read_on}
 use Rattle.laws.proofs.Tests.{cond-all, and_first, and_second, or_left, or_right}
 use Rattle.laws.proofs.Fronts.{front-all, all_append}
 use Rattle.decimal.specs.declared.Cell.TheVariants.{Number, Missing}
@@ -27,7 +28,7 @@ unfolding ranged
 ranged-fine minus n up down =
     cond-all FineNumber (eqb n 0) _ _
     (λ h. record { digits = omega arith; power = omega arith })
-    (λ h. cond-all FineNumber (leb (10 ^ 15) n || ltb (up + 40) down || ltb (down + 24) up) (fault 12) _
+    (λ h. cond-all FineNumber (leb (10 ^ 15) n || ltb (up + 40) down || ltb (down + 24) up) (Err 12) _
     (λ k. (omega arith, omega arith))
     (λ k.
     let long = or_left (leb (10 ^ 15) n) (ltb (up + 40) down) (or_left _ (ltb (down + 24) up) k) in
@@ -37,16 +38,16 @@ ranged-fine minus n up down =
 unsigned-fine : (minus : Bool) (s : List ℕ) → FineNumber (unsigned minus s)
 unfolding unsigned result_of
 unsigned-fine minus s =
-    cond-all FineNumber (eqb (length (figures s)) 0) (fault 11) _ (λ h. (omega arith, omega arith))
-    (λ h. cond-all FineNumber (all is_letter (letters (after_figures s))) _ (fault 11) (λ k. ranged-fine minus _ _ _) (λ k. (omega arith, omega arith)))
+    cond-all FineNumber (eqb (length (figures s)) 0) (Err 11) _ (λ h. (omega arith, omega arith))
+    (λ h. cond-all FineNumber (all is_letter (letters (after_figures s))) _ (Err 11) (λ k. ranged-fine minus _ _ _) (λ k. (omega arith, omega arith)))
 
 pub number-fine : (w : List ℕ) → FineNumber (number_of w)
 unfolding number_of
 number-fine w = unsigned-fine (is_minus w) (after_sign w)
 
-fine-cell : (r : Said Decimal) → FineNumber r → FineRead (read_on r (λ d. says (Number d)))
-fine-cell (says d) h = h
-fine-cell (fault n) h = h
+fine-cell : (r : Said Decimal) → FineNumber r → FineRead (read_on r (λ d. Ok (Number d)))
+fine-cell (Ok d) h = h
+fine-cell (Err n) h = h
 
 pub given-fine : (w : List ℕ) → FineRead (given_cell w)
 unfolding given_cell
@@ -54,7 +55,7 @@ given-fine w = fine-cell (number_of w) (number-fine w)
 
 pub cell-fine : (w : List ℕ) → FineRead (cell_of w)
 unfolding cell_of
-cell-fine w = cond-all FineRead (is_missing w) (says Missing) _ (λ h. tt) (λ h. given-fine w)
+cell-fine w = cond-all FineRead (is_missing w) (Ok Missing) _ (λ h. tt) (λ h. given-fine w)
 
 -- ---- no trailing zero
 
@@ -103,15 +104,15 @@ unfolding ranged
 ranged-reduced minus n up down e =
     cond-all ReducedNumber (eqb n 0) _ _
     (λ h. inl refl)
-    (λ h. cond-all ReducedNumber (leb (10 ^ 15) n || ltb (up + 40) down || ltb (down + 24) up) (fault 12) _
+    (λ h. cond-all ReducedNumber (leb (10 ^ 15) n || ltb (up + 40) down || ltb (down + 24) up) (Err 12) _
     (λ k. tt)
     (λ k. ⊎_elim (λ z. absurd (eqb-false n 0 h z)) (λ f. inr f) e))
 
 unsigned-reduced : (minus : Bool) (s : List ℕ) → ReducedNumber (unsigned minus s)
 unfolding unsigned result_of
 unsigned-reduced minus s =
-    cond-all ReducedNumber (eqb (length (figures s)) 0) (fault 11) _ (λ h. tt)
-    (λ h. cond-all ReducedNumber (all is_letter (letters (after_figures s))) _ (fault 11)
+    cond-all ReducedNumber (eqb (length (figures s)) 0) (Err 11) _ (λ h. tt)
+    (λ h. cond-all ReducedNumber (all is_letter (letters (after_figures s))) _ (Err 11)
     (λ k. ranged-reduced minus _ _ _ (significant-ends (figures s) (figures-all s)))
     (λ k. tt))
 
@@ -119,10 +120,10 @@ pub number-reduced : (w : List ℕ) → ReducedNumber (number_of w)
 unfolding number_of
 number-reduced w = unsigned-reduced (is_minus w) (after_sign w)
 
-given-reduced : (r : Said Decimal) → ReducedNumber r → ReducedRead (read_on r (λ d. says (Number d)))
-given-reduced (says d) h = h
-given-reduced (fault n) h = tt
+given-reduced : (r : Said Decimal) → ReducedNumber r → ReducedRead (read_on r (λ d. Ok (Number d)))
+given-reduced (Ok d) h = h
+given-reduced (Err n) h = tt
 
 pub cell-reduced : (w : List ℕ) → ReducedRead (cell_of w)
 unfolding cell_of given_cell
-cell-reduced w = cond-all ReducedRead (is_missing w) (says Missing) _ (λ h. tt) (λ h. given-reduced (number_of w) (number-reduced w))
+cell-reduced w = cond-all ReducedRead (is_missing w) (Ok Missing) _ (λ h. tt) (λ h. given-reduced (number_of w) (number-reduced w))

@@ -20,16 +20,6 @@ unfolding numeral_from
 numeral-append n [] ys = refl
 numeral-append n (d ∷ xs) ys = numeral-append (n * 10 + (d - code "0")) xs ys
 
--- capping first changes nothing
-pub numeral-capped : (n : ℕ) (ds : List ℕ) → min (numeral_from (min n cap) ds) cap ≡ min (numeral_from n ds) cap
-unfolding numeral_from
-numeral-capped n [] = omega arith
-numeral-capped n (d ∷ ds) =
-    let e : min (min n cap * 10 + (d - 48)) cap ≡ min (n * 10 + (d - 48)) cap = omega arith in
-    sym (numeral-capped (min n cap * 10 + (d - 48)) ds)
-    ∙ ap (λ (k : ℕ). min (numeral_from k ds) cap) e
-    ∙ numeral-capped (n * 10 + (d - 48)) ds
-
 -- ---- "no trailing zero"
 
 zero_is : (b : ℕ) → is_zero b ≡ true → b ≡ code "0"
@@ -91,16 +81,20 @@ stands-zero n z b ds h s =
       cut = omega (arith, s.cut, ap length t, length-append ds (b ∷ []), trim-le is_zero ds);
     }
 
+-- the waiting zeros taken in
+pub stands-grown : (n z g : ℕ) (ds : List ℕ) → StandsFor n z ds → g ≡ min (n * 10 ^ z) cap → g ≡ min (numeral ds) cap
+stands-grown n z g ds s e =
+    grown n (numeral (significant ds)) z cap g s.number e
+    ∙ ap (λ (k : ℕ). min (numeral (significant ds) * 10 ^ k) cap) s.cut
+    ∙ ap (λ (k : ℕ). min k cap) (sym (significant-numeral ds))
+
 -- another digit takes the waiting zeros in
 pub stands-digit : (n z b g r : ℕ) (ds : List ℕ) → (b ≡ code "0" → ⊥) → StandsFor n z ds
     → g ≡ min (n * 10 ^ z) cap → r ≡ min (g * 10 + (b - code "0")) cap → StandsFor r 0 (ds ++ (b ∷ []))
 unfolding significant zeros_cut numeral numeral_from
 stands-digit n z b g r ds h s e q =
     let t = trim-kept is_zero b ds (zero-no b h) in
-    let v : g ≡ min (numeral ds) cap =
-    grown n (numeral (significant ds)) z cap g s.number e
-    ∙ ap (λ (k : ℕ). min (numeral (significant ds) * 10 ^ k) cap) s.cut
-    ∙ ap (λ (k : ℕ). min k cap) (sym (significant-numeral ds)) in
+    let v = stands-grown n z g ds s e in
     record {
       number = pushed g (numeral ds) (b - 48) cap r v q ∙ ap (λ (k : ℕ). min k cap) (sym (ap (numeral_from 0) t ∙ numeral-append 0 ds (b ∷ [])));
       cut = omega (arith, ap length t);

@@ -53,9 +53,6 @@ smaller-right m p n q r h s e =
     let l : n ≤ m * 10 ^ (p - q) = omega (arith, (div-lt_iff_lt-mul t).0 k) in
     lt-leb _ _ k ∙ sym (le-ltb _ _ (mul-le-mul_right (10 ^ q) l))))
 
-pub smaller-none : (x n q : ℕ) → n ≡ 0 → false ≡ ltb x (n * 10 ^ q)
-smaller-none x n q h = sym (le-ltb x (n * 10 ^ q) (omega (arith, ap (λ (k : ℕ). k * 10 ^ q) h ∙ zero-mul (10 ^ q))))
-
 -- ---- by signs
 
 module _ (a b : Decimal) where

@@ -5,7 +5,7 @@ use mathlib.Core.Path.{◌≡◌, refl, sym, ap, subst, ◌∙◌}
 use mathlib.Core.List.{List, [], ◌∷◌, ◌++◌, append_assoc, append-nil}
 use mathlib.Core.Bool.{true, false, ◌||◌}
 use mathlib.Core.Logic.{◌⊎◌, ⊎_elim}
-use native.Mathlib.Nat.{lt_of_lt_of_le, min-eq_left, pow-le-pow_right, pow-suc}
+use native.Mathlib.Nat.{lt_of_lt_of_le, pow-le-pow_right, pow-suc}
 use native.Mathlib.Numerals.{add-one}
 use native.Mathlib.Omega.{arith}
 use lib.ListN.{length, drop, get_or, drop_of_length-le, length-append}
@@ -22,7 +22,7 @@ use Rattle.decimal.specs.declared.word.Plain.{Plain}
 use Rattle.decimal.specs.Decimal.{is_minus, after_sign, point_places, after_point, figures, after_figures, after_e, exponent_digits, letters, numeral, numeral_from}
 use Rattle.decimal.specs.Parts.{cap, short, StandsFor, SignRead, DigitsRead, PlainRead, CappedRead, Spans, MantissaRead, ShortRead, ExponentRead}
 use Rattle.laws.proofs.Bytes.{digit-yes, digit-above, letter-below}
-use Rattle.decimal.proofs.Numerals.{numeral-append, numeral-capped, stands-none, stands-zero, stands-digit}
+use Rattle.decimal.proofs.Numerals.{numeral-append, stands-grown, stands-none, stands-zero, stands-digit}
 
 -- ---- digits: those from `at` up to i are passed
 
@@ -105,9 +105,6 @@ ten-more i m d h k =
     omega (arith, h, k, e)
 
 module _ (w : List ℕ) (at n : ℕ) where
-  pub goes_none : at ≤ length w → n < 10 ^ at → Goes w at n n at
-  goes_none h k = record { number = refl; stop = refl; from = omega arith; within = h; small = k }
-
   module _ (m i : ℕ) (p : Goes w at n m i) where
     pub goes-digit : i < length w → code "0" ≤ get_or w i 0 → get_or w i 0 ≤ code "9" → Goes w at n (m * 10 + (get_or w i 0 - code "0")) (i + 1)
     unfolding numeral_from front
@@ -136,47 +133,12 @@ module _ (w : List ℕ) (at n : ℕ) where
           small = p.small;
         }
 
--- ---- the same, capped
+-- ---- the number that digits say, capped: what was read of them with its waiting zeros
 
-pub record Capped (w : List ℕ) (at m i : ℕ) : Type 0 where
-  pub number : min (numeral_from m (front is_digit (drop i w))) cap ≡ min (numeral (front is_digit (drop at w))) cap
-  pub stop : i + length (front is_digit (drop i w)) ≡ at + length (front is_digit (drop at w))
-  pub within : i ≤ length w
-  pub small : m ≤ cap
-
-module _ (w : List ℕ) (at : ℕ) where
-  pub capped-none : at ≤ length w → Capped w at 0 at
-  unfolding numeral
-  capped-none h = record { number = refl; stop = refl; within = h; small = omega arith }
-
-  module _ (m i : ℕ) (p : Capped w at m i) where
-    pub capped-digit : (r : ℕ) → i < length w → code "0" ≤ get_or w i 0 → get_or w i 0 ≤ code "9" → r ≡ min (m * 10 + (get_or w i 0 - code "0")) cap
-        → Capped w at r (i + 1)
-    unfolding numeral_from front
-    capped-digit r h a b e =
-        let t = digit-yes (get_or w i 0) a b in
-        record {
-          number =
-              ap (λ (k : ℕ). min (numeral_from k (front is_digit (drop (i + 1) w))) cap) e
-              ∙ numeral-capped (m * 10 + (get_or w i 0 - 48)) (front is_digit (drop (i + 1) w))
-              ∙ sym (rw (from_cons w i 0 h, t))
-              ∙ p.number;
-          stop = front-more is_digit w i 0 h t ∙ p.stop;
-          within = omega arith;
-          small = omega arith;
-        }
-
-    -- no digit stands at i
-    pub capped-end : i + length (front is_digit (drop i w)) ≡ i → CappedRead w at (record { number = m; at = i })
-    unfolding numeral_from
-    capped-end e =
-        record {
-          number =
-              sym (ap (λ (l : List ℕ). min (numeral_from m l) cap) (none_of (front is_digit (drop i w)) (omega (arith, e))) ∙ min-eq_left p.small)
-              ∙ p.number;
-          stop = sym e ∙ p.stop;
-          within = p.within;
-        }
+pub capped-read : (w : List ℕ) (at r : ℕ) (d : Figures) → DigitsRead w at 0 0 d → r ≡ min (d.number * 10 ^ d.zeros) cap
+    → CappedRead w at (record { number = r; at = d.at })
+capped-read w at r d h e =
+    record { number = stands-grown _ _ r _ (h.stands [] stands-none) e; stop = h.stop; within = h.within }
 
 -- ---- the sign at a place: none where the word ends, or another byte stands there
 

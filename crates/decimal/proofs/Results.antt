@@ -1,4 +1,5 @@
 -- The result of a word: `ranged` by cases, what capping does to it (nothing), and `number_of` from what its parts say.
+use Rattle.std.specs.Prelude.{Ok, Err}
 use Prim.Native.Nat.{ℕ, ◌+◌, ◌-◌, ◌^◌, ◌≤◌, ◌<◌, min}
 use mathlib.Core.Path.{◌≡◌, sym, ap, subst, ◌∙◌}
 use mathlib.Core.List.{List, [], ◌∷◌}
@@ -10,7 +11,7 @@ use lib.ListN.{length, drop}
 use borrow.Author.Tests.{eq-eqb, ne_eqb, lt-ltb, le-ltb, le-leb, lt-leb}
 use Rattle.laws.specs.Bytes.{is_letter}
 use Rattle.laws.specs.Lists.{all}
-use Rattle.laws.specs.Said.{Said, says, fault}
+use Rattle.laws.specs.Said.{Said}
 use Rattle.laws.proofs.Tests.{by_order, cond_yes, cond_no, cond-all}
 use Rattle.decimal.specs.declared.word.Sign.{Sign}
 use Rattle.decimal.specs.declared.word.Mantissa.{Mantissa}
@@ -22,25 +23,25 @@ use Rattle.decimal.specs.Parts.{cap, StandsFor, SignRead, Spans, ExponentRead, p
 -- ---- `ranged`, by cases
 
 module _ (minus : Bool) (n up down : ℕ) where
-  pub ranged-zero : n ≡ 0 → ranged minus n up down ≡ says (record { negative = false; digits = 0; power = 40 })
+  pub ranged-zero : n ≡ 0 → ranged minus n up down ≡ Ok (record { negative = false; digits = 0; power = 40 })
   unfolding ranged
   ranged-zero h = cond_yes _ _ (eq-eqb n 0 h)
 
   module _ (h : n ≡ 0 → ⊥) where
-    pub ranged-long : 10 ^ 15 ≤ n → ranged minus n up down ≡ fault 12
+    pub ranged-long : 10 ^ 15 ≤ n → ranged minus n up down ≡ Err 12
     unfolding ranged
     ranged-long k = rw (ne_eqb n 0 h, le-leb (10 ^ 15) n k)
 
-    pub ranged-low : up + 40 < down → ranged minus n up down ≡ fault 12
+    pub ranged-low : up + 40 < down → ranged minus n up down ≡ Err 12
     unfolding ranged
     ranged-low k = rw (ne_eqb n 0 h, lt-ltb (up + 40) down k, or-true)
 
-    pub ranged-high : down + 24 < up → ranged minus n up down ≡ fault 12
+    pub ranged-high : down + 24 < up → ranged minus n up down ≡ Err 12
     unfolding ranged
     ranged-high k = rw (ne_eqb n 0 h, lt-ltb (down + 24) up k, or-true)
 
     pub ranged-value : n < 10 ^ 15 → down ≤ up + 40 → up ≤ down + 24
-        → ranged minus n up down ≡ says (record { negative = minus; digits = n; power = up + 40 - down })
+        → ranged minus n up down ≡ Ok (record { negative = minus; digits = n; power = up + 40 - down })
     unfolding ranged
     ranged-value k l m = rw (ne_eqb n 0 h, lt-leb (10 ^ 15) n k, le-ltb (up + 40) down l, le-ltb (down + 24) up m)
 
@@ -71,7 +72,7 @@ number-capped minus n up down =
 
 -- two that are both out of range, or both zero
 same-wrong : (minus : Bool) (n up down high low : ℕ)
-    → ((n ≡ 0 → ⊥) → ranged minus n up down ≡ fault 12) → ((n ≡ 0 → ⊥) → ranged minus n high low ≡ fault 12)
+    → ((n ≡ 0 → ⊥) → ranged minus n up down ≡ Err 12) → ((n ≡ 0 → ⊥) → ranged minus n high low ≡ Err 12)
     → ranged minus n up down ≡ ranged minus n high low
 same-wrong minus n up down high low f g =
     by_order n 0
@@ -118,10 +119,10 @@ module _ (minus : Bool) (n up down size : ℕ) (t : Bool) where
   signed-plus : t ≡ false → ranged minus n (up + size) (down + 0) ≡ raised
   signed-plus h = ap (λ (b : Bool). ranged minus n (up + cond b 0 size) (down + cond b size 0)) (sym h)
 
-  pub minus-out : t ≡ true → (n ≡ 0 → ⊥) → up + 40 < size → fault 12 ≡ raised
+  pub minus-out : t ≡ true → (n ≡ 0 → ⊥) → up + 40 < size → Err 12 ≡ raised
   minus-out h z k = sym (ranged-low minus n (up + 0) (down + size) z (omega arith)) ∙ signed-minus h
 
-  pub plus-out : t ≡ false → (n ≡ 0 → ⊥) → down + 24 < size → fault 12 ≡ raised
+  pub plus-out : t ≡ false → (n ≡ 0 → ⊥) → down + 24 < size → Err 12 ≡ raised
   plus-out h z k = sym (ranged-high minus n (up + size) (down + 0) z (omega arith)) ∙ signed-plus h
 
   pub minus-fits : t ≡ true → size ≤ up + 40 → ranged minus n (up + 40 - size) (down + 40) ≡ raised
@@ -166,7 +167,7 @@ module _ (w : List ℕ) (s : Sign) (hs : SignRead w 0 s) (m : Mantissa) (hm : Sp
   digits : Spans w body m
   digits = subst (λ (l : List ℕ). Spans w l m) hs.rest hm
 
-  pub number-none : m.count ≡ 0 → number_of w ≡ fault 11
+  pub number-none : m.count ≡ 0 → number_of w ≡ Err 11
   unfolding number_of unsigned
   number-none h = cond_yes _ _ (eq-eqb (length (figures body)) 0 (sym digits.count ∙ h))
 
@@ -177,11 +178,11 @@ module _ (w : List ℕ) (s : Sign) (hs : SignRead w 0 s) (m : Mantissa) (hm : Sp
     power : ExponentRead w end e
     power = subst (λ (l : List ℕ). ExponentRead w l e) digits.rest he
 
-    opened : number_of w ≡ cond (all is_letter (letters end)) (result_of (is_minus w) (figures body) (length (places body)) end) (fault 11)
+    opened : number_of w ≡ cond (all is_letter (letters end)) (result_of (is_minus w) (figures body) (length (places body)) end) (Err 11)
     unfolding number_of unsigned
     opened = cond_no _ _ (ne_eqb (length (figures body)) 0 (λ z. some (digits.count ∙ z)))
 
-    pub number-bad : all is_letter (drop e.at w) ≡ false → number_of w ≡ fault 11
+    pub number-bad : all is_letter (drop e.at w) ≡ false → number_of w ≡ Err 11
     number-bad h = opened ∙ cond_no _ _ (ap (all is_letter) (sym power.rest) ∙ h)
 
     pub number-good : all is_letter (drop e.at w) ≡ true → (u d : ℕ) → u ≡ scale_up (drop e.at w) → d ≡ scale_down (drop e.at w)

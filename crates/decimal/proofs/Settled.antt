@@ -1,4 +1,5 @@
 -- Trailing zeros: each turn puts one into the power, and what is left is the only number without them; and so `number_of` of a short word.
+use Rattle.std.specs.Prelude.{Result, Ok}
 use Prim.Native.Nat.{ℕ, zero, suc, ◌+◌, ◌-◌, ◌*◌, ◌/◌, ◌%◌, ◌^◌, ◌≤◌, ◌<◌}
 use mathlib.Core.Path.{◌≡◌, refl, sym, ap, ◌∙◌}
 use mathlib.Core.Bool.{Bool, true, false, cond}
@@ -13,11 +14,10 @@ use Rattle.laws.proofs.Tests.{by_order}
 use Rattle.decimal.specs.declared.word.Sign.{Sign}
 use Rattle.decimal.specs.declared.word.Mantissa.{Mantissa}
 use Rattle.decimal.specs.declared.word.Exponent.{Exponent}
-use Rattle.decimal.specs.declared.NumberRead.{NumberRead}
-use Rattle.decimal.specs.declared.NumberRead.TheVariants.{Value}
 use Rattle.decimal.specs.Decimal.{ranged, offset, number_of, figures, numeral, significant, zeros_cut, scale_up, scale_down}
 use Rattle.decimal.specs.Parts.{cap, short, StandsFor, SignRead, ShortRead, ExponentRead}
-use Rattle.decimal.specs.Answers.{number_read, Settles}
+use Rattle.decimal.specs.Answers.{Settles}
+use Rattle.decimal.specs.declared.Decimal.{Decimal}
 use Rattle.decimal.proofs.Capped.{ten-pos}
 use Rattle.decimal.proofs.Numerals.{significant-numeral}
 use Rattle.decimal.proofs.Parts.{exponent-letters}
@@ -71,8 +71,8 @@ module _ (n high : ℕ) where
               ∙ ap (λ (k : ℕ). digits / 10 * 10 ^ k) (sym e);
         }
 
-    pub left_end : (minus : Bool) (low : ℕ) (r : NumberRead) → (n ≡ 0 → ⊥) → (digits % 10 ≡ 0 → ⊥)
-        → r ≡ number_read (ranged minus digits power (low + offset)) → Settles minus n high low r
+    pub left_end : (minus : Bool) (low : ℕ) (r : Result Decimal ℕ) → (n ≡ 0 → ⊥) → (digits % 10 ≡ 0 → ⊥)
+        → r ≡ ranged minus digits power (low + offset) → Settles minus n high low r
     left_end minus low r h j e s z q f =
         ⊎_elim
         (λ k. absurd (h (q ∙ ap (λ (x : ℕ). x * 10 ^ z) k ∙ zero-mul (10 ^ z))))
@@ -80,14 +80,14 @@ module _ (n high : ℕ) where
         let g = reduced-same digits (power - high) s z (sym l.number ∙ q) j k in
         let p : power ≡ z + high = omega (arith, l.rises, g.1) in
         e
-        ∙ ap (λ (x : ℕ). number_read (ranged minus x power (low + offset))) g.0
-        ∙ ap (λ (x : ℕ). number_read (ranged minus s x (low + offset))) p)
+        ∙ ap (λ (x : ℕ). ranged minus x power (low + offset)) g.0
+        ∙ ap (λ (x : ℕ). ranged minus s x (low + offset)) p)
         f
 
-pub settle-zero : (minus : Bool) (n high low : ℕ) → n ≡ 0 → Settles minus n high low (Value (record { negative = false; digits = 0; power = 40 }))
+pub settle-zero : (minus : Bool) (n high low : ℕ) → n ≡ 0 → Settles minus n high low (Ok (record { negative = false; digits = 0; power = 40 }))
 settle-zero minus n high low h s z q f =
     by_order s 0
-    (λ k. let e : s ≡ 0 = omega arith in ap number_read (sym (ranged-zero minus s (z + high) (low + offset) e)))
+    (λ k. let e : s ≡ 0 = omega arith in (sym (ranged-zero minus s (z + high) (low + offset) e)))
     (λ k. absurd (omega (arith, le-mul_of_pos_right s (ten-pos z), q, h)))
 
 -- ---- `number_of` of a short word
@@ -114,7 +114,7 @@ module _ (w : List ℕ) (few : length w ≤ short) (s : Sign) (hs : SignRead w 0
   pub number_short : (m.count ≡ 0 → ⊥) → (e : Exponent) → ExponentRead w (drop m.at w) e → all is_letter (drop e.at w) ≡ true
       → (u d : ℕ) → u ≡ scale_up (drop e.at w) → d ≡ scale_down (drop e.at w)
       → (high low : ℕ) → high ≡ u + 40 + cond e.minus 0 e.size → low ≡ m.places + d + cond e.minus e.size 0
-      → (r : NumberRead) → Settles s.minus m.number high low r → r ≡ number_read (number_of w)
+      → (r : Result Decimal ℕ) → Settles s.minus m.number high low r → r ≡ number_of w
   number_short some e he h u d hu hd high low hh hl r f =
       let n = numeral (significant found) in
       let z = zeros_cut found in
@@ -125,7 +125,7 @@ module _ (w : List ℕ) (few : length w ≤ short) (s : Sign) (hs : SignRead w 0
       let plus = cond e.minus 0 e.size in
       let minus = cond e.minus e.size 0 in
       f n z whole (significant-ends found (figures-all (drop s.at w)))
-      ∙ ap number_read
+      ∙
       (ranged-shift s.minus n (z + high) (low + 40) (z + u + plus) (m.places + d + minus) (omega (arith, hh, hl))
       ∙ number-good w s hs m p some e he h u d hu hd n z exact
       (omega (arith, few, su, zl, p.count, p.some))
@@ -134,6 +134,6 @@ module _ (w : List ℕ) (few : length w ≤ short) (s : Sign) (hs : SignRead w 0
   -- with letters alone behind the digits
   pub number-plain : (m.count ≡ 0 → ⊥) → all is_letter (drop m.at w) ≡ true
       → (u d : ℕ) → u ≡ scale_up (drop m.at w) → d ≡ scale_down (drop m.at w)
-      → (r : NumberRead) → Settles s.minus m.number (u + 40) (m.places + d) r → r ≡ number_read (number_of w)
+      → (r : Result Decimal ℕ) → Settles s.minus m.number (u + 40) (m.places + d) r → r ≡ number_of w
   number-plain some h u d hu hd r f =
       number_short some _ (exponent-letters w m.at hm.spans.within h) h u d hu hd (u + 40) (m.places + d) (omega arith) (omega arith) r f

@@ -1,37 +1,19 @@
 -- What the code's answers say: document 01's number or value for each case, also as one word; and a word of the row store as a cell.
-use Rattle.std.specs.Prelude.{ℕ, ◌+◌, ◌-◌, ◌*◌, ◌/◌, ◌%◌, ◌^◌, ◌≡◌, Bool, cond, ◌⊎◌, eqb, ltb}
-use Rattle.laws.specs.Said.{Said, says, fault}
+use Rattle.std.specs.Prelude.{ℕ, ◌+◌, ◌-◌, ◌*◌, ◌/◌, ◌%◌, ◌^◌, ◌≡◌, Bool, cond, ◌⊎◌, eqb, ltb, Ok, Err, Result}
+use Rattle.laws.specs.Said.{Said}
 use Rattle.decimal.specs.Decimal.{missing_word, word_of, offset, ranged}
 use Rattle.decimal.specs.declared.Decimal.{Decimal}
 use Rattle.decimal.specs.declared.Cell.{Cell}
 use Rattle.decimal.specs.declared.Cell.TheVariants.{Number, Missing}
-use Rattle.decimal.specs.declared.NumberRead.{NumberRead}
-use Rattle.decimal.specs.declared.NumberRead.TheVariants.{Value, Wrong}
-use Rattle.decimal.specs.declared.CellRead.{CellRead}
-use Rattle.decimal.specs.declared.CellRead.TheVariants.{Read, Bad}
 
 -- the answer that says this
-abbrev pub number_read : Said Decimal → NumberRead
-number_read (says d) = Value d
-number_read (fault n) = Wrong n
-
-abbrev pub cell_read : Said Cell → CellRead
-cell_read (says c) = Read c
-cell_read (fault n) = Bad n
 
 -- and what an answer says
-abbrev pub number_says : NumberRead → Said Decimal
-number_says (Value d) = says d
-number_says (Wrong n) = fault n
-
-abbrev pub cell_says : CellRead → Said Cell
-cell_says (Read c) = says c
-cell_says (Bad n) = fault n
 
 -- what n says with the power high less low, which has the offset added: of n as s times ten to the z, where s has no trailing zero
-abbrev pub Settles : Bool → ℕ → ℕ → ℕ → NumberRead → Type 0
+abbrev pub Settles : Bool → ℕ → ℕ → ℕ → Result Decimal ℕ → Type 0
 Settles minus n high low r =
-    (s z : ℕ) → n ≡ s * 10 ^ z → (s ≡ 0) ⊎ (s % 10 ≡ 0 → ⊥) → r ≡ number_read (ranged minus s (z + high) (low + offset))
+    (s z : ℕ) → n ≡ s * 10 ^ z → (s ≡ 0) ⊎ (s % 10 ≡ 0 → ⊥) → r ≡ ranged minus s (z + high) (low + offset)
 
 -- ---- an answer as one word
 
@@ -40,12 +22,12 @@ abbrev pub fault_word : ℕ → ℕ
 fault_word n = missing_word - 1 - n
 
 abbrev pub number_word : Said Decimal → ℕ
-number_word (says d) = word_of (Number d)
-number_word (fault n) = fault_word n
+number_word (Ok d) = word_of (Number d)
+number_word (Err n) = fault_word n
 
 abbrev pub cell_word : Said Cell → ℕ
-cell_word (says c) = word_of c
-cell_word (fault n) = fault_word n
+cell_word (Ok c) = word_of c
+cell_word (Err n) = fault_word n
 
 -- no number has a word from here on
 abbrev pub past_numbers : ℕ

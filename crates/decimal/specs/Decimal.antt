@@ -1,10 +1,10 @@
 -- What a word says as a number and as a cell, how numbers are ordered, and a cell as one word: document 01, "Numbers".
 -- A word is the list of its bytes. All numbers here are unbounded.
-use Rattle.std.specs.Prelude.{ℕ, ◌+◌, ◌-◌, ◌*◌, ◌%◌, ◌^◌, List, [], ◌∷◌, ◌++◌, map, Bool, false, cond, ◌||◌, ltb, leb, eqb, length, drop}
+use Rattle.std.specs.Prelude.{ℕ, ◌+◌, ◌-◌, ◌*◌, ◌%◌, ◌^◌, List, [], ◌∷◌, ◌++◌, map, Bool, false, cond, ◌||◌, ltb, leb, eqb, length, drop, Ok, Err}
 use Prim.Native.Char.{code}
 use Rattle.laws.specs.Bytes.{bytes, is_digit, is_letter, capital}
 use Rattle.laws.specs.Lists.{front, after, trim, begins, all, eqs}
-use Rattle.laws.specs.Said.{Said, says, fault, read_on}
+use Rattle.laws.specs.Said.{Said, read_on}
 use Rattle.decimal.specs.declared.Decimal.{Decimal}
 use Rattle.decimal.specs.declared.Cell.{Cell}
 use Rattle.decimal.specs.declared.Cell.TheVariants.{Number, Missing}
@@ -90,9 +90,9 @@ offset = 40
 -- "zero is 0 and power 0". "More than 15 digits, or a power outside −40 to 24, is fault 12"
 unfoldable pub ranged : Bool → ℕ → ℕ → ℕ → Said Decimal
 ranged minus n up down =
-    cond (eqb n 0) (says (record { negative = false; digits = 0; power = offset }))
-    (cond (leb (10 ^ 15) n || ltb (up + offset) down || ltb (down + 24) up) (fault 12)
-    (says (record { negative = minus; digits = n; power = up + offset - down })))
+    cond (eqb n 0) (Ok (record { negative = false; digits = 0; power = offset }))
+    (cond (leb (10 ^ 15) n || ltb (up + offset) down || ltb (down + 24) up) (Err 12)
+    (Ok (record { negative = minus; digits = n; power = up + offset - down })))
 
 -- from the digits, the count of places, and what follows them
 unfoldable pub result_of : Bool → List ℕ → ℕ → List ℕ → Said Decimal
@@ -104,8 +104,8 @@ result_of minus ds count s =
 -- "at least one digit", "then letters only": else fault 11, not a number
 unfoldable pub unsigned : Bool → List ℕ → Said Decimal
 unsigned minus s =
-    cond (eqb (length (figures s)) 0) (fault 11)
-    (cond (all is_letter (letters (after_figures s))) (result_of minus (figures s) (length (point_places (after is_digit s))) (after_figures s)) (fault 11))
+    cond (eqb (length (figures s)) 0) (Err 11)
+    (cond (all is_letter (letters (after_figures s))) (result_of minus (figures s) (length (point_places (after is_digit s))) (after_figures s)) (Err 11))
 
 unfoldable pub number_of : List ℕ → Said Decimal
 number_of w = unsigned (is_minus w) (after_sign w)
@@ -117,10 +117,10 @@ is_missing w = eqs (map capital w) (bytes "NA")
 
 -- a number where none may be missing
 unfoldable pub given_cell : List ℕ → Said Cell
-given_cell w = read_on (number_of w) (λ d. says (Number d))
+given_cell w = read_on (number_of w) (λ d. Ok (Number d))
 
 unfoldable pub cell_of : List ℕ → Said Cell
-cell_of w = cond (is_missing w) (says Missing) (given_cell w)
+cell_of w = cond (is_missing w) (Ok Missing) (given_cell w)
 
 -- ---- "Order between numbers is exact": sizes count in units of ten to the −40
 

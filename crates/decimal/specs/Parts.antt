@@ -1,5 +1,5 @@
 -- What the private functions answer about the parts of a word. The code keeps a long number as itself or `cap`, whichever is less.
-use Rattle.std.specs.Prelude.{ℕ, ◌+◌, ◌^◌, ◌≤◌, ◌<◌, min, ◌≡◌, List, ◌++◌, Bool, cond, eqb, ltb, length, drop}
+use Rattle.std.specs.Prelude.{ℕ, ◌+◌, ◌^◌, ◌≤◌, ◌<◌, min, ◌≡◌, List, ◌++◌, Bool, cond, eqb, length, drop}
 use Prim.Native.Char.{code}
 use Rattle.laws.specs.Bytes.{is_digit}
 use Rattle.laws.specs.Lists.{front, after}
@@ -81,7 +81,7 @@ pub record ShortRead (w s : List ℕ) (r : Mantissa) : Type 0 where
   pub spans : Spans w s r
   pub small : r.number < cap
 
--- the sign and the digits of a short word
+-- the sign and the digits of a short word, which has some
 pub record BegunRead (w : List ℕ) (r : Begun) : Type 0 where
   pub start : ℕ
   pub zeros : ℕ
@@ -89,7 +89,7 @@ pub record BegunRead (w : List ℕ) (r : Begun) : Type 0 where
   pub few : length w ≤ short
   pub sign : SignRead w 0 (record { minus = r.minus; at = start })
   pub mantissa : ShortRead w (drop start w) (record { number = r.number; zeros = zeros; count = count; places = r.places; at = r.at })
-  pub any : r.some ≡ ltb 0 count
+  pub some : 0 < count
 
 -- the exponent, in the word w, where s begins with it or with a letter
 pub record ExponentRead (w s : List ℕ) (r : Exponent) : Type 0 where

@@ -3,8 +3,8 @@
 
 ghost use Rattle.std.specs.Prelude.{cond, ◌≡◌, ◌+◌, ◌/◌, ◌^◌, ◌<◌, ltb};
 ghost use Rattle.decimal.specs.Decimal.{number_of, given_cell, cell_of, is_missing, less_than, size_of, above_zero, word_of, ranged, offset};
-ghost use Rattle.decimal.specs.Parts.{cap, sign_bit, BegunRead};
-ghost use Rattle.decimal.specs.Answers.{number_read, cell_read, number_word, cell_word, past_numbers, fault_at, decimal_in, cell_in, Settles};
+ghost use Rattle.decimal.specs.Parts.{cap, BegunRead};
+ghost use Rattle.decimal.specs.Answers.{number_word, cell_word, past_numbers, fault_at, decimal_in, cell_in, Settles};
 ghost use Rattle.decimal.specs.declared.Cell.TheVariants.{Number};
 
 mod word; // word.rt: the parts of a word
@@ -23,31 +23,16 @@ pub struct Decimal {
     pub negative: bool,
 }
 
-// A cell of a table: a number, or missing (NA).
+// A cell of a table: a number, or missing (NA). No Option: a cell that says NA and a cell that nobody gave (`Option<Cell>`) are two things.
 #[derive(Clone, Copy)]
 pub enum Cell {
     Number(Decimal),
     Missing,
 }
 
-// What a word says as a number. Wrong holds the fault: 11 not a number, 12 out of range.
-#[derive(Clone, Copy)]
-pub enum NumberRead {
-    Value(Decimal),
-    Wrong(u8),
-}
-
-// What a word says as a cell, or the fault.
-#[derive(Clone, Copy)]
-pub enum CellRead {
-    Read(Cell),
-    Bad(u8),
-}
-
-// What was read of a short word: its sign and its digits, if there are some. They end at `at`.
+// What was read of a short word: its sign and its digits, of which there are some. They end at `at`.
 #[derive(Clone, Copy)]
 struct Begun {
-    some: bool,
     minus: bool,
     number: u64,
     places: u64,
@@ -75,21 +60,22 @@ const PAST_NUMBERS: u64 = 9_223_372_036_854_775_808;
 
 const FAULTS: u64 = MISSING - 1;
 
-// number with the power high less low, which has LOWEST added.
-fn fit(minus: bool, number: u64, high: u64, low: u64) -> NumberRead
+// number with the power high less low, which has LOWEST added. What a word says is `Said` (laws): its error is document 01's number, 11 not a number,
+// 12 out of range, and an enum here would be a second name for it.
+fn fit(minus: bool, number: u64, high: u64, low: u64) -> Result<Decimal, u8>
     requires { (0 < number) × (low < 2 ^ 63 + 100) }
-    ensures { result ≡ number_read (ranged minus number high (low + offset)) }
+    ensures { result ≡ ranged minus number high (low + offset) }
 {
     if LIMIT <= number {
-        return NumberRead::Wrong(12);
+        return Err(12);
     }
     if high < low {
-        return NumberRead::Wrong(12);
+        return Err(12);
     }
     if low + SPAN < high {
-        return NumberRead::Wrong(12);
+        return Err(12);
     }
-    NumberRead::Value(Decimal {
+    Ok(Decimal {
         negative: minus,
         digits: number,
         power: (high - low) as u8,
@@ -97,12 +83,12 @@ fn fit(minus: bool, number: u64, high: u64, low: u64) -> NumberRead
 }
 
 // The same of a number that may be zero or have trailing zeros, which go into the power.
-fn settle(minus: bool, number: u64, high: u64, low: u64) -> NumberRead
+fn settle(minus: bool, number: u64, high: u64, low: u64) -> Result<Decimal, u8>
     requires { (number < cap) × (high < 100) × (low < 100) }
     ensures { Settles minus number high low result }
 {
     if number == 0 {
-        return NumberRead::Value(Decimal {
+        return Ok(Decimal {
             negative: false,
             digits: 0,
             power: 40,
@@ -110,6 +96,7 @@ fn settle(minus: bool, number: u64, high: u64, low: u64) -> NumberRead
     }
     let mut digits = number;
     let mut power = high;
+    // The digits say how often, so no range does.
     while digits % 10 == 0 {
         digits = digits / 10;
         power += 1;
@@ -118,38 +105,38 @@ fn settle(minus: bool, number: u64, high: u64, low: u64) -> NumberRead
 }
 
 // number with the power up less down, and the exponent. Its size is only taken off: added, it could wrap.
-fn finish(minus: bool, number: u64, up: u64, down: u64, exponent: Exponent) -> NumberRead
+fn finish(minus: bool, number: u64, up: u64, down: u64, exponent: Exponent) -> Result<Decimal, u8>
     requires { (up < 2 ^ 63 + 20) × (down < 2 ^ 63 + 20) }
-    ensures { result ≡ number_read (ranged minus number (up + cond exponent.minus 0 exponent.size) (down + cond exponent.minus exponent.size 0)) }
+    ensures { result ≡ ranged minus number (up + cond exponent.minus 0 exponent.size) (down + cond exponent.minus exponent.size 0) }
 {
     if number == 0 {
         return settle(minus, number, 0, 0);
     }
     if exponent.minus {
         if up + LOWEST < exponent.size {
-            return NumberRead::Wrong(12);
+            return Err(12);
         }
         return fit(minus, number, up + LOWEST - exponent.size, down);
     }
     if down + HIGHEST < exponent.size {
-        return NumberRead::Wrong(12);
+        return Err(12);
     }
     fit(minus, number, up + SPAN, down + HIGHEST - exponent.size)
 }
 
 // What any word says as a number.
-fn any_number(w: &[u8]) -> NumberRead
-    ensures { result ≡ number_read (number_of w.now) }
+fn any_number(w: &[u8]) -> Result<Decimal, u8>
+    ensures { result ≡ number_of w.now }
 {
     let sign = sign_at(w, 0);
     let mantissa = mantissa_at(w, sign.at);
     if mantissa.count == 0 {
-        return NumberRead::Wrong(11);
+        return Err(11);
     }
     let exponent = exponent_at(w, mantissa.at);
     let at = exponent.at;
     if !letters_from(w, at) {
-        return NumberRead::Wrong(11);
+        return Err(11);
     }
     let up = mantissa.zeros + scale_up(w, at);
     let down = mantissa.places + scale_down(w, at);
@@ -157,17 +144,15 @@ fn any_number(w: &[u8]) -> NumberRead
 }
 
 // The same of a short word, from what was read of it. A size up to LOWEST leaves both sides of the power small enough to settle.
-fn with_exponent(w: &[u8], begun: Begun) -> NumberRead
+#[inline(never)]
+fn with_exponent(w: &[u8], begun: Begun) -> Result<Decimal, u8>
     requires { BegunRead w.now begun }
-    ensures { result ≡ number_read (number_of w.now) }
+    ensures { result ≡ number_of w.now }
 {
-    if !begun.some {
-        return NumberRead::Wrong(11);
-    }
     let exponent = exponent_at(w, begun.at);
     let at = exponent.at;
     if !letters_from(w, at) {
-        return NumberRead::Wrong(11);
+        return Err(11);
     }
     let size = exponent.size;
     if LOWEST < size {
@@ -182,9 +167,9 @@ fn with_exponent(w: &[u8], begun: Begun) -> NumberRead
 }
 
 // What any word says as a number, soonest for a short one that has letters alone behind its digits. Every word would pay for the slow ways
-// if their answers were handed on straight, if w itself were handed on, or if with_exponent had one call alone, which the compiler would take in.
-fn number_read(w: &[u8]) -> NumberRead
-    ensures { result ≡ number_read (number_of w.now) }
+// if their answers were handed on straight, if w itself were handed on, or if the compiler took with_exponent in.
+fn number_read(w: &[u8]) -> Result<Decimal, u8>
+    ensures { result ≡ number_of w.now }
 {
     if SHORT < w.len() {
         let slow = any_number(&w[0..]);
@@ -194,19 +179,10 @@ fn number_read(w: &[u8]) -> NumberRead
     let mantissa = short_mantissa_at(w, sign.at);
     let at = mantissa.at;
     if mantissa.count == 0 {
-        let none = Begun {
-            some: false,
-            minus: sign.minus,
-            number: mantissa.number,
-            places: mantissa.places,
-            at: at,
-        };
-        let slow = with_exponent(&w[0..], none);
-        return slow;
+        return Err(11);
     }
     if !letters_from(w, at) {
         let begun = Begun {
-            some: true,
             minus: sign.minus,
             number: mantissa.number,
             places: mantissa.places,
@@ -225,8 +201,8 @@ pub fn number_word(w: &[u8]) -> u64
     ensures { result ≡ number_word (number_of w.now) }
 {
     match number_read(w) {
-        NumberRead::Value(d) => word_of_number(d),
-        NumberRead::Wrong(fault) => FAULTS - fault as u64,
+        Ok(d) => word_of_number(d),
+        Err(fault) => FAULTS - fault as u64,
     }
 }
 
@@ -244,50 +220,39 @@ pub fn fault_at(w: u64) -> u64
 }
 
 // What any word says as a number.
-pub fn number_of(w: &[u8]) -> NumberRead
-    ensures { result ≡ number_read (number_of w.now) }
+pub fn number_of(w: &[u8]) -> Result<Decimal, u8>
+    ensures { result ≡ number_of w.now }
 {
     let answer = number_word(w);
     if answer < PAST_NUMBERS {
-        return NumberRead::Value(decimal_in(answer));
+        return Ok(decimal_in(answer));
     }
-    NumberRead::Wrong((FAULTS - answer) as u8)
+    Err((FAULTS - answer) as u8)
 }
 
 // Is the word NA, in any letter case?
 fn missing(w: &[u8]) -> bool
     ensures { result ≡ is_missing w.now }
 {
-    if w.len() != 2 {
-        return false;
-    }
-    let first = w[0];
-    let second = w[1];
-    match first {
-        b'N' | b'n' => match second {
-            b'A' | b'a' => true,
-            _ => false,
-        },
-        _ => false,
-    }
+    matches!(w, [b'N' | b'n', b'A' | b'a'])
 }
 
 // What a word says as a cell that may not be missing.
-pub fn given_cell(w: &[u8]) -> CellRead
-    ensures { result ≡ cell_read (given_cell w.now) }
+pub fn given_cell(w: &[u8]) -> Result<Cell, u8>
+    ensures { result ≡ given_cell w.now }
 {
     match number_of(w) {
-        NumberRead::Value(d) => CellRead::Read(Cell::Number(d)),
-        NumberRead::Wrong(fault) => CellRead::Bad(fault),
+        Ok(d) => Ok(Cell::Number(d)),
+        Err(fault) => Err(fault),
     }
 }
 
 // What a word says as a cell.
-pub fn cell_of(w: &[u8]) -> CellRead
-    ensures { result ≡ cell_read (cell_of w.now) }
+pub fn cell_of(w: &[u8]) -> Result<Cell, u8>
+    ensures { result ≡ cell_of w.now }
 {
     if missing(w) {
-        return CellRead::Read(Cell::Missing);
+        return Ok(Cell::Missing);
     }
     given_cell(w)
 }
@@ -306,13 +271,10 @@ pub fn cell_word(w: &[u8]) -> u64
 fn shrink(number: u64, count: u8) -> u64
     ensures { result ≡ number / 10 ^ count }
 {
-    let mut rest = number;
-    let mut left = count;
-    while 0 < left {
-        rest = rest / 10;
-        left -= 1;
+    match 10u64.checked_pow(count as u32) {
+        Some(power) => number / power,
+        None => 0,
     }
-    rest
 }
 
 // Is a below b, signs aside? The one with the lower power is cut to whole units of the other, so that nothing grows.
@@ -328,7 +290,7 @@ fn smaller(a: Decimal, b: Decimal) -> bool
     a.digits <= shrink(b.digits - 1, a.power - b.power)
 }
 
-// Is a below b?
+// Is a below b? Decimal has no PartialOrd: it asks for an equality by which ten and 1e1 are one, as are zero and minus zero, and nobody asks for that.
 pub fn less(a: Decimal, b: Decimal) -> bool
     ensures { result ≡ less_than a b }
 {
@@ -357,17 +319,11 @@ pub fn above_zero(d: Decimal) -> bool
     0 < d.digits
 }
 
-fn bit(b: bool) -> u64
-    ensures { result ≡ sign_bit b }
-{
-    if b { 1 } else { 0 }
-}
-
 // A number as one word of the row store: 50 bits of digits, eight of power and one of sign.
 fn word_of_number(d: Decimal) -> u64
     ensures { result ≡ word_of (Number d) }
 {
-    d.digits % LIMIT * 512 + d.power as u64 * 2 + bit(d.negative)
+    d.digits % LIMIT * 512 + d.power as u64 * 2 + u64::from(d.negative)
 }
 
 // A cell as one word of the row store.

@@ -1,6 +1,6 @@
 // The parts of a word, from a place on: sign, digits, exponent, letters.
 ghost use Rattle.std.specs.Prelude.{◌≡◌, ◌+◌, ◌*◌, ◌^◌, ◌≤◌, ◌<◌, min, length, drop};
-ghost use Rattle.laws.specs.Bytes.{is_capital, is_small, is_letter};
+ghost use Rattle.laws.specs.Bytes.{is_letter};
 ghost use Rattle.laws.specs.Lists.{all};
 ghost use Rattle.decimal.specs.Decimal.{after_e, scale_up, scale_down};
 ghost use Rattle.decimal.specs.Parts.{cap, short, SignRead, DigitsRead, PlainRead, CappedRead, MantissaRead, ShortRead, ExponentRead};
@@ -64,10 +64,8 @@ fn grow(number: u64, zeros: u64) -> u64
     ensures { result ≡ min (number * 10 ^ zeros) cap }
 {
     let mut grown = number;
-    let mut left = zeros;
-    while 0 < left {
+    for _ in 0..zeros {
         grown = push(grown, 0);
-        left -= 1;
     }
     grown
 }
@@ -113,8 +111,7 @@ fn digits_at(w: &[u8], at: usize, number: u64, zeros: u64) -> Figures
 {
     let mut read = number;
     let mut waiting = zeros;
-    let mut i = at;
-    while i < w.len() {
+    for i in at..w.len() {
         let byte = w[i];
         match byte {
             b'0' => {
@@ -124,14 +121,19 @@ fn digits_at(w: &[u8], at: usize, number: u64, zeros: u64) -> Figures
                 read = push(grow(read, waiting), (byte - b'0') as u64);
                 waiting = 0;
             }
-            _ => break,
+            _ => {
+                return Figures {
+                    number: read,
+                    zeros: waiting,
+                    at: i,
+                };
+            }
         }
-        i += 1;
     }
     Figures {
         number: read,
         zeros: waiting,
-        at: i,
+        at: w.len(),
     }
 }
 
@@ -170,24 +172,28 @@ fn plain_at(w: &[u8], at: usize, number: u64) -> Plain
     ensures { PlainRead w.now at number result }
 {
     let mut read = number;
-    let mut i = at;
-    while i < w.len() {
+    for i in at..w.len() {
         let byte = w[i];
         match byte {
             b'0'..=b'9' => {
                 read = read * 10 + (byte - b'0') as u64;
             }
-            _ => break,
+            _ => {
+                return Plain {
+                    number: read,
+                    at: i,
+                };
+            }
         }
-        i += 1;
     }
     Plain {
         number: read,
-        at: i,
+        at: w.len(),
     }
 }
 
-// The digits from `at` on, with at most one point, in a short word: the number still has its trailing zeros.
+// The digits from `at` on, with at most one point, in a short word: the number still has its trailing zeros. It differs from mantissa_at in what it
+// promises of the number, and a scan handed in would have to promise it for both.
 pub(crate) fn short_mantissa_at(w: &[u8], at: usize) -> Mantissa
     requires { (at ≤ length w.now) × (length w.now ≤ short) }
     ensures { ShortRead w.now (drop at w.now) result }
@@ -221,21 +227,10 @@ fn capped_at(w: &[u8], at: usize) -> Plain
     requires { at ≤ length w.now }
     ensures { CappedRead w.now at result }
 {
-    let mut read = 0;
-    let mut i = at;
-    while i < w.len() {
-        let byte = w[i];
-        match byte {
-            b'0'..=b'9' => {
-                read = push(read, (byte - b'0') as u64);
-            }
-            _ => break,
-        }
-        i += 1;
-    }
+    let digits = digits_at(w, at, 0, 0);
     Plain {
-        number: read,
-        at: i,
+        number: grow(digits.number, digits.zeros),
+        at: digits.at,
     }
 }
 
@@ -281,31 +276,10 @@ pub(crate) fn exponent_at(w: &[u8], at: usize) -> Exponent
     }
 }
 
-fn capital(byte: u8) -> bool
-    ensures { result ≡ is_capital byte }
-{
-    match byte {
-        b'A'..=b'Z' => true,
-        _ => false,
-    }
-}
-
-fn small(byte: u8) -> bool
-    ensures { result ≡ is_small byte }
-{
-    match byte {
-        b'a'..=b'z' => true,
-        _ => false,
-    }
-}
-
 pub fn letter(byte: u8) -> bool
     ensures { result ≡ is_letter byte }
 {
-    if capital(byte) {
-        return true;
-    }
-    small(byte)
+    byte.is_ascii_alphabetic()
 }
 
 // Is every byte from `at` on a letter?
@@ -313,14 +287,7 @@ pub(crate) fn letters_from(w: &[u8], at: usize) -> bool
     requires { at ≤ length w.now }
     ensures { result ≡ all is_letter (drop at w.now) }
 {
-    let mut i = at;
-    while i < w.len() {
-        if !letter(w[i]) {
-            return false;
-        }
-        i += 1;
-    }
-    true
+    w[at..].iter().all(|b| letter(*b))
 }
 
 // What the letter at `at` adds to the power.

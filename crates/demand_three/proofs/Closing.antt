@@ -1,4 +1,5 @@
 -- A line that opens a section or is [End]: it closes what is open, and what it then does hangs on that line alone.
+use Rattle.std.specs.Prelude.{Ok, Err}
 use Prim.Native.Nat.{ℕ}
 use mathlib.Core.Path.{◌≡◌, refl, sym, ap, ◌∙◌}
 use mathlib.Core.List.{List}
@@ -8,7 +9,7 @@ use lib.Dec.{eqb}
 use borrow.Author.Tests.{not-false}
 use Rattle.laws.specs.Bytes.{bytes, is_blank}
 use Rattle.laws.specs.Lists.{eqs, one_of}
-use Rattle.laws.specs.Said.{Said, says, fault, or_fault}
+use Rattle.laws.specs.Said.{Said, or_fault}
 use Rattle.laws.proofs.Tests.{by-test, cond_yes, cond_no, cond_map, and_second}
 use Rattle.laws.proofs.Same.{eqs-eq}
 use Rattle.words.specs.Words.{words, grown, onto_word}
@@ -23,7 +24,7 @@ use Rattle.records.specs.Flaws.{told}
 use Rattle.records.specs.declared.Fault.{Fault}
 use Rattle.cut_lines.specs.Texts.{Text, plain}
 use Rattle.line_rules.specs.Fields.{is_bracketed, no_argument}
-use Rattle.rules.specs.Going.{stop, stop_at, unless, passes, refuse, and_then}
+use Rattle.rules.specs.Going.{stop, stop_at, unless, passes, refuse, and_then, Went}
 use Rattle.rules.specs.Component.{component_shut}
 use Rattle.rules.specs.Selector.{selector_shut}
 use Rattle.rules.specs.Model.{new_model, model_shut}
@@ -42,8 +43,6 @@ use Rattle.rules.specs.declared.Stage.{Stage}
 use Rattle.rules.specs.declared.Stage.TheVariants.{BeforeVersion, InHeader, InComponent, InSelector, InModel, AfterEnd}
 use Rattle.rules.specs.declared.Event.{Event}
 use Rattle.rules.specs.declared.Event.TheVariants.{Opened, Ended}
-use Rattle.rules.specs.declared.Went.{Went}
-use Rattle.rules.specs.declared.Went.TheVariants.{On, Stop}
 use Rattle.renumbered.proofs.Stages.{stage_at, went_at, then_at}
 use Rattle.renumbered.proofs.Steps.{shut_at, done_at, opened-at}
 
@@ -67,7 +66,7 @@ pub model-ends : (t : Text) → is_key "model" t ≡ true → is_within t ≡ fa
 model-ends t h =
     ap (λ (x : List ℕ). not (one_of x (words (bytes "component model_selector model end")))) (eqs-eq (key_name t) (bytes "model") h) ∙ is_one
 
-pub model-key : (k : ℕ) (w : List ℕ) → is_key "model" (plain k w) ≡ true → key_of w ≡ says (key.Opens Model)
+pub model-key : (k : ℕ) (w : List ℕ) → is_key "model" (plain k w) ≡ true → key_of w ≡ Ok (key.Opens Model)
 unfolding key_of eqs
 model-key k w h =
     by-test (is_bracketed w && is_formed w)
@@ -114,67 +113,67 @@ model-same j k m (WaveformRows o g r) = simp (then-refuse, then-unless)
 -- ---- what it does by itself
 
 abbrev by_itself : ℕ → List ℕ → Said Keyword → Went
-by_itself k w (fault n) = stop n k
-by_itself k w (says key.IbisVer) = stop 7 k
-by_itself k w (says (key.InHeader p)) = stop 7 k
-by_itself k w (says (key.Opens o)) = opened k w o
-by_itself k w (says (key.InComponent p)) = stop 7 k
-by_itself k w (says (key.InModel p)) = stop 7 k
-by_itself k w (says key.End) = On AfterEnd (Ended (told w (no_argument (argument w))))
+by_itself k w (Err n) = stop n k
+by_itself k w (Ok key.IbisVer) = stop 7 k
+by_itself k w (Ok (key.InHeader p)) = stop 7 k
+by_itself k w (Ok (key.Opens o)) = opened k w o
+by_itself k w (Ok (key.InComponent p)) = stop 7 k
+by_itself k w (Ok (key.InModel p)) = stop 7 k
+by_itself k w (Ok key.End) = Ok (AfterEnd, Ended (told w (no_argument (argument w))))
 
 abbrev pub alone : ℕ → List ℕ → Went
 alone k w = by_itself k w (key_of w)
 
 itself-at : (f : ℕ → ℕ) (k : ℕ) (w : List ℕ) (x : Said Keyword) → went_at f (by_itself k w x) ≡ by_itself (f k) w x
-itself-at f k w (fault n) = refl
-itself-at f k w (says key.IbisVer) = refl
-itself-at f k w (says (key.InHeader p)) = refl
-itself-at f k w (says (key.Opens o)) = opened-at f k w o
-itself-at f k w (says (key.InComponent p)) = refl
-itself-at f k w (says (key.InModel p)) = refl
-itself-at f k w (says key.End) = refl
+itself-at f k w (Err n) = refl
+itself-at f k w (Ok key.IbisVer) = refl
+itself-at f k w (Ok (key.InHeader p)) = refl
+itself-at f k w (Ok (key.Opens o)) = opened-at f k w o
+itself-at f k w (Ok (key.InComponent p)) = refl
+itself-at f k w (Ok (key.InModel p)) = refl
+itself-at f k w (Ok key.End) = refl
 
 pub alone_at : (f : ℕ → ℕ) (k : ℕ) (w : List ℕ) → went_at f (alone k w) ≡ alone (f k) w
 alone_at f k w = itself-at f k w (key_of w)
 
 -- a [Model] line opens a model, or stops
-pub alone-model : (k : ℕ) (w : List ℕ) → key_of w ≡ says (key.Opens Model) → alone k w ≡ opened k w Model
+pub alone-model : (k : ℕ) (w : List ℕ) → key_of w ≡ Ok (key.Opens Model) → alone k w ≡ opened k w Model
 alone-model k w h = ap (by_itself k w) h
 
-pub opened-either : (k : ℕ) (w : List ℕ) → (opened k w Model ≡ On (InModel (new_model k)) (Opened Model)) ⊎ ((f : Fault) × (opened k w Model ≡ Stop f))
+pub opened-either : (k : ℕ) (w : List ℕ) → (opened k w Model ≡ Ok (InModel (new_model k), Opened Model)) ⊎ ((f : Fault) × (opened k w Model ≡ Err f))
 unfolding opened passes
 opened-either k w =
     let x = told w (opened_flaw (argument w) Model) in
     by-test (eqb x.number 0) (λ t. inl (cond_yes _ _ t)) (λ t. inr (_, cond_no _ _ t))
 
 -- one that goes on does so at any line
-pub alone-anywhere : (k j : ℕ) (w : List ℕ) (s : Stage) (e : Event) → key_of w ≡ says (key.Opens Model)
-    → alone k w ≡ On s e → alone j w ≡ On (InModel (new_model j)) (Opened Model)
+pub alone-anywhere : (k j : ℕ) (w : List ℕ) (s : Stage) (e : Event) → key_of w ≡ Ok (key.Opens Model)
+    → alone k w ≡ Ok (s, e) → alone j w ≡ Ok (InModel (new_model j), Opened Model)
 unfolding opened passes
 alone-anywhere k j w s e h q =
     let x = told w (opened_flaw (argument w) Model) in
     by-test (eqb x.number 0)
     (λ t. rw (h, t))
-    (λ t. let z : stop_at x k ≡ On s e = rw (h, t) at q in cc)
+    (λ t. let z : stop_at x k ≡ Ok (s, e) = rw (h, t) at q in cc)
 
 -- ---- both
 
 keyed-closes : (s : Stage) (k : ℕ) (w : List ℕ) (x : Said Keyword) → is_end (key_in x) ≡ true → keyed s k w x ≡ and_then (done k s) (λ (t : Stage). by_itself k w x)
-keyed-closes s k w (fault n) h = cc
-keyed-closes s k w (says key.IbisVer) h = cc
-keyed-closes s k w (says (key.InHeader p)) h = cc
-keyed-closes s k w (says (key.Opens o)) h = refl
-keyed-closes s k w (says (key.InComponent p)) h = cc
-keyed-closes s k w (says (key.InModel p)) h = cc
-keyed-closes s k w (says key.End) h = refl
+keyed-closes s k w (Err n) h = cc
+keyed-closes s k w (Ok key.IbisVer) h = cc
+keyed-closes s k w (Ok (key.InHeader p)) h = cc
+keyed-closes s k w (Ok (key.Opens o)) h = refl
+keyed-closes s k w (Ok (key.InComponent p)) h = cc
+keyed-closes s k w (Ok (key.InModel p)) h = cc
+keyed-closes s k w (Ok key.End) h = refl
 
 then_same : (w : Went) (a b : Stage → Went) → ((s : Stage) → a s ≡ b s) → and_then w a ≡ and_then w b
-then_same (On s e) a b h = h s
-then_same (Stop x) a b h = refl
+then_same (Ok (s, e)) a b h = h s
+then_same (Err x) a b h = refl
 
 then-then : (w : Went) (a b : Stage → Went) → and_then w (λ (s : Stage). and_then (a s) b) ≡ and_then (and_then w a) b
-then-then (On s e) a b = refl
-then-then (Stop x) a b = refl
+then-then (Ok (s, e)) a b = refl
+then-then (Err x) a b = refl
 
 plain-closes : (s : Stage) (k : ℕ) (w : List ℕ) → is_within (plain k w) ≡ false → on_plain s k w ≡ and_then (close k s) (λ (t : Stage). alone k w)
 unfolding on_plain

@@ -1,16 +1,14 @@
 -- What a section's lines tell by themselves is told wherever they stand, with the lines' numbers alone another; a sound section tells nothing.
+use Rattle.std.specs.Prelude.{Option, None, Some, Result, Ok, Err}
 use Prim.Native.Nat.{ℕ, ◌+◌}
 use mathlib.Core.Path.{◌≡◌, refl, sym, ap, ◌∙◌}
 use mathlib.Core.List.{List, [], ◌∷◌, map}
 use mathlib.Core.Bool.{true}
 use mathlib.Core.Logic.{⊎_elim}
-use mathlib.Core.Option.{Option, none, some}
 use native.Mathlib.Omega.{arith}
 use lib.ListN.{length}
 use Rattle.laws.proofs.Tests.{cond_map, impossible}
 use Rattle.lines.specs.Lines.{Physical, fault_from, cut}
-use Rattle.lines.specs.declared.Bytes.{Bytes}
-use Rattle.lines.specs.declared.Bytes.TheVariants.{Clean, Faulty}
 use Rattle.keywords.specs.declared.Section.TheVariants.{Model}
 use Rattle.cut_lines.specs.Texts.{Text, texts_from}
 use Rattle.cut_lines.proofs.Renumbered.{text_at, texts-map}
@@ -20,8 +18,7 @@ use Rattle.rules.specs.Steps.{opened, on_text}
 use Rattle.rules.specs.Model.{new_model}
 use Rattle.rules.specs.declared.Stage.{Stage}
 use Rattle.rules.specs.declared.Stage.TheVariants.{InModel}
-use Rattle.rules.specs.declared.Went.{Went}
-use Rattle.rules.specs.declared.Went.TheVariants.{On, Stop}
+use Rattle.rules.specs.Going.{Went}
 use Rattle.cut_lines.specs.InForce.{char_after_line}
 use Rattle.demand_three.specs.Lines.{is_model_section}
 use Rattle.demand_three.specs.Demand.{Stands}
@@ -37,26 +34,26 @@ use Rattle.demand_three.proofs.Refusal.{told-by-its-lines}
 -- ---- with the lines numbered anew
 
 abbrev told_at : (ℕ → ℕ) → Option Fault → Option Fault
-told_at f none = none
-told_at f (some x) = some (fault_at f x)
+told_at f None = None
+told_at f (Some x) = Some (fault_at f x)
 
-abbrev bytes_at : (ℕ → ℕ) → Bytes → Bytes
-bytes_at f Clean = Clean
-bytes_at f (Faulty x) = Faulty (fault_at f x)
+abbrev bytes_at : (ℕ → ℕ) → Result (Unit {0}) Fault → Result (Unit {0}) Fault
+bytes_at f (Ok tt) = Ok tt
+bytes_at f (Err x) = Err (fault_at f x)
 
 module _ (f : ℕ → ℕ) where
-  sooner-at : (b : Bytes) (later : Option Fault) → told_at f (or_sooner b later) ≡ or_sooner (bytes_at f b) (told_at f later)
-  sooner-at Clean later = refl
-  sooner-at (Faulty x) later = refl
+  sooner-at : (b : Result (Unit {0}) Fault) (later : Option Fault) → told_at f (or_sooner b later) ≡ or_sooner (bytes_at f b) (told_at f later)
+  sooner-at (Ok tt) later = refl
+  sooner-at (Err x) later = refl
 
   stopping-at : (w : Went) (g h : Stage → Option Fault) → ((s : Stage) → told_at f (g s) ≡ h (stage_at f s)) → told_at f (stopping w g) ≡ stopping (went_at f w) h
-  stopping-at (On s e) g h q = q s
-  stopping-at (Stop x) g h q = refl
+  stopping-at (Ok (s, e)) g h q = q s
+  stopping-at (Err x) g h q = refl
 
   tell-at : (k : ℕ) (ts : List Text) (s : Stage) → told_at f (texts_tell k s ts) ≡ texts_tell (f k) (stage_at f s) (map (text_at f) ts)
   unfolding texts_tell
   tell-at k [] s =
-      stopping-at (close k s) _ (λ (t : Stage). none) (λ t. refl) ∙ ap (λ (w : Went). stopping w (λ (t : Stage). none)) (close_at f k s)
+      stopping-at (close k s) _ (λ (t : Stage). None) (λ t. refl) ∙ ap (λ (w : Went). stopping w (λ (t : Stage). None)) (close_at f k s)
   tell-at k (t ∷ ts) s =
       let more : Stage → Option Fault = λ u. texts_tell (f k) u (map (text_at f) ts) in
       stopping-at (on_text s t) _ more (λ u. tell-at k ts u) ∙ ap (λ (w : Went). stopping w more) (on-text-at f s t)
@@ -90,19 +87,19 @@ same-faults c section h l s first n j x a m t second o k y b =
     same (own_fault c 0 section) (own-later c _ section ∙ own) (own-later c _ section ∙ own_too)
   where
     own-told : (c : ℕ) (section : List Physical) → is_model_section c section ≡ true → (m : Lending) (t : List ℕ) (stands : Stands c section t) (n k column : ℕ)
-        → OwnTold m t stands n k column → own_fault c (length stands.before + 1) section ≡ some (record { number = n; line = k; column = column })
+        → OwnTold m t stands n k column → own_fault c (length stands.before + 1) section ≡ Some (record { number = n; line = k; column = column })
     own-told c section h m t stands n k column a =
         ⊎_elim (λ e. absurd (a.own e)) (λ e. e) (told-by-its-lines c section h m t stands n k column a.told a.from a.to)
 
-    fault-same : (f g : Fault) → some f ≡ some g → f ≡ g
+    fault-same : (f g : Fault) → Some f ≡ Some g → f ≡ g
     fault-same f g e = cc
 
     same : (told : Option Fault)
-        → told_at (λ i. i + (length first.before + 1)) told ≡ some (record { number = n; line = j; column = x })
-        → told_at (λ i. i + (length second.before + 1)) told ≡ some (record { number = o; line = k; column = y })
+        → told_at (λ i. i + (length first.before + 1)) told ≡ Some (record { number = n; line = j; column = x })
+        → told_at (λ i. i + (length second.before + 1)) told ≡ Some (record { number = o; line = k; column = y })
         → SameFault first second n j x o k y
-    same none p q = impossible (cc)
-    same (some f) p q =
+    same None p q = impossible (cc)
+    same (Some f) p q =
         let here = fault-same _ _ p in
         let there = fault-same _ _ q in
         record {
@@ -120,12 +117,12 @@ walks-tell k (t ∷ ts) s v h =
     ap (λ (w : Went). stopping w (λ (u : Stage). texts_tell k u ts)) h.2 ∙ walks-tell k ts h.0 v h.3
 
 module _ (c : ℕ) (first : Physical) (others : List Physical) (model : is_model_section c (first ∷ others) ≡ true) (so : Sound c first others) where
-  none_first : own_fault c 0 (first ∷ others) ≡ none
+  none_first : own_fault c 0 (first ∷ others) ≡ None
   unfolding own_fault texts_tell
   none_first =
       let w : List ℕ = cut c first.bytes in
       let opens = sym (alone-model 0 w (model-key 0 w (key-model c first others model))) ∙ so.opened 0 in
-      rw (clean-none 0 (first ∷ others) so.clean, opens) (walks-tell 0 (texts_from (char_after_line c first) 1 others) (InModel (new_model 0)) (InModel so.last) so.walks ∙ ap (λ (v : Went). stopping v (λ (t : Stage). none)) so.shuts)
+      rw (clean-none 0 (first ∷ others) so.clean, opens) (walks-tell 0 (texts_from (char_after_line c first) 1 others) (InModel (new_model 0)) (InModel so.last) so.walks ∙ ap (λ (v : Went). stopping v (λ (t : Stage). None)) so.shuts)
 
-  pub own-none : (k : ℕ) → own_fault c k (first ∷ others) ≡ none
+  pub own-none : (k : ℕ) → own_fault c k (first ∷ others) ≡ None
   own-none k = sym (own-later c k (first ∷ others)) ∙ ap (told_at (λ n. n + k)) none_first

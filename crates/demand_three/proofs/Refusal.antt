@@ -1,19 +1,16 @@
 -- Where a section stands, no fault but the excepted ones and its own is told at its lines: before it and behind it lines are told outside, its keyword
 -- closes what was open or is out of place, its texts go on or stop, and the keyword straight after closes it.
+use Rattle.std.specs.Prelude.{Ok, None, Some, Result, Err}
 use Prim.Native.Nat.{ℕ, suc, ◌+◌, ◌<◌}
 use Prim.Native.Char.{code}
 use mathlib.Core.Path.{◌≡◌, refl, sym, ap, subst, ◌∙◌}
 use mathlib.Core.Logic.{inl, inr, ⊎_elim}
-use mathlib.Core.Option.{none, some}
 use mathlib.Core.List.{List, [], ◌∷◌, ◌++◌, append_assoc, append-nil}
 use mathlib.Core.Bool.{true, false}
 use native.Mathlib.Omega.{arith}
 use lib.ListN.{length, length-append}
 use Rattle.lines.specs.Lines.{Physical, lines_of, fault_from, bytes_fault, cut}
-use Rattle.lines.specs.declared.Bytes.{Bytes}
-use Rattle.lines.specs.declared.Bytes.TheVariants.{Clean, Faulty}
 use Rattle.laws.specs.Lists.{all}
-use Rattle.laws.specs.Said.{says}
 use Rattle.laws.proofs.Tests.{impossible}
 use Rattle.laws.proofs.Fronts.{all_first, all-second}
 use Rattle.keywords.specs.Carried.{key_of}
@@ -21,7 +18,7 @@ use Rattle.keywords.specs.declared.Keyword.TheVariants as key
 use Rattle.keywords.specs.declared.Section.TheVariants.{Model}
 use Rattle.cut_lines.specs.Texts.{Text, plain, texts_from}
 use Rattle.rules.proofs.Outcomes.{loaded-refuses}
-use Rattle.rules.specs.Going.{and_then}
+use Rattle.rules.specs.Going.{and_then, Went}
 use Rattle.rules.specs.Model.{new_model}
 use Rattle.rules.specs.Reading.{is_within}
 use Rattle.rules.specs.Whole.{Held, nothing_held, Outcome, refused, admit, after_step, runs, concluded, texts_of, after_bytes, outcome}
@@ -31,8 +28,6 @@ use Rattle.records.specs.declared.Lengths.{Lengths}
 use Rattle.rules.specs.declared.Stage.{Stage}
 use Rattle.rules.specs.declared.Stage.TheVariants.{BeforeVersion, InModel}
 use Rattle.rules.specs.declared.Event.TheVariants.{Opened}
-use Rattle.rules.specs.declared.Went.{Went}
-use Rattle.rules.specs.declared.Went.TheVariants.{On, Stop}
 use Rattle.cut_lines.specs.InForce.{char_after_line}
 use Rattle.demand_three.specs.Lines.{is_model_section}
 use Rattle.demand_three.specs.Demand.{Stands, out_of_place}
@@ -48,8 +43,8 @@ use Rattle.demand_three.proofs.Spared.{outside, outside_low, outside_high, AllFi
 module _ (lo hi : ℕ) (Own : Fault → Type 0) (l : Lengths) (past : ℕ) where
   -- ---- the section's keyword
 
-  alone-safe : (w : List ℕ) (us : List Text) (h : Held) → AllFine lo hi h.entries → ((f : Fault) → opened (lo + 1) w Model ≡ Stop f → Own f)
-      → (opened (lo + 1) w Model ≡ On (InModel (new_model (lo + 1))) (Opened Model)
+  alone-safe : (w : List ℕ) (us : List Text) (h : Held) → AllFine lo hi h.entries → ((f : Fault) → opened (lo + 1) w Model ≡ Err f → Own f)
+      → (opened (lo + 1) w Model ≡ Ok (InModel (new_model (lo + 1)), Opened Model)
       → (g : Held) → AllFine lo hi g.entries → Safe lo hi Own (runs l past (InModel (new_model (lo + 1))) g us))
       → Safe lo hi Own (after_step l h (plain (lo + 1) w) (λ (u : Stage) (g : Held). runs l past u g us) (opened (lo + 1) w Model))
   alone-safe w us h y stops more =
@@ -62,11 +57,11 @@ module _ (lo hi : ℕ) (Own : Fault → Type 0) (l : Lengths) (past : ℕ) where
   closed-safe : (w : List ℕ) (us : List Text) (v : Went) (h : Held) → went_at (outside lo hi) v ≡ v
       → Safe lo hi Own (after_step l h (plain (lo + 1) w) (λ (u : Stage) (g : Held). runs l past u g us) (alone (lo + 1) w))
       → Safe lo hi Own (after_step l h (plain (lo + 1) w) (λ (u : Stage) (g : Held). runs l past u g us) (and_then v (λ (t : Stage). alone (lo + 1) w)))
-  closed-safe w us (On s e) h x safe = safe
-  closed-safe w us (Stop f) h x safe = spare-outside lo hi Own f.number f.line f.column (cc)
+  closed-safe w us (Ok (s, e)) h x safe = safe
+  closed-safe w us (Err f) h x safe = spare-outside lo hi Own f.number f.line f.column (cc)
 
-  key-safe : (w : List ℕ) (us : List Text) → is_within (plain 0 w) ≡ false → key_of w ≡ says (key.Opens Model) → ((f : Fault) → opened (lo + 1) w Model ≡ Stop f → Own f)
-      → (opened (lo + 1) w Model ≡ On (InModel (new_model (lo + 1))) (Opened Model)
+  key-safe : (w : List ℕ) (us : List Text) → is_within (plain 0 w) ≡ false → key_of w ≡ Ok (key.Opens Model) → ((f : Fault) → opened (lo + 1) w Model ≡ Err f → Own f)
+      → (opened (lo + 1) w Model ≡ Ok (InModel (new_model (lo + 1)), Opened Model)
       → (g : Held) → AllFine lo hi g.entries → Safe lo hi Own (runs l past (InModel (new_model (lo + 1))) g us))
       → Goes lo hi Own (λ (s : Stage) (h : Held). runs l past s h (plain (lo + 1) w ∷ us))
   unfolding runs
@@ -81,14 +76,14 @@ module _ (lo hi : ℕ) (Own : Fault → Type 0) (l : Lengths) (past : ℕ) where
 
   -- ---- the keyword straight after
 
-  next-safe : (j : ℕ) (w : List ℕ) (us : List Text) (i : ℕ) (v : Stage) (h : Held) → is_within (plain 0 w) ≡ false → ((f : Fault) → close i v ≡ Stop f → Own f)
+  next-safe : (j : ℕ) (w : List ℕ) (us : List Text) (i : ℕ) (v : Stage) (h : Held) → is_within (plain 0 w) ≡ false → ((f : Fault) → close i v ≡ Err f → Own f)
       → outside lo hi j ≡ j → AllFine lo hi h.entries → Goes lo hi Own (λ (s : Stage) (g : Held). runs l past s g us) → Safe lo hi Own (runs l past v h (plain j w ∷ us))
   unfolding runs
   next-safe j w us i v h e stops x y more = by (closer v j w e)
     where
       after : (u : Went) → close i v ≡ u → Safe lo hi Own (after_step l h (plain j w) (λ (s : Stage) (g : Held). runs l past s g us) (and_then u (λ (t : Stage). alone j w)))
-      after (On a b) q = step-outside lo hi Own l h (plain j w) _ (alone j w) (alone_at (outside lo hi) j w ∙ ap (λ (k : ℕ). alone k w) x) x y more
-      after (Stop f) q = λ a b. inr (stops f q)
+      after (Ok (a, b)) q = step-outside lo hi Own l h (plain j w) _ (alone j w) (alone_at (outside lo hi) j w ∙ ap (λ (k : ℕ). alone k w) x) x y more
+      after (Err f) q = λ a b. inr (stops f q)
 
       by : Closer v j w → Safe lo hi Own (runs l past v h (plain j w ∷ us))
       by (misplaced z) = rw z (spare-outside lo hi Own 7 j 0 x)
@@ -96,38 +91,38 @@ module _ (lo hi : ℕ) (Own : Fault → Type 0) (l : Lengths) (past : ℕ) where
 
 -- ---- the whole file
 
-bytes-safe : (lo hi : ℕ) (Own : Fault → Type 0) (b : Bytes) (go : Outcome) → BytesSpare lo hi Own b → (b ≡ Clean → Safe lo hi Own go) → Safe lo hi Own (after_bytes go b)
-bytes-safe lo hi Own Clean go x y = y refl
-bytes-safe lo hi Own (Faulty f) go x y = λ a b. inr (x a b)
+bytes-safe : (lo hi : ℕ) (Own : Fault → Type 0) (b : Result (Unit {0}) Fault) (go : Outcome) → BytesSpare lo hi Own b → (b ≡ Ok tt → Safe lo hi Own go) → Safe lo hi Own (after_bytes go b)
+bytes-safe lo hi Own (Ok tt) go x y = y refl
+bytes-safe lo hi Own (Err f) go x y = λ a b. inr (x a b)
 
 module _ (c : ℕ) (first : Physical) (others : List Physical) (model : is_model_section c (first ∷ others) ≡ true) where
   -- behind lo lines, what the section's lines tell
   abbrev OwnAt : ℕ → Fault → Type 0
-  OwnAt lo f = own_fault c (lo + 1) (first ∷ others) ≡ some f
+  OwnAt lo f = own_fault c (lo + 1) (first ∷ others) ≡ Some f
 
   module _ (lo : ℕ) where
-    own-bytes : (f : Fault) → fault_from (lo + 1) (first ∷ others) ≡ Faulty f → OwnAt lo f
+    own-bytes : (f : Fault) → fault_from (lo + 1) (first ∷ others) ≡ Err f → OwnAt lo f
     unfolding own_fault
     own-bytes f e = rw e refl
 
-    module _ (clean : fault_from (lo + 1) (first ∷ others) ≡ Clean) where
-      own-keyword : (f : Fault) → opened (lo + 1) (cut c first.bytes) Model ≡ Stop f → OwnAt lo f
+    module _ (clean : fault_from (lo + 1) (first ∷ others) ≡ Ok tt) where
+      own-keyword : (f : Fault) → opened (lo + 1) (cut c first.bytes) Model ≡ Err f → OwnAt lo f
       unfolding own_fault
       own-keyword f e = rw (clean, e) refl
 
-      own-texts : opened (lo + 1) (cut c first.bytes) Model ≡ On (InModel (new_model (lo + 1))) (Opened Model)
-          → (f : Fault) → texts_tell (lo + 1) (InModel (new_model (lo + 1))) (texts_from (char_after_line c first) (lo + 1 + 1) others) ≡ some f → OwnAt lo f
+      own-texts : opened (lo + 1) (cut c first.bytes) Model ≡ Ok (InModel (new_model (lo + 1)), Opened Model)
+          → (f : Fault) → texts_tell (lo + 1) (InModel (new_model (lo + 1))) (texts_from (char_after_line c first) (lo + 1 + 1) others) ≡ Some f → OwnAt lo f
       unfolding own_fault
       own-texts q f e = rw (clean, q) e
 
-  tells-close : (j : ℕ) (s : Stage) (f : Fault) → close j s ≡ Stop f → texts_tell j s [] ≡ some f
+  tells-close : (j : ℕ) (s : Stage) (f : Fault) → close j s ≡ Err f → texts_tell j s [] ≡ Some f
   unfolding texts_tell
-  tells-close j s f q = ap (λ (w : Went). stopping w (λ (t : Stage). none)) q
+  tells-close j s f q = ap (λ (w : Went). stopping w (λ (t : Stage). None)) q
 
-  module _ (l : Lengths) (past lo hi : ℕ) (place : hi ≡ lo + suc (length others)) (clean : fault_from (lo + 1) (first ∷ others) ≡ Clean) where
+  module _ (l : Lengths) (past lo hi : ℕ) (place : hi ≡ lo + suc (length others)) (clean : fault_from (lo + 1) (first ∷ others) ≡ Ok tt) where
     -- the section's texts behind its keyword, and the keyword straight after
     body-safe : (w : List ℕ) (us : List Text) → is_within (plain 0 w) ≡ false → Goes lo hi (OwnAt lo) (λ (s : Stage) (g : Held). runs l past s g us)
-        → opened (lo + 1) (cut c first.bytes) Model ≡ On (InModel (new_model (lo + 1))) (Opened Model) → (h : Held) → AllFine lo hi h.entries
+        → opened (lo + 1) (cut c first.bytes) Model ≡ Ok (InModel (new_model (lo + 1)), Opened Model) → (h : Held) → AllFine lo hi h.entries
         → Safe lo hi (OwnAt lo) (runs l past (InModel (new_model (lo + 1))) h (texts_from (char_after_line c first) (lo + 1 + 1) others ++ (plain (hi + 1) w ∷ us)))
     body-safe w us e more q h y =
         texts-within lo hi (OwnAt lo) l past (lo + 1) (plain (hi + 1) w ∷ us) (texts_from (char_after_line c first) (lo + 1 + 1) others) (new_model (lo + 1)) h
@@ -140,7 +135,7 @@ module _ (c : ℕ) (first : Physical) (others : List Physical) (model : is_model
   past_all t p =
       omega (arith, ap length p.lines, length-append (p.before ++ (first ∷ others)) p.after, length-append p.before (first ∷ others))
 
-  texts-safe : (l : Lengths) (t : List ℕ) (p : Stands c (first ∷ others) t) → fault_from (length p.before + 1) (first ∷ others) ≡ Clean
+  texts-safe : (l : Lengths) (t : List ℕ) (p : Stands c (first ∷ others) t) → fault_from (length p.before + 1) (first ∷ others) ≡ Ok tt
       → Safe (length p.before) (length p.before + suc (length others)) (OwnAt (length p.before)) (runs l (length (lines_of t) + 1) BeforeVersion nothing_held (texts_of t))
   texts-safe l t p clean =
       let lo = length p.before in
@@ -170,7 +165,7 @@ module _ (c : ℕ) (first : Physical) (others : List Physical) (model : is_model
       (λ f e. own-bytes lo f (sym (ap (λ (k : ℕ). fault_from k (first ∷ others)) next) ∙ e)) refl refl)
       (λ e. concluded-safe lo hi (OwnAt lo) ran (texts-safe l t p (clean-none (lo + 1) (first ∷ others) (section-clean t p e))))
     where
-      section-clean : (t : List ℕ) (p : Stands c (first ∷ others) t) → bytes_fault t ≡ Clean → all is_clean (first ∷ others) ≡ true
+      section-clean : (t : List ℕ) (p : Stands c (first ∷ others) t) → bytes_fault t ≡ Ok tt → all is_clean (first ∷ others) ≡ true
       section-clean t p e =
           all-second is_clean p.before (first ∷ others) (all_first is_clean (p.before ++ (first ∷ others)) p.after (rw p.lines at (clean-file t e)))
 

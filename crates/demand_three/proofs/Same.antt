@@ -1,10 +1,10 @@
 -- What is read of a section: at its place among the sections stands the model that its own texts give, whatever their numbers.
+use Rattle.std.specs.Prelude.{Option, None, Some}
 use Prim.Native.Nat.{ℕ, suc, ◌+◌}
 use Prim.Native.Char.{code}
 use mathlib.Core.Path.{◌≡◌, refl, sym, ap, ap₂, ◌∙◌}
 use mathlib.Core.List.{List, [], ◌∷◌, ◌++◌}
 use mathlib.Core.Bool.{true, not}
-use mathlib.Core.Option.{Option, none, some}
 use lib.ListN.{length, drop}
 use Rattle.laws.specs.Bytes.{bytes}
 use Rattle.laws.specs.Lists.{front, all, eqs}
@@ -36,8 +36,8 @@ use Rattle.demand_three.proofs.Sound.{key-ends, key-model, body-within}
 
 onto-drop : (v w : List ℕ) (ts us : List Text) (xs ys : List SectionIs) (o : Option Section)
     → drop (length (onto_sections v ts xs o)) (onto_sections w us ys o) ≡ drop (length xs) ys
-onto-drop v w ts us xs ys none = refl
-onto-drop v w ts us xs ys (some o) = refl
+onto-drop v w ts us xs ys None = refl
+onto-drop v w ts us xs ys (Some o) = refl
 
 sections-behind : (ts us : List Text) → drop (length (sections_in ts)) (sections_in (ts ++ us)) ≡ sections_in us
 unfolding sections_in
@@ -53,14 +53,14 @@ opens-model : (t : Text) (ts : List Text) → is_key "model" t ≡ true → sect
 unfolding sections_in eqs
 opens-model t ts h = rw (eqs-eq (key_name t) (bytes "model") h)
 
-opens-none : (x : Option Keyword) → not (is_end x) ≡ true → opens x ≡ none
-opens-none none h = refl
-opens-none (some key.IbisVer) h = refl
-opens-none (some (key.InHeader p)) h = refl
-opens-none (some (key.Opens o)) h = cc
-opens-none (some (key.InComponent p)) h = refl
-opens-none (some (key.InModel p)) h = refl
-opens-none (some key.End) h = refl
+opens-none : (x : Option Keyword) → not (is_end x) ≡ true → opens x ≡ None
+opens-none None h = refl
+opens-none (Some key.IbisVer) h = refl
+opens-none (Some (key.InHeader p)) h = refl
+opens-none (Some (key.Opens o)) h = cc
+opens-none (Some (key.InComponent p)) h = refl
+opens-none (Some (key.InModel p)) h = refl
+opens-none (Some key.End) h = refl
 
 none_within : (ts : List Text) → all is_within ts ≡ true → sections_in ts ≡ []
 unfolding sections_in all

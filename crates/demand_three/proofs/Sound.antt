@@ -1,5 +1,6 @@
 -- A section that is accepted somewhere is sound: its keyword names a model, its texts all go on, and what they leave open can be closed. All
 -- this with its lines numbered from 0, so that it holds wherever the section stands.
+use Rattle.std.specs.Prelude.{Ok, Err}
 use Prim.Native.Nat.{ℕ, ◌+◌}
 use Prim.Native.Char.{code}
 use mathlib.Core.Path.{◌≡◌, refl, sym, ap, subst, ◌∙◌}
@@ -11,10 +12,9 @@ use Rattle.laws.specs.Lists.{all}
 use Rattle.laws.proofs.Tests.{and_first, and_second, impossible}
 use Rattle.laws.proofs.Fronts.{all_first, all-second}
 use Rattle.lines.specs.Lines.{Physical, lines_of, bytes_fault, cut}
-use Rattle.lines.specs.declared.Bytes.TheVariants.{Clean}
 use Rattle.cut_lines.specs.Texts.{Text, plain, texts_from}
 use Rattle.rules.proofs.Outcomes.{bytes-passed, concluded-passed, loaded-passes}
-use Rattle.rules.specs.Going.{stop, and_then}
+use Rattle.rules.specs.Going.{stop, and_then, Went}
 use Rattle.rules.specs.Model.{new_model}
 use Rattle.rules.specs.Steps.{on_plain}
 use Rattle.rules.specs.Reading.{is_key, is_within}
@@ -26,8 +26,7 @@ use Rattle.rules.specs.declared.Stage.{Stage}
 use Rattle.rules.specs.declared.Stage.TheVariants.{BeforeVersion, InModel}
 use Rattle.rules.specs.declared.Event.{Event}
 use Rattle.rules.specs.declared.Event.TheVariants.{Opened}
-use Rattle.rules.specs.declared.Went.{Went}
-use Rattle.rules.specs.declared.Went.TheVariants.{On, Stop}
+use Rattle.rules.proofs.Went.{stage-of}
 use Rattle.keywords.specs.declared.Section.TheVariants.{Model}
 use Rattle.cut_lines.specs.InForce.{char_after_line}
 use Rattle.demand_three.specs.Lines.{text_on, is_model_section}
@@ -43,7 +42,7 @@ use Rattle.demand_three.proofs.Split.{split}
 -- ---- a file that passes
 
 pub record Passing (l : Lengths) (s : List ℕ) : Type 0 where
-  pub clean : bytes_fault s ≡ Clean
+  pub clean : bytes_fault s ≡ Ok tt
   pub held : Held
   pub runs_on : runs l (length (lines_of s) + 1) BeforeVersion nothing_held (texts_of s) ≡ passed held
 
@@ -56,28 +55,28 @@ passing l s a =
 
 -- ---- the lines that a section's keyword and the keyword straight after it close
 
-then-on : (w o : Went) (s : Stage) (e : Event) → and_then w (λ (t : Stage). o) ≡ On s e → ((u : Stage) × (d : Event) × (w ≡ On u d)) × (o ≡ On s e)
-then-on (On u d) o s e q = ((u, d, refl), q)
-then-on (Stop x) o s e q = impossible (cc)
+then-on : (w o : Went) (s : Stage) (e : Event) → and_then w (λ (t : Stage). o) ≡ Ok (s, e) → ((u : Stage) × (d : Event) × (w ≡ Ok (u, d))) × (o ≡ Ok (s, e))
+then-on (Ok (u, d)) o s e q = ((u, d, refl), q)
+then-on (Err x) o s e q = impossible (cc)
 
 -- such a line that goes on closes what is open, as it would at line j, and goes on by itself
-pub went_on : (j : ℕ) (s : Stage) (k : ℕ) (w : List ℕ) (u : Stage) (e : Event) → is_within (plain 0 w) ≡ false → on_plain s k w ≡ On u e
-    → ((v : Stage) × (d : Event) × (close j s ≡ On v d)) × (alone k w ≡ On u e)
+pub went_on : (j : ℕ) (s : Stage) (k : ℕ) (w : List ℕ) (u : Stage) (e : Event) → is_within (plain 0 w) ≡ false → on_plain s k w ≡ Ok (u, e)
+    → ((v : Stage) × (d : Event) × (close j s ≡ Ok (v, d))) × (alone k w ≡ Ok (u, e))
 went_on j s k w u e h q = by (closer s k w h)
   where
-    by : Closer s k w → ((v : Stage) × (d : Event) × (close j s ≡ On v d)) × (alone k w ≡ On u e)
-    by (misplaced x) = let z : stop 7 k ≡ On u e = sym x ∙ q in impossible (cc)
+    by : Closer s k w → ((v : Stage) × (d : Event) × (close j s ≡ Ok (v, d))) × (alone k w ≡ Ok (u, e))
+    by (misplaced x) = let z : stop 7 k ≡ Ok (u, e) = sym x ∙ q in impossible (cc)
     by (closes x) = then-on (close j s) (alone k w) u e (sym (x j) ∙ q)
 
 -- ---- a section's texts in a file that passes: its keyword, with text w at line k, opens a model, the others walk, and what they leave closes
 
 record Passed (w : List ℕ) (body : List Text) (k : ℕ) : Type 0 where
-  opened : (i : ℕ) → alone i w ≡ On (InModel (new_model i)) (Opened Model)
+  opened : (i : ℕ) → alone i w ≡ Ok (InModel (new_model i), Opened Model)
   left : Stage
   walks : Walks (InModel (new_model k)) body left
   stage : Stage
   event : Event
-  shuts : close k left ≡ On stage event
+  shuts : close k left ≡ Ok (stage, event)
 
 passed-section : (l : Lengths) (past k j : ℕ) (w next : List ℕ) (body rest : List Text) (s : Stage) (h z : Held)
     → is_key "model" (plain 0 w) ≡ true → is_within (plain 0 next) ≡ false
@@ -87,28 +86,25 @@ passed-section l past k j w next body rest s h z m e q =
     let n = walked l past (plain j next ∷ []) rest r.0 r.2.0 z r.2.1 in
     let key = went_on k s k w r.1.0 r.1.1 (model-ends (plain 0 w) m) r.1.2 in
     let shut = went_on k r.0 j next n.1.0 n.1.1 e n.1.2 in
-    let opens_at : (i : ℕ) → alone i w ≡ On (InModel (new_model i)) (Opened Model) = λ i. alone-anywhere k i w r.1.0 r.1.1 (model-key 0 w m) key.1 in
+    let opens_at : (i : ℕ) → alone i w ≡ Ok (InModel (new_model i), Opened Model) = λ i. alone-anywhere k i w r.1.0 r.1.1 (model-key 0 w m) key.1 in
     record {
       opened = opens_at;
       left = r.0;
-      walks = subst (λ (x : Stage). Walks x body r.0) (stage-of _ _ _ _ (sym key.1 ∙ opens_at k)) r.1.3;
+      walks = subst (λ (x : Stage). Walks x body r.0) (stage-of (sym key.1 ∙ opens_at k)) r.1.3;
       stage = shut.0.0;
       event = shut.0.1;
       shuts = shut.0.2;
     }
-  where
-    stage-of : (s u : Stage) (d e : Event) → On s d ≡ On u e → s ≡ u
-    stage-of s u d e q = cc
 
 -- ---- what does not hang on where the section stands
 
 pub record Sound (c : ℕ) (first : Physical) (others : List Physical) : Type 0 where
-  pub opened : (k : ℕ) → alone k (cut c first.bytes) ≡ On (InModel (new_model k)) (Opened Model)
+  pub opened : (k : ℕ) → alone k (cut c first.bytes) ≡ Ok (InModel (new_model k), Opened Model)
   pub last : ModelState
   pub walks : Walks (InModel (new_model 0)) (texts_from (char_after_line c first) 1 others) (InModel last)
   pub stage : Stage
   pub event : Event
-  pub shuts : close 0 (InModel last) ≡ On stage event
+  pub shuts : close 0 (InModel last) ≡ Ok (stage, event)
   pub clean : all is_clean (first ∷ others) ≡ true
 
 module _ (c : ℕ) (first : Physical) (others : List Physical) (h : is_model_section c (first ∷ others) ≡ true) where

@@ -1,16 +1,15 @@
 -- What a file tells of the lines after lo, up to hi: the excepted faults, and what those lines tell by themselves. The renumbering that leaves all
 -- other lines as they are shows it for the lines before and behind.
+use Rattle.std.specs.Prelude.{Result, Ok, Err, Some}
 use Prim.Native.Nat.{ℕ, ◌+◌, ◌≤◌, ◌<◌, min}
 use mathlib.Core.Path.{◌≡◌, refl, sym, ap, subst, ◌∙◌}
 use mathlib.Core.Logic.{◌⊎◌, inl, inr}
-use mathlib.Core.Option.{some}
 use mathlib.Core.List.{List, [], ◌∷◌, ◌++◌, map, reverse_aux, reverse}
 use mathlib.Core.Bool.{true, cond}
 use native.Mathlib.Omega.{arith}
 use lib.Dec.{eqb, leb}
 use borrow.Author.Tests.{le-leb, lt-leb}
 use Rattle.laws.specs.Lists.{all}
-use Rattle.laws.specs.Said.{Result, says, fault}
 use Rattle.laws.proofs.Tests.{by-test, cond-all, and_first, and_second, impossible}
 use Rattle.keywords.specs.Form.{argument}
 use Rattle.keywords.specs.declared.Section.{Section}
@@ -31,8 +30,8 @@ use Rattle.rules.specs.declared.Stage.{Stage}
 use Rattle.rules.specs.declared.Stage.TheVariants.{InModel}
 use Rattle.rules.specs.declared.Event.{Event}
 use Rattle.rules.specs.declared.Event.TheVariants.{Quiet, Opened, PinRow, ChoiceRow, WaveformOpened, TableRow, Ended}
-use Rattle.rules.specs.declared.Went.{Went}
-use Rattle.rules.specs.declared.Went.TheVariants.{On, Stop}
+use Rattle.rules.specs.Going.{Went}
+use Rattle.rules.proofs.Went.{stage-of}
 use Rattle.demand_three.specs.Demand.{Excepted, used_twice, not_listed, full_table}
 use Rattle.demand_three.specs.Own.{stopping, texts_tell}
 use Rattle.renumbered.proofs.Stages.{stage_at, went_at}
@@ -88,13 +87,13 @@ module _ (lo hi : ℕ) where
     -- ---- admission
 
     -- at line k
-    abbrev pub Admits : ℕ → Result LineFault Held → Type 0
-    Admits k (says h) = AllFine h.entries
-    Admits k (fault x) = Spare x.number k x.column
+    abbrev pub Admits : ℕ → Result Held LineFault → Type 0
+    Admits k (Ok h) = AllFine h.entries
+    Admits k (Err x) = Spare x.number k x.column
 
-    pub admits-safe : (k : ℕ) (go : Held → Outcome) (a : Result LineFault Held) → Admits k a → ((h : Held) → AllFine h.entries → Safe (go h)) → Safe (after_admission k go a)
-    admits-safe k go (says h) x q = q h x
-    admits-safe k go (fault y) x q = x
+    pub admits-safe : (k : ℕ) (go : Held → Outcome) (a : Result Held LineFault) → Admits k a → ((h : Held) → AllFine h.entries → Safe (go h)) → Safe (after_admission k go a)
+    admits-safe k go (Ok h) x q = q h x
+    admits-safe k go (Err y) x q = x
 
     admits-entry : (k : ℕ) (l : Lengths) (h : Held) (e : Entry) → Fine e → AllFine h.entries → Admits k (admit_entry l h e)
     unfolding admit_entry
@@ -142,9 +141,9 @@ module _ (lo hi : ℕ) where
 
     pub step-outside : (l : Lengths) (h : Held) (t : Text) (go : Stage → Held → Outcome) (w : Went) → went_at outside w ≡ w → outside (line_of t) ≡ line_of t
         → AllFine h.entries → Goes go → Safe (after_step l h t go w)
-    step-outside l h t go (On s e) q x y more =
-        admits-safe (line_of t) (go s) (admit l h (line_of t) (text_of t) e) (admits-outside l h (line_of t) (text_of t) e x y) (λ g z. more s g (cc) z)
-    step-outside l h t go (Stop f) q x y more = spare-outside f.number f.line f.column (cc)
+    step-outside l h t go (Ok (s, e)) q x y more =
+        admits-safe (line_of t) (go s) (admit l h (line_of t) (text_of t) e) (admits-outside l h (line_of t) (text_of t) e x y) (λ g z. more s g (stage-of q) z)
+    step-outside l h t go (Err f) q x y more = spare-outside f.number f.line f.column (cc)
 
     line-outside : (t : Text) → text_at outside t ≡ t → outside (line_of t) ≡ line_of t
     line-outside (plain k w) e = cc
@@ -172,18 +171,18 @@ module _ (lo hi : ℕ) where
 
     -- ---- the texts of a section: each goes on, or stops with what the section's lines tell
 
-    step-within : (l : Lengths) (h : Held) (t : Text) (go : Stage → Held → Outcome) (w : Went) → ((f : Fault) → w ≡ Stop f → Own f)
-        → ((u : Stage) (e : Event) → w ≡ On u e → (is_of_model e ≡ true) × ((g : Held) → AllFine g.entries → Safe (go u g)))
+    step-within : (l : Lengths) (h : Held) (t : Text) (go : Stage → Held → Outcome) (w : Went) → ((f : Fault) → w ≡ Err f → Own f)
+        → ((u : Stage) (e : Event) → w ≡ Ok (u, e) → (is_of_model e ≡ true) × ((g : Held) → AllFine g.entries → Safe (go u g)))
         → AllFine h.entries → Safe (after_step l h t go w)
-    step-within l h t go (On u e) stops goes y =
+    step-within l h t go (Ok (u, e)) stops goes y =
         let more = goes u e refl in
         admits-safe (line_of t) (go u) (admit l h (line_of t) (text_of t) e) (admits-within l h (line_of t) (text_of t) e more.0 y) more.1
-    step-within l h t go (Stop f) stops goes y = λ a b. inr (stops f refl)
+    step-within l h t go (Err f) stops goes y = λ a b. inr (stops f refl)
 
     -- j is the line of its keyword
     module _ (l : Lengths) (past j : ℕ) (us : List Text) where
       abbrev Tells : Stage → List Text → Type 0
-      Tells s ts = (f : Fault) → texts_tell j s ts ≡ some f → Own f
+      Tells s ts = (f : Fault) → texts_tell j s ts ≡ Some f → Own f
 
       pub texts-within : (ts : List Text) (m : ModelState) (h : Held) → all is_within ts ≡ true → Tells (InModel m) ts
           → ((v : ModelState) → Tells (InModel v) [] → (g : Held) → AllFine g.entries → Safe (runs l past (InModel v) g us))

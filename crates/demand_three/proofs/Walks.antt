@@ -1,10 +1,10 @@
 -- Texts whose steps all go on: they do so under any numbering, also after a renumbering; and where a file passes, they do.
+use Rattle.std.specs.Prelude.{Result, Ok, Err}
 use Prim.Native.Nat.{ℕ}
 use mathlib.Core.Path.{◌≡◌, refl, sym, ap, subst, ◌∙◌}
 use mathlib.Core.List.{List, [], ◌∷◌, ◌++◌, map}
 use mathlib.Core.Bool.{true, ◌&&◌}
 use Rattle.laws.specs.Lists.{all}
-use Rattle.laws.specs.Said.{Result, says, fault}
 use Rattle.laws.proofs.Tests.{and_first, and_second, impossible}
 use Rattle.cut_lines.specs.Texts.{Text}
 use Rattle.rules.specs.Steps.{on_text}
@@ -16,8 +16,8 @@ use Rattle.rules.specs.declared.ModelState.{ModelState}
 use Rattle.rules.specs.declared.Stage.{Stage}
 use Rattle.rules.specs.declared.Stage.TheVariants.{BeforeVersion, InHeader, InComponent, InSelector, InModel, AfterEnd}
 use Rattle.rules.specs.declared.Event.{Event}
-use Rattle.rules.specs.declared.Went.{Went}
-use Rattle.rules.specs.declared.Went.TheVariants.{On, Stop}
+use Rattle.rules.specs.Going.{Went}
+use Rattle.rules.proofs.Went.{stage-of, event-of}
 use Rattle.renumbered.proofs.Stages.{stage_at, went_at}
 use Rattle.cut_lines.proofs.Renumbered.{text_at}
 use Rattle.renumbered.proofs.Steps.{on-text-at}
@@ -26,13 +26,13 @@ use Rattle.demand_three.proofs.Within.{is_in_model, is_of_model, stays, text-sta
 -- from stage s the texts lead to stage v
 abbrev pub Walks : Stage → List Text → Stage → Type 0
 Walks s [] v = s ≡ v
-Walks s (t ∷ ts) v = (u : Stage) × (e : Event) × (on_text s t ≡ On u e) × Walks u ts v
+Walks s (t ∷ ts) v = (u : Stage) × (e : Event) × (on_text s t ≡ Ok (u, e)) × Walks u ts v
 
 -- ---- under another numbering
 
-pub on-back : (f : ℕ → ℕ) (w : Went) (u : Stage) (e : Event) → went_at f w ≡ On u e → (o : Stage) × (w ≡ On o e) × (u ≡ stage_at f o)
-on-back f (On s d) u e q = (s, cc, cc)
-on-back f (Stop x) u e q = impossible (cc)
+pub on-back : (f : ℕ → ℕ) (w : Went) (u : Stage) (e : Event) → went_at f w ≡ Ok (u, e) → (o : Stage) × (w ≡ Ok (o, e)) × (u ≡ stage_at f o)
+on-back f (Ok (s, d)) u e q = (s, ap (λ (x : Event). Ok (s, x)) (event-of q), sym (stage-of q))
+on-back f (Err x) u e q = impossible (cc)
 
 module _ (f : ℕ → ℕ) where
   pub walks-back : (ts : List Text) (s v : Stage) → Walks (stage_at f s) (map (text_at f) ts) v → (o : Stage) × (v ≡ stage_at f o) × Walks s ts o
@@ -53,7 +53,7 @@ in-model (InModel m) h = (m, refl)
 in-model AfterEnd h = impossible (cc)
 
 -- a step that goes on stays in the model, and adds what a model's line may add
-pub step_stays : (m : ModelState) (t : Text) (u : Stage) (e : Event) → is_within t ≡ true → on_text (InModel m) t ≡ On u e
+pub step_stays : (m : ModelState) (t : Text) (u : Stage) (e : Event) → is_within t ≡ true → on_text (InModel m) t ≡ Ok (u, e)
     → (is_in_model u && is_of_model e) ≡ true
 step_stays m t u e h q = sym (ap stays q) ∙ text-stays m t h
 
@@ -69,14 +69,14 @@ walks-model (t ∷ ts) m v a h =
 abbrev pub Onward : (Stage → Held → Outcome) → Held → Stage → Type 0
 Onward go z u = (g : Held) × (go u g ≡ passed z)
 
-admission-passed : (k : ℕ) (go : Held → Outcome) (a : Result LineFault Held) (z : Held) → after_admission k go a ≡ passed z → (g : Held) × (go g ≡ passed z)
-admission-passed k go (says h) z q = (h, q)
-admission-passed k go (fault x) z q = impossible (cc)
+admission-passed : (k : ℕ) (go : Held → Outcome) (a : Result Held LineFault) (z : Held) → after_admission k go a ≡ passed z → (g : Held) × (go g ≡ passed z)
+admission-passed k go (Ok h) z q = (h, q)
+admission-passed k go (Err x) z q = impossible (cc)
 
 pub step-passed : (l : Lengths) (h : Held) (t : Text) (go : Stage → Held → Outcome) (w : Went) (z : Held) → after_step l h t go w ≡ passed z
-    → (u : Stage) × (e : Event) × (w ≡ On u e) × Onward go z u
-step-passed l h t go (On u e) z q = (u, e, refl, admission-passed (line_of t) (go u) (admit l h (line_of t) (text_of t) e) z q)
-step-passed l h t go (Stop x) z q = impossible (cc)
+    → (u : Stage) × (e : Event) × (w ≡ Ok (u, e)) × Onward go z u
+step-passed l h t go (Ok (u, e)) z q = (u, e, refl, admission-passed (line_of t) (go u) (admit l h (line_of t) (text_of t) e) z q)
+step-passed l h t go (Err x) z q = impossible (cc)
 
 pub walked : (l : Lengths) (past : ℕ) (ts us : List Text) (s : Stage) (h z : Held) → runs l past s h (ts ++ us) ≡ passed z
     → (u : Stage) × Walks s ts u × Onward (λ (v : Stage) (g : Held). runs l past v g us) z u

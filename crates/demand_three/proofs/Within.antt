@@ -1,14 +1,13 @@
 -- Within a model a line that opens no section and is not [End] leaves the reading in that model, and adds at most a waveform or a row.
+use Rattle.std.specs.Prelude.{Result, Ok, Err, Option, Some, None}
 use Prim.Native.Nat.{ℕ}
 use mathlib.Core.Path.{◌≡◌, refl, sym, ◌∙◌}
 use mathlib.Core.List.{List}
 use mathlib.Core.Bool.{Bool, true, false, not, ◌&&◌}
 use lib.Dec.{eqb}
-use Rattle.laws.specs.Said.{Result, Said, says, fault}
+use Rattle.laws.specs.Said.{Said}
 use Rattle.laws.proofs.Tests.{cond-all, and_both}
 use Rattle.words.specs.Words.{word, words}
-use Rattle.name_table.specs.declared.Found.{Found}
-use Rattle.name_table.specs.declared.Found.TheVariants.{At, Nothing}
 use Rattle.keywords.specs.Carried.{key_of}
 use Rattle.keywords.specs.declared.Keyword.{Keyword}
 use Rattle.keywords.specs.declared.Keyword.TheVariants as key
@@ -23,7 +22,7 @@ use Rattle.line_rules.specs.Fields.{is_bracketed, line_at, row_of}
 use Rattle.line_rules.specs.Tables.{model_lines, ramp_lines, fixtures}
 use Rattle.given.specs.Given.{with}
 use Rattle.given.specs.declared.Given.{Given}
-use Rattle.rules.specs.Going.{stop, stop_at, unless, passes, refuse, named_line, and_then}
+use Rattle.rules.specs.Going.{stop, stop_at, unless, passes, refuse, named_line, and_then, Went}
 use Rattle.rules.specs.Model.{row_line, begins_letter, waveform_line, model_line, model_place, single_part, waveform_part, model_part, model_shut}
 use Rattle.rules.specs.Steps.{on_version, keyed, on_plain, on_change, on_text}
 use Rattle.rules.specs.Reading.{is_within}
@@ -37,8 +36,6 @@ use Rattle.rules.specs.declared.Stage.{Stage}
 use Rattle.rules.specs.declared.Stage.TheVariants.{BeforeVersion, InHeader, InComponent, InSelector, InModel, AfterEnd}
 use Rattle.rules.specs.declared.Event.{Event}
 use Rattle.rules.specs.declared.Event.TheVariants.{Quiet, Opened, PinRow, ChoiceRow, WaveformOpened, TableRow, Ended}
-use Rattle.rules.specs.declared.Went.{Went}
-use Rattle.rules.specs.declared.Went.TheVariants.{On, Stop}
 
 abbrev pub is_in_model : Stage → Bool
 is_in_model BeforeVersion = false
@@ -58,8 +55,8 @@ is_of_model TableRow = true
 is_of_model (Ended x) = false
 
 abbrev pub stays : Went → Bool
-stays (On s e) = is_in_model s && is_of_model e
-stays (Stop x) = true
+stays (Ok (s, e)) = is_in_model s && is_of_model e
+stays (Err x) = true
 
 -- ---- the checks of one line
 
@@ -76,24 +73,24 @@ unfolding refuse
 stays-refuse t n k w h = cond-all (λ (z : Went). stays z ≡ true) t (stop n k) w (λ t. refl) (λ t. h)
 
 stays_then : (w : Went) (g : Stage → Went) → stays w ≡ true → ((m : ModelState) → stays (g (InModel m)) ≡ true) → stays (and_then w g) ≡ true
-stays_then (On BeforeVersion e) g h q = cc
-stays_then (On (InHeader x) e) g h q = cc
-stays_then (On (InComponent c) e) g h q = cc
-stays_then (On (InSelector s) e) g h q = cc
-stays_then (On (InModel m) e) g h q = q m
-stays_then (On AfterEnd e) g h q = cc
-stays_then (Stop x) g h q = refl
+stays_then (Ok (BeforeVersion, e)) g h q = cc
+stays_then (Ok (InHeader x, e)) g h q = cc
+stays_then (Ok (InComponent c, e)) g h q = cc
+stays_then (Ok (InSelector s, e)) g h q = cc
+stays_then (Ok (InModel m, e)) g h q = q m
+stays_then (Ok (AfterEnd, e)) g h q = cc
+stays_then (Err x) g h q = refl
 
 -- whatever was given then, it is in the model
-stays-named : (g : Given) (x : Found) (y : Flaw) (k : ℕ) (w : List ℕ) (on : Given → Stage) → ((h : Given) → is_in_model (on h) ≡ true) → stays (named_line g x y k w on) ≡ true
-stays-named g Nothing y k w on q = refl
-stays-named g (At i) y k w on q = stays-refuse _ _ _ _ (stays-passes _ _ _ (and_both _ _ (q (with g i)) refl))
+stays-named : (g : Given) (x : Option ℕ) (y : Flaw) (k : ℕ) (w : List ℕ) (on : Given → Stage) → ((h : Given) → is_in_model (on h) ≡ true) → stays (named_line g x y k w on) ≡ true
+stays-named g None y k w on q = refl
+stays-named g (Some i) y k w on q = stays-refuse _ _ _ _ (stays-passes _ _ _ (and_both _ _ (q (with g i)) refl))
 
 -- ---- a model's lines
 
-row_stays : (on : RowsSeen → ModelList) (m : ModelState) (r : RowsSeen) (k : ℕ) (x : Result LineFault Row) → stays (row_line on m r k x) ≡ true
-row_stays on m r k (fault x) = refl
-row_stays on m r k (says l) = stays-refuse _ _ _ _ refl
+row_stays : (on : RowsSeen → ModelList) (m : ModelState) (r : RowsSeen) (k : ℕ) (x : Result Row LineFault) → stays (row_line on m r k x) ≡ true
+row_stays on m r k (Err x) = refl
+row_stays on m r k (Ok l) = stays-refuse _ _ _ _ refl
 
 waveform-stays : (m : ModelState) (o : ℕ) (g : Given) (r : RowsSeen) (k : ℕ) (w : List ℕ) → stays (waveform_line m o g r k w) ≡ true
 unfolding waveform_line
@@ -127,13 +124,13 @@ shut-stays m (WaveformRows o g r) = stays-refuse _ _ _ _ (stays-unless _ _ _ ref
 
 keyed_stays : (m : ModelState) (k : ℕ) (w : List ℕ) (x : Said Keyword) → not (is_end (key_in x)) ≡ true → stays (keyed (InModel m) k w x) ≡ true
 unfolding on_version
-keyed_stays m k w (fault n) h = refl
-keyed_stays m k w (says key.IbisVer) h = refl
-keyed_stays m k w (says (key.InHeader p)) h = refl
-keyed_stays m k w (says (key.Opens o)) h = cc
-keyed_stays m k w (says (key.InComponent p)) h = refl
-keyed_stays m k w (says (key.InModel p)) h = part_stays m k w p
-keyed_stays m k w (says key.End) h = cc
+keyed_stays m k w (Err n) h = refl
+keyed_stays m k w (Ok key.IbisVer) h = refl
+keyed_stays m k w (Ok (key.InHeader p)) h = refl
+keyed_stays m k w (Ok (key.Opens o)) h = cc
+keyed_stays m k w (Ok (key.InComponent p)) h = refl
+keyed_stays m k w (Ok (key.InModel p)) h = part_stays m k w p
+keyed_stays m k w (Ok key.End) h = cc
 
 -- ---- any line
 

@@ -1,27 +1,25 @@
 // The lines of a component's cells, and of a pin's.
-ghost use Rattle.text_buffer.specs.Put.{Put};
+ghost use Rattle.text_buffer.specs.Pages.{Writes};
 ghost use Rattle.records.specs.Cells.{component_cells, pin_cells};
 ghost use Rattle.double_text.specs.Lines.{cell_lines};
 
 use crate::cells::{double_line, triple_lines};
 use records::{Component, Pin};
+use text_buffer::Page;
 
 // The pins' lines follow.
-pub fn component_lines(out: &mut [u8], at: usize, c: Component) -> usize
-    ensures { Put out.old out.new at (cell_lines (component_cells c)) result }
+pub fn component_lines(page: &mut Page, c: Component)
+    ensures { Writes page.old page.new (cell_lines (component_cells c)) }
 {
-    let resistance = triple_lines(out, at, c.resistance);
-    let inductance = triple_lines(out, resistance, c.inductance);
-    triple_lines(out, inductance, c.capacitance)
+    triple_lines(page, c.resistance);
+    triple_lines(page, c.inductance);
+    triple_lines(page, c.capacitance);
 }
 
-pub fn pin_lines(out: &mut [u8], at: usize, pin: Pin) -> usize
-    ensures { Put out.old out.new at (cell_lines (pin_cells pin)) result }
+pub fn pin_lines(page: &mut Page, pin: Pin)
+    ensures { Writes page.old page.new (cell_lines (pin_cells pin)) }
 {
-    let resistance = pin.resistance;
-    let inductance = pin.inductance;
-    let capacitance = pin.capacitance;
-    let first = double_line(out, at, resistance);
-    let second = double_line(out, first, inductance);
-    double_line(out, second, capacitance)
+    double_line(page, pin.resistance);
+    double_line(page, pin.inductance);
+    double_line(page, pin.capacitance);
 }

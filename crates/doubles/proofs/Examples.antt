@@ -1,4 +1,5 @@
 -- Cells and their doubles, bit by bit, as document 02's readings list them: computed.
+use Rattle.std.specs.Prelude.{ℕ, Result, Ok, Err}
 use mathlib.Core.Path.{◌≡◌, refl}
 use mathlib.Core.Bool.{true, false}
 use mathlib.Core.List.{List, [], ◌∷◌, map}
@@ -8,8 +9,7 @@ use Rattle.decimal.specs.declared.Cell.TheVariants.{Number, Missing}
 use Rattle.doubles.specs.Double.{rounded, double_of}
 use Rattle.doubles.specs.declared.CellDouble.TheVariants.{Double}
 use Rattle.doubles.specs.declared.CellDouble.TheVariants as double
-use Rattle.doubles.specs.declared.DoubleRead.{DoubleRead}
-use Rattle.doubles.specs.declared.DoubleRead.TheVariants.{Read, Bad}
+use Rattle.doubles.specs.declared.CellDouble.{CellDouble}
 
 -- 0e0, 8e-1, -25e-2, 33e-1, 1e22, 1e-22, a tie, the largest and the smallest of fifteen digits, 1e23, 1e-23, NA
 abbrev cells : List Cell
@@ -28,20 +28,20 @@ cells =
     ∷ Missing
     ∷ []
 
-abbrev answers : List DoubleRead
+abbrev answers : List (Result CellDouble ℕ)
 answers =
-    Read (Double (of_bits binary64 0x0000_0000_0000_0000))
-    ∷ Read (Double (of_bits binary64 0x3fe9_9999_9999_999a))
-    ∷ Read (Double (of_bits binary64 0xbfd0_0000_0000_0000))
-    ∷ Read (Double (of_bits binary64 0x400a_6666_6666_6666))
-    ∷ Read (Double (of_bits binary64 0x4480_f0cf_064d_d592))
-    ∷ Read (Double (of_bits binary64 0x3b5e_3920_1017_5ee6))
-    ∷ Read (Double (of_bits binary64 0x4360_0000_0000_0010))
-    ∷ Read (Double (of_bits binary64 0x479e_17b8_4357_6913))
-    ∷ Read (Double (of_bits binary64 0xbe7a_d7f2_9abc_af41))
-    ∷ Bad 24
-    ∷ Bad 24
-    ∷ Read double.Missing
+    Ok (Double (of_bits binary64 0x0000_0000_0000_0000))
+    ∷ Ok (Double (of_bits binary64 0x3fe9_9999_9999_999a))
+    ∷ Ok (Double (of_bits binary64 0xbfd0_0000_0000_0000))
+    ∷ Ok (Double (of_bits binary64 0x400a_6666_6666_6666))
+    ∷ Ok (Double (of_bits binary64 0x4480_f0cf_064d_d592))
+    ∷ Ok (Double (of_bits binary64 0x3b5e_3920_1017_5ee6))
+    ∷ Ok (Double (of_bits binary64 0x4360_0000_0000_0010))
+    ∷ Ok (Double (of_bits binary64 0x479e_17b8_4357_6913))
+    ∷ Ok (Double (of_bits binary64 0xbe7a_d7f2_9abc_af41))
+    ∷ Err 24
+    ∷ Err 24
+    ∷ Ok double.Missing
     ∷ []
 
 pub computed : map double_of cells ≡ answers

@@ -1,4 +1,5 @@
 -- Every answer is faithful: the exact decimal lies in the normal range of a double, far from both ends.
+use Rattle.std.specs.Prelude.{Ok, Err}
 use Prim.Native.Nat.{ℕ, zero, suc, ◌+◌, ◌-◌, ◌*◌, ◌/◌, ◌^◌, ◌≤◌, ◌<◌}
 use mathlib.Core.Path.{◌≡◌, refl, sym, ap, ◌∙◌, subst}
 use mathlib.Core.List.{List}
@@ -11,7 +12,6 @@ use lib.IntN.{pos}
 use lib.Ieee.{Float, nan, inf, fin, binary64, round, size, prec, low, up, down, is_nan}
 use lib.Ieee.Scale.{overflow, normal_of_fraction, round_same}
 use borrow.Author.Tests.{ltb-true, ltb-false}
-use Rattle.laws.specs.Said.{says}
 use Rattle.decimal.specs.Decimal.{cell_of}
 use Rattle.decimal.specs.Fine.{FineCell, FineRead}
 use Rattle.decimal.specs.declared.Decimal.{Decimal}
@@ -21,7 +21,6 @@ use Rattle.decimal.proofs.Fine.{cell-fine}
 use Rattle.doubles.specs.Double.{rounded, lower, counted, double_of}
 use Rattle.doubles.specs.Faithful.{gap, apart, Within, Closest, Near, Faithful, counted_cell, AllCount, plus_zero}
 use Rattle.doubles.specs.declared.CellDouble.TheVariants.{Double}
-use Rattle.doubles.specs.declared.DoubleRead.TheVariants.{Read, Bad}
 use Rattle.doubles.proofs.Close.{round-within, round-closest}
 
 -- ---- a fraction a / c from 10 ^ -22 to 10 ^ 37
@@ -100,7 +99,7 @@ near d h l u =
 
 -- ---- every answer, also to cells that no reading gives: of their digits those that count
 
-number-faithful : (d : Decimal) (x y : Bool) → ltb d.power 18 ≡ x → ltb 62 d.power ≡ y → Faithful (Number (counted d)) (cond (x || y) (Bad 24) (Read (Double (rounded (counted d)))))
+number-faithful : (d : Decimal) (x y : Bool) → ltb d.power 18 ≡ x → ltb 62 d.power ≡ y → Faithful (Number (counted d)) (cond (x || y) (Err 24) (Ok (Double (rounded (counted d)))))
 number-faithful d true y e f = (refl, inl (below d.power (ltb-true d.power 18 e)))
   where
     below : (p : ℕ) → p < 18 → p + 22 < 40
@@ -119,7 +118,7 @@ unfolding double_of
 any-faithful (Number d) = number-faithful d (ltb d.power 18) (ltb 62 d.power) refl refl
 any-faithful Missing = tt
 
-finite : (c : Cell) (x : Float) → Faithful c (Read (Double x)) → T (not (is_nan x))
+finite : (c : Cell) (x : Float) → Faithful c (Ok (Double x)) → T (not (is_nan x))
 unfolding is_nan
 finite (Number d) nan h = absurd h.2.within
 finite (Number d) (inf s) h = tt
@@ -127,7 +126,7 @@ finite (Number d) (fin s m e) h = tt
 finite Missing x h = absurd h
 
 -- so no double has a NaN's bits
-pub double-number : (c : Cell) (x : Float) → double_of c ≡ Read (Double x) → T (not (is_nan x))
+pub double-number : (c : Cell) (x : Float) → double_of c ≡ Ok (Double x) → T (not (is_nan x))
 double-number c x e = finite (counted_cell c) x (subst (Faithful (counted_cell c)) e (any-faithful c))
 
 -- ---- what is read has no more digits than count
@@ -140,7 +139,7 @@ pub faithful : (c : Cell) → FineCell c → Faithful c (double_of c)
 faithful c h = subst (λ (b : Cell). Faithful b (double_of c)) (all-count c h) (any-faithful c)
 
 -- what a word says
-pub read-faithful : (w : List ℕ) (c : Cell) → cell_of w ≡ says c → AllCount c × Faithful c (double_of c)
+pub read-faithful : (w : List ℕ) (c : Cell) → cell_of w ≡ Ok c → AllCount c × Faithful c (double_of c)
 read-faithful w c e =
     let f = subst FineRead e (cell-fine w) in
     (all-count c f, faithful c f)

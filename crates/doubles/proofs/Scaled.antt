@@ -1,4 +1,5 @@
 -- The whole number as a double without loss, then one division or one multiplication by an exact power of ten: the exact decimal rounded once.
+use Rattle.std.specs.Prelude.{Result, Ok, Err}
 use Prim.Native.Nat.{ℕ, ◌-◌, ◌*◌, ◌^◌, ◌≤◌, ◌<◌}
 use mathlib.Core.Path.{◌≡◌, sym, ap, ◌∙◌}
 use mathlib.Core.Bool.{Bool, true, false, cond, ◌&&◌, ◌||◌}
@@ -14,8 +15,7 @@ use Rattle.decimal.specs.declared.Decimal.{Decimal}
 use Rattle.decimal.specs.declared.Cell.TheVariants.{Number}
 use Rattle.doubles.specs.Double.{rounded, is_negative, upper, lower, counted, double_of}
 use Rattle.doubles.specs.declared.CellDouble.TheVariants.{Double}
-use Rattle.doubles.specs.declared.DoubleRead.{DoubleRead}
-use Rattle.doubles.specs.declared.DoubleRead.TheVariants.{Read, Bad}
+use Rattle.doubles.specs.declared.CellDouble.{CellDouble}
 use Rattle.doubles.proofs.Once.{product, quotient, negated}
 
 -- fifteen digits are below 2 ^ 53
@@ -66,19 +66,19 @@ module _ (d : Decimal) (size : Float) (h : size ≡ round binary64 false (upper 
 -- ---- both ends of the powers, and what lies between them
 
 module _ (d : Decimal) where
-  abbrev within : DoubleRead
-  within = Read (Double (rounded (counted d)))
+  abbrev within : Result CellDouble ℕ
+  within = Ok (Double (rounded (counted d)))
 
-  pub too-low : d.power < 18 → Bad 24 ≡ double_of (Number d)
+  pub too-low : d.power < 18 → Err 24 ≡ double_of (Number d)
   unfolding double_of
-  too-low h = sym (ap (λ (b : Bool). cond (b || ltb 62 d.power) (Bad 24) within) (lt-ltb d.power 18 h))
+  too-low h = sym (ap (λ (b : Bool). cond (b || ltb 62 d.power) (Err 24) within) (lt-ltb d.power 18 h))
 
-  between : 18 ≤ d.power → cond (ltb 62 d.power) (Bad 24) within ≡ double_of (Number d)
+  between : 18 ≤ d.power → cond (ltb 62 d.power) (Err 24) within ≡ double_of (Number d)
   unfolding double_of
-  between h = sym (ap (λ (b : Bool). cond (b || ltb 62 d.power) (Bad 24) within) (le-ltb d.power 18 h))
+  between h = sym (ap (λ (b : Bool). cond (b || ltb 62 d.power) (Err 24) within) (le-ltb d.power 18 h))
 
-  pub too-high : 18 ≤ d.power → 62 < d.power → Bad 24 ≡ double_of (Number d)
-  too-high l h = sym (ap (λ (b : Bool). cond b (Bad 24) within) (lt-ltb 62 d.power h)) ∙ between l
+  pub too-high : 18 ≤ d.power → 62 < d.power → Err 24 ≡ double_of (Number d)
+  too-high l h = sym (ap (λ (b : Bool). cond b (Err 24) within) (lt-ltb 62 d.power h)) ∙ between l
 
   pub near-enough : 18 ≤ d.power → d.power ≤ 62 → within ≡ double_of (Number d)
-  near-enough l h = sym (ap (λ (b : Bool). cond b (Bad 24) within) (le-ltb 62 d.power h)) ∙ between l
+  near-enough l h = sym (ap (λ (b : Bool). cond b (Err 24) within) (le-ltb 62 d.power h)) ∙ between l

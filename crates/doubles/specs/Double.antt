@@ -1,5 +1,5 @@
 -- A cell as a double: document 02, "Cells as doubles".
-use Rattle.std.specs.Prelude.{ℕ, ◌+◌, ◌-◌, ◌*◌, ◌%◌, ◌^◌, Bool, cond, ◌&&◌, ◌||◌, ltb, Float}
+use Rattle.std.specs.Prelude.{ℕ, ◌+◌, ◌-◌, ◌*◌, ◌%◌, ◌^◌, Bool, cond, ◌&&◌, ◌||◌, ltb, Float, Result, Ok, Err}
 use Rattle.std.specs.Float.{binary64}
 use Rattle.std.specs.Float.Ieee.{round}
 use Rattle.decimal.specs.Decimal.{offset}
@@ -8,8 +8,7 @@ use Rattle.decimal.specs.declared.Cell.{Cell}
 use Rattle.decimal.specs.declared.Cell.TheVariants.{Number, Missing}
 use Rattle.doubles.specs.declared.CellDouble.TheVariants.{Double}
 use Rattle.doubles.specs.declared.CellDouble.TheVariants as double
-use Rattle.doubles.specs.declared.DoubleRead.{DoubleRead}
-use Rattle.doubles.specs.declared.DoubleRead.TheVariants.{Read, Bad}
+use Rattle.doubles.specs.declared.CellDouble.{CellDouble}
 
 -- ---- the exact decimal: in size the fraction upper / lower. The power is kept with the offset added
 
@@ -37,6 +36,6 @@ abbrev pub is_far : Decimal → Bool
 is_far d = ltb d.power (offset - 22) || ltb (offset + 22) d.power
 
 -- "Give each cell either as a double or as missing"; "a missing cell passes"
-unfoldable pub double_of : Cell → DoubleRead
-double_of (Number d) = cond (is_far d) (Bad 24) (Read (Double (rounded (counted d))))
-double_of Missing = Read double.Missing
+unfoldable pub double_of : Cell → Result CellDouble ℕ
+double_of (Number d) = cond (is_far d) (Err 24) (Ok (Double (rounded (counted d))))
+double_of Missing = Ok double.Missing

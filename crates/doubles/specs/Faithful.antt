@@ -1,5 +1,5 @@
 -- What the double of a cell is worth: "State the distance to the exact value over whole numbers".
-use Rattle.std.specs.Prelude.{ℕ, ◌+◌, ◌-◌, ◌*◌, ◌^◌, ◌≤◌, ◌<◌, ◌≡◌, ◌⊎◌, Bool, false, cond, T, ℤ, pos, Float}
+use Rattle.std.specs.Prelude.{ℕ, ◌+◌, ◌-◌, ◌*◌, ◌^◌, ◌≤◌, ◌<◌, ◌≡◌, ◌⊎◌, Bool, false, cond, T, ℤ, pos, Float, Result, Ok, Err}
 use Rattle.std.specs.Bool.{beq}
 use Rattle.std.specs.Float.{nan, inf, fin, Format, binary64}
 use Rattle.std.specs.Float.Ieee.{up, down, fits}
@@ -10,8 +10,7 @@ use Rattle.decimal.specs.declared.Cell.TheVariants.{Number, Missing}
 use Rattle.doubles.specs.Double.{upper, lower, is_negative, counted}
 use Rattle.doubles.specs.declared.CellDouble.TheVariants.{Double}
 use Rattle.doubles.specs.declared.CellDouble.TheVariants as double
-use Rattle.doubles.specs.declared.DoubleRead.{DoubleRead}
-use Rattle.doubles.specs.declared.DoubleRead.TheVariants.{Read, Bad}
+use Rattle.doubles.specs.declared.CellDouble.{CellDouble}
 
 -- |a - b|
 abbrev pub gap : ℕ → ℕ → ℕ
@@ -47,13 +46,13 @@ pub record Near (d : Decimal) (x : Float) : Type 0 where
   pub zero : d.digits ≡ 0 → x ≡ plus_zero
 
 -- what is worth saying of the answer to a cell
-abbrev pub Faithful : Cell → DoubleRead → Type 0
-Faithful Missing (Read double.Missing) = Unit {0}
-Faithful Missing (Read (Double x)) = ⊥
-Faithful Missing (Bad n) = ⊥
-Faithful (Number d) (Read double.Missing) = ⊥
-Faithful (Number d) (Read (Double x)) = (offset ≤ d.power + 22) × (d.power ≤ offset + 22) × Near d x
-Faithful (Number d) (Bad n) = (n ≡ 24) × ((d.power + 22 < offset) ⊎ (offset + 22 < d.power))
+abbrev pub Faithful : Cell → Result CellDouble ℕ → Type 0
+Faithful Missing (Ok double.Missing) = Unit {0}
+Faithful Missing (Ok (Double x)) = ⊥
+Faithful Missing (Err n) = ⊥
+Faithful (Number d) (Ok double.Missing) = ⊥
+Faithful (Number d) (Ok (Double x)) = (offset ≤ d.power + 22) × (d.power ≤ offset + 22) × Near d x
+Faithful (Number d) (Err n) = (n ≡ 24) × ((d.power + 22 < offset) ⊎ (offset + 22 < d.power))
 
 -- a cell with the digits that count
 abbrev pub counted_cell : Cell → Cell

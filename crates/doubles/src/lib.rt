@@ -11,18 +11,11 @@ ghost use Rattle.doubles.specs.Double.{rounded, counted, double_of};
 
 use decimal::{Cell, Decimal};
 
-// A cell as a double, or missing.
+// A cell as a double, or missing: the two cases of a Cell.
 #[derive(Clone, Copy)]
 pub enum CellDouble {
     Double(f64),
     Missing,
-}
-
-// That, or the fault: 24, the power is below -22 or above 22.
-#[derive(Clone, Copy)]
-pub enum DoubleRead {
-    Read(CellDouble),
-    Bad(u8),
 }
 
 // The powers of ten that are doubles exactly, from 10^0 on.
@@ -69,30 +62,30 @@ fn nearest_to(d: Decimal) -> f64
     size
 }
 
-fn double_of_number(d: Decimal) -> DoubleRead
+fn double_of_number(d: Decimal) -> Result<CellDouble, u8>
     ensures { result ≡ double_of (Number d) }
 {
     if d.power < 18 {
-        return DoubleRead::Bad(24);
+        return Err(24);
     }
     if 62 < d.power {
-        return DoubleRead::Bad(24);
+        return Err(24);
     }
-    DoubleRead::Read(CellDouble::Double(nearest_to(d)))
+    Ok(CellDouble::Double(nearest_to(d)))
 }
 
 // A cell as a double or as missing, or 24.
-pub fn double_of(c: Cell) -> DoubleRead
+pub fn double_of(c: Cell) -> Result<CellDouble, u8>
     ensures { result ≡ double_of c }
 {
     match c {
         Cell::Number(d) => double_of_number(d),
-        Cell::Missing => DoubleRead::Read(CellDouble::Missing),
+        Cell::Missing => Ok(CellDouble::Missing),
     }
 }
 
 // The same of the cell that a word of the row store holds.
-pub fn double_in(w: u64) -> DoubleRead
+pub fn double_in(w: u64) -> Result<CellDouble, u8>
     ensures { result ≡ double_of (cell_in w) }
 {
     double_of(decimal::cell_in(w))

@@ -1,13 +1,13 @@
 -- The dump of models: their own lines, tables, ramps, waveforms and rows.
-use Rattle.std.specs.Prelude.{ℕ, List, ◌++◌, cond}
+use Rattle.std.specs.Prelude.{ℕ, List, ◌++◌, cond, Some, None, Option}
 use Rattle.laws.specs.Bytes.{bytes}
 use Rattle.decimal.specs.Answers.{cell_in}
 use Rattle.records.specs.declared.Edge.{Edge}
 use Rattle.records.specs.declared.Edge.TheVariants.{Rising, Falling}
 use Rattle.records.specs.declared.Polarity.{Polarity}
-use Rattle.records.specs.declared.Polarity.TheVariants.{NoPolarity, Inverting, NonInverting}
+use Rattle.records.specs.declared.Polarity.TheVariants.{Inverting, NonInverting}
 use Rattle.records.specs.declared.Enable.{Enable}
-use Rattle.records.specs.declared.Enable.TheVariants.{NoEnable, ActiveHigh, ActiveLow}
+use Rattle.records.specs.declared.Enable.TheVariants.{ActiveHigh, ActiveLow}
 use Rattle.records.specs.declared.Model.{Model}
 use Rattle.records.specs.declared.ModelType.{ModelType}
 use Rattle.records.specs.declared.RampCell.{RampCell}
@@ -28,15 +28,15 @@ unfoldable pub type_line : ModelType → List ℕ
 type_line k = bytes "MODEL_TYPE " ++ type_name k ++ bytes "\n"
 
 -- "`-`: not given"
-abbrev pub polarity_line : Polarity → List ℕ
-polarity_line NoPolarity = bytes "POLARITY -\n"
-polarity_line Inverting = bytes "POLARITY Inverting\n"
-polarity_line NonInverting = bytes "POLARITY Non-Inverting\n"
+abbrev pub polarity_line : Option Polarity → List ℕ
+polarity_line None = bytes "POLARITY -\n"
+polarity_line (Some Inverting) = bytes "POLARITY Inverting\n"
+polarity_line (Some NonInverting) = bytes "POLARITY Non-Inverting\n"
 
-abbrev pub enable_line : Enable → List ℕ
-enable_line NoEnable = bytes "ENABLE -\n"
-enable_line ActiveHigh = bytes "ENABLE Active-High\n"
-enable_line ActiveLow = bytes "ENABLE Active-Low\n"
+abbrev pub enable_line : Option Enable → List ℕ
+enable_line None = bytes "ENABLE -\n"
+enable_line (Some ActiveHigh) = bytes "ENABLE Active-High\n"
+enable_line (Some ActiveLow) = bytes "ENABLE Active-Low\n"
 
 unfoldable pub head_lines : ℕ → Model → List ℕ
 head_lines index m =

@@ -1,7 +1,7 @@
 // The dump's lines of a model: its own, and those of its tables, ramp, waveforms and rows.
-#![tactic(auto)]
+#![tactic(auto, using(text_buffer::proofs::Laws::put_append), unfolding(crate::specs::Models::type_line, crate::specs::Models::head_lines, crate::specs::Models::split_lines, crate::specs::Models::level_lines, crate::specs::Models::range_lines, crate::specs::Models::model_dump, crate::specs::Models::table_text, crate::specs::Models::table_line, crate::specs::Models::slopes_dump, crate::specs::Models::ramp_dump, crate::specs::Models::waveforms_line, crate::specs::Models::fixture_lines, crate::specs::Models::device_lines, crate::specs::Models::waveform_lines, crate::specs::Models::word_text, crate::specs::Models::row_dump,))]
 
-ghost use Rattle.text_buffer.specs.Put.{Put};
+ghost use Rattle.text_buffer.specs.Pages.{Writes};
 ghost use Rattle.dump_model_text.specs.Models.{type_line, polarity_line, enable_line, head_lines, split_lines, level_lines, range_lines, model_dump, table_text, table_line, slope_text, slopes_dump, ramp_dump, waveforms_line, edge_text, fixture_lines, device_lines, waveform_lines, word_text, row_dump};
 
 use decimal::cell_in;
@@ -10,223 +10,217 @@ use records::{
     Edge, Enable, Model, ModelType, Polarity, RampCell, RampTable, RampTriple, Split, Table,
     Waveform,
 };
-use text_buffer::{put_byte, put_bytes, put_count, put_decimal, put_next_cell};
+use text_buffer::Page;
 use type_text::put_type;
 
-fn type_line(out: &mut [u8], at: usize, kind: ModelType) -> usize
-    ensures { Put out.old out.new at (type_line kind) result }
+fn type_line(page: &mut Page, kind: ModelType)
+    ensures { Writes page.old page.new (type_line kind) }
 {
-    let label = put_bytes(out, at, b"MODEL_TYPE ");
-    let word = put_type(out, label, kind);
-    put_byte(out, word, b'\n')
+    page.put_bytes(b"MODEL_TYPE ");
+    put_type(page, kind);
+    page.put_byte(b'\n');
 }
 
-fn polarity_line(out: &mut [u8], at: usize, polarity: Polarity) -> usize
-    ensures { Put out.old out.new at (polarity_line polarity) result }
+fn put_polarity(page: &mut Page, polarity: Polarity)
+    ensures { Writes page.old page.new (polarity_line (Some polarity)) }
 {
     match polarity {
-        Polarity::NoPolarity => put_bytes(out, at, b"POLARITY -\n"),
-        Polarity::Inverting => put_bytes(out, at, b"POLARITY Inverting\n"),
-        Polarity::NonInverting => put_bytes(out, at, b"POLARITY Non-Inverting\n"),
+        Polarity::Inverting => page.put_bytes(b"POLARITY Inverting\n"),
+        Polarity::NonInverting => page.put_bytes(b"POLARITY Non-Inverting\n"),
     }
 }
 
-fn enable_line(out: &mut [u8], at: usize, enable: Enable) -> usize
-    ensures { Put out.old out.new at (enable_line enable) result }
+fn polarity_line(page: &mut Page, polarity: Option<Polarity>)
+    ensures { Writes page.old page.new (polarity_line polarity) }
+{
+    match polarity {
+        Some(p) => put_polarity(page, p),
+        None => page.put_bytes(b"POLARITY -\n"),
+    }
+}
+
+fn put_enable(page: &mut Page, enable: Enable)
+    ensures { Writes page.old page.new (enable_line (Some enable)) }
 {
     match enable {
-        Enable::NoEnable => put_bytes(out, at, b"ENABLE -\n"),
-        Enable::ActiveHigh => put_bytes(out, at, b"ENABLE Active-High\n"),
-        Enable::ActiveLow => put_bytes(out, at, b"ENABLE Active-Low\n"),
+        Enable::ActiveHigh => page.put_bytes(b"ENABLE Active-High\n"),
+        Enable::ActiveLow => page.put_bytes(b"ENABLE Active-Low\n"),
     }
 }
 
-fn head_lines(out: &mut [u8], at: usize, index: usize, m: Model) -> usize
-    ensures { Put out.old out.new at (head_lines index m) result }
+fn enable_line(page: &mut Page, enable: Option<Enable>)
+    ensures { Writes page.old page.new (enable_line enable) }
 {
-    let kind = m.kind;
-    let polarity = m.polarity;
-    let enable = m.enable;
-    let first = section_line(out, at, b"MODEL", index, m.name);
-    let second = type_line(out, first, kind);
-    let third = polarity_line(out, second, polarity);
-    let fourth = enable_line(out, third, enable);
-    triple_line(out, fourth, b"C_COMP", m.comp)
+    match enable {
+        Some(e) => put_enable(page, e),
+        None => page.put_bytes(b"ENABLE -\n"),
+    }
 }
 
-fn split_lines(out: &mut [u8], at: usize, split: Split) -> usize
-    ensures { Put out.old out.new at (split_lines split) result }
+fn head_lines(page: &mut Page, index: usize, m: Model)
+    ensures { Writes page.old page.new (head_lines index m) }
 {
-    let first = range_line(out, at, b"C_COMP_PULLUP", split.pullup);
-    let second = range_line(out, first, b"C_COMP_PULLDOWN", split.pulldown);
-    let third = range_line(out, second, b"C_COMP_POWER_CLAMP", split.power);
-    range_line(out, third, b"C_COMP_GND_CLAMP", split.ground)
+    section_line(page, b"MODEL", index, m.name);
+    type_line(page, m.kind);
+    polarity_line(page, m.polarity);
+    enable_line(page, m.enable);
+    triple_line(page, b"C_COMP", m.comp);
 }
 
-fn level_lines(out: &mut [u8], at: usize, m: Model) -> usize
-    ensures { Put out.old out.new at (level_lines m) result }
+fn split_lines(page: &mut Page, split: Split)
+    ensures { Writes page.old page.new (split_lines split) }
 {
-    let vinl = m.vinl;
-    let vinh = m.vinh;
-    let vmeas = m.vmeas;
-    let cref = m.cref;
-    let rref = m.rref;
-    let vref = m.vref;
-    let first = cell_line(out, at, b"VINL", vinl);
-    let second = cell_line(out, first, b"VINH", vinh);
-    let third = cell_line(out, second, b"VMEAS", vmeas);
-    let fourth = cell_line(out, third, b"CREF", cref);
-    let fifth = cell_line(out, fourth, b"RREF", rref);
-    cell_line(out, fifth, b"VREF", vref)
+    range_line(page, b"C_COMP_PULLUP", split.pullup);
+    range_line(page, b"C_COMP_PULLDOWN", split.pulldown);
+    range_line(page, b"C_COMP_POWER_CLAMP", split.power);
+    range_line(page, b"C_COMP_GND_CLAMP", split.ground);
 }
 
-fn range_lines(out: &mut [u8], at: usize, m: Model) -> usize
-    ensures { Put out.old out.new at (range_lines m) result }
+fn level_lines(page: &mut Page, m: Model)
+    ensures { Writes page.old page.new (level_lines m) }
 {
-    let voltage = triple_line(out, at, b"VOLTAGE_RANGE", m.voltage);
-    range_line(out, voltage, b"TEMPERATURE_RANGE", m.temperature)
+    cell_line(page, b"VINL", m.vinl);
+    cell_line(page, b"VINH", m.vinh);
+    cell_line(page, b"VMEAS", m.vmeas);
+    cell_line(page, b"CREF", m.cref);
+    cell_line(page, b"RREF", m.rref);
+    cell_line(page, b"VREF", m.vref);
+}
+
+fn range_lines(page: &mut Page, m: Model)
+    ensures { Writes page.old page.new (range_lines m) }
+{
+    triple_line(page, b"VOLTAGE_RANGE", m.voltage);
+    range_line(page, b"TEMPERATURE_RANGE", m.temperature);
 }
 
 // A model's lines before its tables.
-pub fn model_lines(out: &mut [u8], at: usize, index: usize, m: Model) -> usize
-    ensures { Put out.old out.new at (model_dump index m) result }
+pub fn model_lines(page: &mut Page, index: usize, m: Model)
+    ensures { Writes page.old page.new (model_dump index m) }
 {
-    let head = head_lines(out, at, index, m);
-    let split = split_lines(out, head, m.split);
-    let levels = level_lines(out, split, m);
-    range_lines(out, levels, m)
+    head_lines(page, index, m);
+    split_lines(page, m.split);
+    level_lines(page, m);
+    range_lines(page, m);
 }
 
-fn put_table(out: &mut [u8], at: usize, table: Table) -> usize
-    ensures { Put out.old out.new at (table_text table) result }
+fn put_table(page: &mut Page, table: Table)
+    ensures { Writes page.old page.new (table_text table) }
 {
     if table.given {
-        return put_count(out, at, table.rows.count);
+        page.put_count(table.rows.count);
+    } else {
+        page.put_bytes(b" -");
     }
-    put_bytes(out, at, b" -")
 }
 
 // A current table's line, by the table's name; its rows follow.
-pub fn table_line(out: &mut [u8], at: usize, name: &[u8], table: Table) -> usize
-    ensures { Put out.old out.new at (table_line name.now table) result }
+pub fn table_line(page: &mut Page, name: &[u8], table: Table)
+    ensures { Writes page.old page.new (table_line name.now table) }
 {
-    let kind = put_bytes(out, at, b"TABLE ");
-    let named = put_bytes(out, kind, name);
-    let count = put_table(out, named, table);
-    put_byte(out, count, b'\n')
+    page.put_bytes(b"TABLE ");
+    page.put_bytes(name);
+    put_table(page, table);
+    page.put_byte(b'\n');
 }
 
-fn put_slope(out: &mut [u8], at: usize, slope: RampCell) -> usize
-    ensures { Put out.old out.new at (slope_text slope) result }
+fn put_slope(page: &mut Page, slope: RampCell)
+    ensures { Writes page.old page.new (slope_text slope) }
 {
     match slope {
         RampCell::Ratio { dividend, divisor } => {
-            let space = put_byte(out, at, b' ');
-            let above = put_decimal(out, space, dividend);
-            let bar = put_byte(out, above, b'/');
-            put_decimal(out, bar, divisor)
+            page.put_byte(b' ');
+            page.put_decimal(dividend);
+            page.put_byte(b'/');
+            page.put_decimal(divisor);
         }
-        RampCell::Absent => put_bytes(out, at, b" NA"),
+        RampCell::Absent => page.put_bytes(b" NA"),
     }
 }
 
-fn slopes_line(out: &mut [u8], at: usize, label: &[u8], slopes: RampTriple) -> usize
-    ensures { Put out.old out.new at (slopes_dump label.now slopes) result }
+fn slopes_line(page: &mut Page, label: &[u8], slopes: RampTriple)
+    ensures { Writes page.old page.new (slopes_dump label.now slopes) }
 {
-    let typ = slopes.typ;
-    let min = slopes.min;
-    let max = slopes.max;
-    let named = put_bytes(out, at, label);
-    let first = put_slope(out, named, typ);
-    let second = put_slope(out, first, min);
-    let third = put_slope(out, second, max);
-    put_byte(out, third, b'\n')
+    page.put_bytes(label);
+    put_slope(page, slopes.typ);
+    put_slope(page, slopes.min);
+    put_slope(page, slopes.max);
+    page.put_byte(b'\n');
 }
 
-pub fn ramp_lines(out: &mut [u8], at: usize, ramp: RampTable) -> usize
-    ensures { Put out.old out.new at (ramp_dump ramp) result }
+pub fn ramp_lines(page: &mut Page, ramp: RampTable)
+    ensures { Writes page.old page.new (ramp_dump ramp) }
 {
     if ramp.given {
-        let load = ramp.load;
-        let first = put_bytes(out, at, b"RAMP +\n");
-        let rise = slopes_line(out, first, b"DVDT_R", ramp.rise);
-        let fall = slopes_line(out, rise, b"DVDT_F", ramp.fall);
-        return cell_line(out, fall, b"R_LOAD", load);
+        page.put_bytes(b"RAMP +\n");
+        slopes_line(page, b"DVDT_R", ramp.rise);
+        slopes_line(page, b"DVDT_F", ramp.fall);
+        cell_line(page, b"R_LOAD", ramp.load);
+    } else {
+        page.put_bytes(b"RAMP -\n");
     }
-    put_bytes(out, at, b"RAMP -\n")
 }
 
 // How many waveforms a model has; they follow.
-pub fn waveforms_line(out: &mut [u8], at: usize, m: Model) -> usize
-    ensures { Put out.old out.new at (waveforms_line m) result }
+pub fn waveforms_line(page: &mut Page, m: Model)
+    ensures { Writes page.old page.new (waveforms_line m) }
 {
-    count_line(out, at, b"WAVEFORMS", m.waveforms.count)
+    count_line(page, b"WAVEFORMS", m.waveforms.count);
 }
 
-fn put_edge(out: &mut [u8], at: usize, edge: Edge) -> usize
-    ensures { Put out.old out.new at (edge_text edge) result }
+fn put_edge(page: &mut Page, edge: Edge)
+    ensures { Writes page.old page.new (edge_text edge) }
 {
     match edge {
-        Edge::Rising => put_bytes(out, at, b"WAVEFORM Rising"),
-        Edge::Falling => put_bytes(out, at, b"WAVEFORM Falling"),
+        Edge::Rising => page.put_bytes(b"WAVEFORM Rising"),
+        Edge::Falling => page.put_bytes(b"WAVEFORM Falling"),
     }
 }
 
-fn fixture_lines(out: &mut [u8], at: usize, w: Waveform) -> usize
-    ensures { Put out.old out.new at (fixture_lines w) result }
+fn fixture_lines(page: &mut Page, w: Waveform)
+    ensures { Writes page.old page.new (fixture_lines w) }
 {
-    let resistance = w.rfixture;
-    let voltage = w.vfixture;
-    let lowest = w.vmin;
-    let highest = w.vmax;
-    let capacitance = w.cfixture;
-    let inductance = w.lfixture;
-    let first = cell_line(out, at, b"R_FIXTURE", resistance);
-    let second = cell_line(out, first, b"V_FIXTURE", voltage);
-    let third = cell_line(out, second, b"V_FIXTURE_MIN", lowest);
-    let fourth = cell_line(out, third, b"V_FIXTURE_MAX", highest);
-    let fifth = cell_line(out, fourth, b"C_FIXTURE", capacitance);
-    cell_line(out, fifth, b"L_FIXTURE", inductance)
+    cell_line(page, b"R_FIXTURE", w.rfixture);
+    cell_line(page, b"V_FIXTURE", w.vfixture);
+    cell_line(page, b"V_FIXTURE_MIN", w.vmin);
+    cell_line(page, b"V_FIXTURE_MAX", w.vmax);
+    cell_line(page, b"C_FIXTURE", w.cfixture);
+    cell_line(page, b"L_FIXTURE", w.lfixture);
 }
 
-fn device_lines(out: &mut [u8], at: usize, w: Waveform) -> usize
-    ensures { Put out.old out.new at (device_lines w) result }
+fn device_lines(page: &mut Page, w: Waveform)
+    ensures { Writes page.old page.new (device_lines w) }
 {
-    let resistance = w.rdut;
-    let inductance = w.ldut;
-    let capacitance = w.cdut;
-    let first = cell_line(out, at, b"R_DUT", resistance);
-    let second = cell_line(out, first, b"L_DUT", inductance);
-    cell_line(out, second, b"C_DUT", capacitance)
+    cell_line(page, b"R_DUT", w.rdut);
+    cell_line(page, b"L_DUT", w.ldut);
+    cell_line(page, b"C_DUT", w.cdut);
 }
 
 // The rows follow, a line each.
-pub fn waveform_lines(out: &mut [u8], at: usize, w: Waveform) -> usize
-    ensures { Put out.old out.new at (waveform_lines w) result }
+pub fn waveform_lines(page: &mut Page, w: Waveform)
+    ensures { Writes page.old page.new (waveform_lines w) }
 {
-    let edge = w.edge;
-    let named = put_edge(out, at, edge);
-    let first = count_line(out, named, b"", w.rows.count);
-    let fixtures = fixture_lines(out, first, w);
-    device_lines(out, fixtures, w)
+    put_edge(page, w.edge);
+    count_line(page, b"", w.rows.count);
+    fixture_lines(page, w);
+    device_lines(page, w);
 }
 
 // A space and the cell that a word of the row store holds.
-fn put_word(out: &mut [u8], at: usize, word: u64) -> usize
-    ensures { Put out.old out.new at (word_text word) result }
+fn put_word(page: &mut Page, word: u64)
+    ensures { Writes page.old page.new (word_text word) }
 {
-    let cell = cell_in(word);
-    put_next_cell(out, at, cell)
+    page.put_next_cell(cell_in(word));
 }
 
 // A row of the row store: its number and its three cells, a word each.
-pub fn row_line(out: &mut [u8], at: usize, number: u64, typ: u64, min: u64, max: u64) -> usize
-    ensures { Put out.old out.new at (row_dump number typ min max) result }
+pub fn row_line(page: &mut Page, number: u64, typ: u64, min: u64, max: u64)
+    ensures { Writes page.old page.new (row_dump number typ min max) }
 {
-    let kind = put_bytes(out, at, b"ROW");
-    let first = put_word(out, kind, number);
-    let second = put_word(out, first, typ);
-    let third = put_word(out, second, min);
-    let fourth = put_word(out, third, max);
-    put_byte(out, fourth, b'\n')
+    page.put_bytes(b"ROW");
+    put_word(page, number);
+    put_word(page, typ);
+    put_word(page, min);
+    put_word(page, max);
+    page.put_byte(b'\n');
 }

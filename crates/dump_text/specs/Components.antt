@@ -9,7 +9,7 @@ use Rattle.records.specs.declared.Location.{Location}
 use Rattle.records.specs.declared.Location.TheVariants.{AtPin, AtDie}
 use Rattle.records.specs.declared.Pin.{Pin}
 use Rattle.records.specs.declared.Selector.{Selector}
-use Rattle.records.specs.declared.Words.{Words}
+use Rattle.records.specs.Texts.{Words}
 use Rattle.text_buffer.specs.Lines.{name_text, words_text, names_text, count_text, next_cell}
 use Rattle.dump_text.specs.Labelled.{triple_line, count_line, name_line, words_line, section_line}
 

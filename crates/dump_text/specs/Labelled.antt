@@ -2,8 +2,7 @@
 use Rattle.std.specs.Prelude.{ℕ, List, ◌++◌, cond}
 use Rattle.laws.specs.Bytes.{bytes}
 use Rattle.decimal.specs.declared.Cell.{Cell}
-use Rattle.records.specs.declared.Name.{Name}
-use Rattle.records.specs.declared.Words.{Words}
+use Rattle.records.specs.Texts.{Name, Words}
 use Rattle.records.specs.declared.Triple.{Triple}
 use Rattle.records.specs.declared.Range.{Range}
 use Rattle.text_buffer.specs.Lines.{name_text, words_text, count_text, next_cell}

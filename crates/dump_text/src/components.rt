@@ -1,115 +1,111 @@
 // The dump's first and last lines, components with their pins, and selectors with their choices.
-ghost use Rattle.text_buffer.specs.Put.{Put};
+ghost use Rattle.text_buffer.specs.Pages.{Writes};
 ghost use Rattle.dump_text.specs.Components.{header_lines, accepted_text, end_text, location_line, place_lines, package_dump, component_dump, pin_line, selector_lines, description_text, choice_line};
 
 use crate::labelled::{count_line, name_line, section_line, triple_line, words_line};
 use records::{Choice, Component, Counts, Header, Location, Pin, Selector, Words};
-use text_buffer::{put_byte, put_bytes, put_count, put_name, put_names, put_next_cell, put_words};
+use text_buffer::Page;
 
 // `OK` with seven counts.
-pub fn accepted_line(out: &mut [u8], at: usize, counts: Counts) -> usize
-    ensures { Put out.old out.new at (accepted_text counts) result }
+pub fn accepted_line(page: &mut Page, counts: Counts)
+    ensures { Writes page.old page.new (accepted_text counts) }
 {
-    let verdict = put_bytes(out, at, b"OK");
-    let components = put_count(out, verdict, counts.components);
-    let pins = put_count(out, components, counts.pins);
-    let selectors = put_count(out, pins, counts.selectors);
-    let choices = put_count(out, selectors, counts.choices);
-    let models = put_count(out, choices, counts.models);
-    let waveforms = put_count(out, models, counts.waveforms);
-    let rows = put_count(out, waveforms, counts.rows);
-    put_byte(out, rows, b'\n')
+    page.put_bytes(b"OK");
+    page.put_count(counts.components);
+    page.put_count(counts.pins);
+    page.put_count(counts.selectors);
+    page.put_count(counts.choices);
+    page.put_count(counts.models);
+    page.put_count(counts.waveforms);
+    page.put_count(counts.rows);
+    page.put_byte(b'\n');
 }
 
-pub fn header_lines(out: &mut [u8], at: usize, header: Header) -> usize
-    ensures { Put out.old out.new at (header_lines header) result }
+pub fn header_lines(page: &mut Page, header: Header)
+    ensures { Writes page.old page.new (header_lines header) }
 {
-    let name = words_line(out, at, b"FILE_NAME", header.name);
-    words_line(out, name, b"FILE_REV", header.revision)
+    words_line(page, b"FILE_NAME", header.name);
+    words_line(page, b"FILE_REV", header.revision);
 }
 
-pub fn end_line(out: &mut [u8], at: usize) -> usize
-    ensures { Put out.old out.new at end_text result }
+pub fn end_line(page: &mut Page)
+    ensures { Writes page.old page.new end_text }
 {
-    put_bytes(out, at, b"END\n")
+    page.put_bytes(b"END\n");
 }
 
-fn location_line(out: &mut [u8], at: usize, label: &[u8], place: Location) -> usize
-    ensures { Put out.old out.new at (location_line label.now place) result }
+fn location_line(page: &mut Page, label: &[u8], place: Location)
+    ensures { Writes page.old page.new (location_line label.now place) }
 {
-    let named = put_bytes(out, at, label);
+    page.put_bytes(label);
     match place {
-        Location::AtPin => put_bytes(out, named, b" Pin\n"),
-        Location::AtDie => put_bytes(out, named, b" Die\n"),
+        Location::AtPin => page.put_bytes(b" Pin\n"),
+        Location::AtDie => page.put_bytes(b" Die\n"),
     }
 }
 
-fn place_lines(out: &mut [u8], at: usize, c: Component) -> usize
-    ensures { Put out.old out.new at (place_lines c) result }
+fn place_lines(page: &mut Page, c: Component)
+    ensures { Writes page.old page.new (place_lines c) }
 {
-    let si = c.si;
-    let timing = c.timing;
-    let first = location_line(out, at, b"SI_LOCATION", si);
-    location_line(out, first, b"TIMING_LOCATION", timing)
+    location_line(page, b"SI_LOCATION", c.si);
+    location_line(page, b"TIMING_LOCATION", c.timing);
 }
 
-fn package_lines(out: &mut [u8], at: usize, c: Component) -> usize
-    ensures { Put out.old out.new at (package_dump c) result }
+fn package_lines(page: &mut Page, c: Component)
+    ensures { Writes page.old page.new (package_dump c) }
 {
-    let resistance = triple_line(out, at, b"R_PKG", c.resistance);
-    let inductance = triple_line(out, resistance, b"L_PKG", c.inductance);
-    triple_line(out, inductance, b"C_PKG", c.capacitance)
+    triple_line(page, b"R_PKG", c.resistance);
+    triple_line(page, b"L_PKG", c.inductance);
+    triple_line(page, b"C_PKG", c.capacitance);
 }
 
 // The pins follow, a line each.
-pub fn component_lines(out: &mut [u8], at: usize, index: usize, c: Component) -> usize
-    ensures { Put out.old out.new at (component_dump index c) result }
+#[tactic(auto, using(text_buffer::proofs::Laws::put_append), unfolding(crate::specs::Components::component_dump))]
+pub fn component_lines(page: &mut Page, index: usize, c: Component)
+    ensures { Writes page.old page.new (component_dump index c) }
 {
-    let first = section_line(out, at, b"COMPONENT", index, c.name);
-    let places = place_lines(out, first, c);
-    let maker = name_line(out, places, b"MANUFACTURER", c.manufacturer);
-    let package = package_lines(out, maker, c);
-    count_line(out, package, b"PINS", c.pins.count)
+    section_line(page, b"COMPONENT", index, c.name);
+    place_lines(page, c);
+    name_line(page, b"MANUFACTURER", c.manufacturer);
+    package_lines(page, c);
+    count_line(page, b"PINS", c.pins.count);
 }
 
-pub fn pin_line(out: &mut [u8], at: usize, pin: Pin) -> usize
-    ensures { Put out.old out.new at (pin_line pin) result }
+pub fn pin_line(page: &mut Page, pin: Pin)
+    ensures { Writes page.old page.new (pin_line pin) }
 {
-    let resistance = pin.resistance;
-    let inductance = pin.inductance;
-    let capacitance = pin.capacitance;
-    let kind = put_bytes(out, at, b"PIN");
-    let named = put_names(out, kind, pin.name, pin.signal, pin.model);
-    let first = put_next_cell(out, named, resistance);
-    let second = put_next_cell(out, first, inductance);
-    let third = put_next_cell(out, second, capacitance);
-    put_byte(out, third, b'\n')
+    page.put_bytes(b"PIN");
+    page.put_names(pin.name, pin.signal, pin.model);
+    page.put_next_cell(pin.resistance);
+    page.put_next_cell(pin.inductance);
+    page.put_next_cell(pin.capacitance);
+    page.put_byte(b'\n');
 }
 
 // The choices follow, a line each.
-pub fn selector_lines(out: &mut [u8], at: usize, index: usize, s: Selector) -> usize
-    ensures { Put out.old out.new at (selector_lines index s) result }
+pub fn selector_lines(page: &mut Page, index: usize, s: Selector)
+    ensures { Writes page.old page.new (selector_lines index s) }
 {
-    let first = section_line(out, at, b"SELECTOR", index, s.name);
-    count_line(out, first, b"CHOICES", s.choices.count)
+    section_line(page, b"SELECTOR", index, s.name);
+    count_line(page, b"CHOICES", s.choices.count);
 }
 
 // No line ends with a blank: an empty description has no space before it.
-fn put_description(out: &mut [u8], at: usize, words: Words) -> usize
-    ensures { Put out.old out.new at (description_text words) result }
+fn put_description(page: &mut Page, words: Words)
+    ensures { Writes page.old page.new (description_text words) }
 {
     if words.len == 0 {
-        return put_bytes(out, at, b"");
+        return;
     }
-    let space = put_byte(out, at, b' ');
-    put_words(out, space, words)
+    page.put_byte(b' ');
+    page.put_words(words);
 }
 
-pub fn choice_line(out: &mut [u8], at: usize, choice: Choice) -> usize
-    ensures { Put out.old out.new at (choice_line choice) result }
+pub fn choice_line(page: &mut Page, choice: Choice)
+    ensures { Writes page.old page.new (choice_line choice) }
 {
-    let kind = put_bytes(out, at, b"CHOICE ");
-    let model = put_name(out, kind, choice.model);
-    let described = put_description(out, model, choice.description);
-    put_byte(out, described, b'\n')
+    page.put_bytes(b"CHOICE ");
+    page.put_name(choice.model);
+    put_description(page, choice.description);
+    page.put_byte(b'\n');
 }

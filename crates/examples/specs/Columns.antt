@@ -1,14 +1,13 @@
 -- Document 02, "Show me the column", on lines as they come to the bench: each is the last of a file and tells its fault, its line and its column.
-use Rattle.std.specs.Prelude.{ℕ, List, [], ◌∷◌, map, ◌≡◌, refl}
+use Rattle.std.specs.Prelude.{ℕ, List, [], ◌∷◌, map, ◌≡◌, refl, Result, Err}
+use Rattle.records.specs.declared.Fault.{Fault}
 use Prim.Native.String.{String, ◌++◌}
-use Rattle.records.specs.declared.Verdict.{Verdict}
-use Rattle.records.specs.declared.Verdict.TheVariants.{Refused}
 use Rattle.examples.specs.Computing.{computing}
 use Rattle.examples.specs.Starred.{Example, file, answered, first_section, refused_at}
 
 -- fault n at line k, told at column c
-abbrev pub told_at : ℕ → ℕ → ℕ → Verdict
-told_at n k c = Refused (record { number = n; line = k; column = c })
+abbrev pub told_at : ℕ → ℕ → ℕ → Result (Unit {0}) Fault
+told_at n k c = Err (record { number = n; line = k; column = c })
 
 -- a file's lines before the one that is told: a header of three lines, then a section's keyword, then one of its parts
 abbrev pub header : String
@@ -27,7 +26,7 @@ abbrev pub long_pins : String
 long_pins = component ++ "[Pin] signal_name model_name R_pin L_pin C_pin\n"
 
 -- this line behind them
-abbrev pub under : String → String → Verdict → Example
+abbrev pub under : String → String → Result (Unit {0}) Fault → Example
 under before w v = file (before ++ w ++ "\n") v
 
 unfoldable pub columns : List Example

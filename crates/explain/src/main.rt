@@ -4,7 +4,7 @@
 
 use explain_output::print_answer;
 use program_output::tables::{
-    CHOICE_TABLE, COMPONENT_TABLE, MODEL_TABLE, PIN_TABLE, ROW_TABLE, SELECTOR_TABLE,
+    CHOICE_TABLE, COMPONENT_TABLE, MODEL_TABLE, PIN_TABLE, ROW_TABLE, SELECTOR_TABLE, Tables,
     WAVEFORM_TABLE,
 };
 use std::env::Env;
@@ -27,24 +27,21 @@ fn print_file(name: &[u8], src: &[u8]) {
         &mut waveforms,
         &mut rows,
     );
-    print_answer(
-        name,
-        src,
-        answer,
-        &components,
-        &pins,
-        &selectors,
-        &choices,
-        &models,
-    );
+    let tables = Tables {
+        components: &components,
+        pins: &pins,
+        selectors: &selectors,
+        choices: &choices,
+        models: &models,
+        waveforms: &waveforms,
+        rows: &rows,
+    };
+    print_answer(name, src, answer, tables);
 }
 
 fn main(rt: HostRuntime) {
     let mut name = io::buffer();
-    let n = match rt.arg(1, &mut name) {
-        Ok(n) => n,
-        Err(_) => 0,
-    };
+    let n = rt.arg(1, &mut name).unwrap_or(0);
     let mut src = program_output::file_buffer();
     let m = io::read_full(0, &mut src);
     if n == 0 {

@@ -2,11 +2,12 @@
 #![tactic(auto)]
 
 use program_output::put_out;
+use program_output::tables::Tables;
 use records::{
     Answer, Fault, Lengths, MOST_CHOICES, MOST_COMPONENTS, MOST_MODELS, MOST_PINS, MOST_SELECTORS,
-    MOST_WAVEFORMS, Verdict,
+    MOST_WAVEFORMS,
 };
-use text_buffer::put_bytes;
+use text_buffer::Page;
 
 mod summary; // summary.rt: the summary of an accepted file
 
@@ -24,32 +25,21 @@ fn is_surplus(src: &[u8], fault: Fault) -> bool {
         waveforms: MOST_WAVEFORMS,
     };
     let mut copy = program_output::file_buffer();
-    let n = put_bytes(&mut copy, 0, src);
+    let n = src.len().min(copy.len());
+    copy[..n].copy_from_slice(&src[..n]);
     surplus_word::is_surplus(&mut copy[..n], most, fault)
 }
 
-fn print_refusal(out: &mut [u8], name: &[u8], src: &[u8], fault: Fault) {
-    let surplus = is_surplus(src, fault);
-    let n = refusal_text::put_refusal(out, 0, name, src, fault, surplus);
-    put_out(out, n);
+fn print_refusal(page: &mut Page, name: &[u8], src: &[u8], fault: Fault) {
+    refusal_text::put_refusal(page, name, src, fault, is_surplus(src, fault));
+    put_out(page);
 }
 
-pub fn print_answer(
-    name: &[u8],
-    src: &[u8],
-    answer: Answer,
-    components: &[u64],
-    pins: &[u64],
-    selectors: &[u64],
-    choices: &[u64],
-    models: &[u64],
-) {
+pub fn print_answer(name: &[u8], src: &[u8], answer: Answer, tables: Tables) {
     let mut out = io::large_buffer();
-    let verdict = answer.verdict;
-    match verdict {
-        Verdict::Accepted => summary::print_summary(
-            &mut out, name, answer, components, pins, selectors, choices, models,
-        ),
-        Verdict::Refused(f) => print_refusal(&mut out, name, src, f),
+    let mut page = Page::new(&mut out);
+    match answer.verdict {
+        Ok(()) => summary::print_summary(&mut page, name, answer, tables),
+        Err(f) => print_refusal(&mut page, name, src, f),
     }
 }

@@ -3,13 +3,14 @@
 ghost use Rattle.std.specs.Prelude.{cond, ◌≡◌, ltb};
 
 use explain_text::Widths;
-use name_table::Found;
-use program_output::tables::{end_in, records_in, used};
-use program_output::{flushed, put_out};
+use program_output::put_out;
+use program_output::tables::{Tables, records_in};
+use program_output::walks::{put_all, put_span};
 use questions::choices::model_for;
-use record_words::{CHOICE_WORDS, COMPONENT_WORDS, MODEL_WORDS, PIN_WORDS, SELECTOR_WORDS};
-use records::{Answer, Component, Name, Pin, Span};
+use record_words::{COMPONENT_WORDS, MODEL_WORDS, PIN_WORDS};
+use records::{Answer, Component, Name, Pin};
 use table_records::tables::{component_in, model_in, pin_in};
+use text_buffer::Page;
 
 // ---- how wide the columns are: as their headings, or as the longest name
 
@@ -22,157 +23,68 @@ fn wider(width: usize, name: Name) -> usize
 }
 
 fn model_width(models: &[u64]) -> usize {
-    let n = records_in(models, MODEL_WORDS);
-    let mut width: usize = 5;
-    for i in 0..n {
-        let m = model_in(models, i);
-        width = wider(width, m.name);
+    let mut width = 5;
+    for i in 0..records_in(models, MODEL_WORDS) {
+        width = wider(width, model_in(models, i).name);
     }
     width
 }
 
 fn widths_of(pins: &[u64], model: usize) -> Widths {
-    let n = records_in(pins, PIN_WORDS);
-    let mut pin: usize = 3;
-    let mut signal: usize = 6;
-    for i in 0..n {
+    let mut pin = 3;
+    let mut signal = 6;
+    for i in 0..records_in(pins, PIN_WORDS) {
         let p = pin_in(pins, i);
         pin = wider(pin, p.name);
         signal = wider(signal, p.signal);
     }
-    Widths {
-        pin: pin,
-        signal: signal,
-        model: model,
-    }
+    Widths { pin, signal, model }
 }
 
 // ---- components and their pins
 
-fn put_pin(
-    out: &mut [u8],
-    at: usize,
-    w: Widths,
-    p: Pin,
-    selectors: &[u64],
-    choices: &[u64],
-    models: &[u64],
-) -> usize {
-    match model_for(selectors, choices, models, p) {
-        Found::At(k) => explain_text::put_pin(out, at, w, p, model_in(models, k)),
-        Found::Nothing => explain_text::put_bare_pin(out, at, w, p),
+fn put_pin(page: &mut Page, w: Widths, p: Pin, t: Tables) {
+    match model_for(t.selectors, t.choices, t.models, p) {
+        Some(k) => explain_text::put_pin(page, w, p, model_in(t.models, k)),
+        None => explain_text::put_bare_pin(page, w, p),
     }
 }
 
-fn put_pins(
-    out: &mut [u8],
-    at: usize,
-    w: Widths,
-    pins: &[u64],
-    span: Span,
-    selectors: &[u64],
-    choices: &[u64],
-    models: &[u64],
-) -> usize {
-    let start = span.start;
-    let end = end_in(span, records_in(pins, PIN_WORDS));
-    let mut next = at;
-    for i in start..end {
-        let line = put_pin(out, next, w, pin_in(pins, i), selectors, choices, models);
-        next = flushed(out, line);
-    }
-    next
-}
-
-fn put_component(
-    out: &mut [u8],
-    at: usize,
-    w: Widths,
-    c: Component,
-    pins: &[u64],
-    selectors: &[u64],
-    choices: &[u64],
-    models: &[u64],
-) -> usize {
-    let named = explain_text::put_component(out, at, c);
-    let heading = explain_text::put_heading(out, named, w);
-    put_pins(out, heading, w, pins, c.pins, selectors, choices, models)
-}
-
-fn put_components(
-    out: &mut [u8],
-    at: usize,
-    w: Widths,
-    components: &[u64],
-    pins: &[u64],
-    selectors: &[u64],
-    choices: &[u64],
-    models: &[u64],
-) -> usize {
-    let n = records_in(components, COMPONENT_WORDS);
-    let mut next = at;
-    for i in 0..n {
-        let c = component_in(components, i);
-        next = put_component(out, next, w, c, pins, selectors, choices, models);
-    }
-    next
+fn put_component(page: &mut Page, w: Widths, c: Component, t: Tables) {
+    explain_text::put_component(page, c);
+    explain_text::put_heading(page, w);
+    put_span(page, c.pins, records_in(t.pins, PIN_WORDS), |page, k| {
+        put_pin(page, w, pin_in(t.pins, k), t);
+    });
 }
 
 // ---- models and their die capacitance
 
-fn put_capacitances(out: &mut [u8], at: usize, width: usize, models: &[u64]) -> usize {
-    let n = records_in(models, MODEL_WORDS);
-    let mut next = explain_text::put_capacitance_heading(out, at, width);
-    for i in 0..n {
-        let line = explain_text::put_capacitances(out, next, width, model_in(models, i));
-        next = flushed(out, line);
-    }
-    next
+fn put_capacitances(page: &mut Page, width: usize, models: &[u64]) {
+    explain_text::put_capacitance_heading(page, width);
+    put_all(page, records_in(models, MODEL_WORDS), |page, k| {
+        explain_text::put_capacitances(page, width, model_in(models, k));
+    });
 }
 
 // ---- all of it
 
 // The components and the models in tables that hold no other records than those in use.
-fn put_tables(
-    out: &mut [u8],
-    at: usize,
-    components: &[u64],
-    pins: &[u64],
-    selectors: &[u64],
-    choices: &[u64],
-    models: &[u64],
-) -> usize {
-    let width = model_width(models);
-    let w = widths_of(pins, width);
-    let last = put_components(out, at, w, components, pins, selectors, choices, models);
-    if models.len() == 0 {
-        return last;
+fn put_tables(page: &mut Page, t: Tables) {
+    let width = model_width(t.models);
+    let w = widths_of(t.pins, width);
+    for i in 0..records_in(t.components, COMPONENT_WORDS) {
+        put_component(page, w, component_in(t.components, i), t);
     }
-    put_capacitances(out, last, width, models)
+    if !t.models.is_empty() {
+        put_capacitances(page, width, t.models);
+    }
 }
 
 // The summary of an accepted file.
-pub(crate) fn print_summary(
-    out: &mut [u8],
-    name: &[u8],
-    answer: Answer,
-    components: &[u64],
-    pins: &[u64],
-    selectors: &[u64],
-    choices: &[u64],
-    models: &[u64],
-) {
-    let counts = answer.counts;
-    let header = explain_text::put_header(out, 0, name, answer.header);
-    let first = explain_text::put_counts(out, header, counts);
-    let last = put_tables(
-        out,
-        first,
-        used(components, COMPONENT_WORDS, counts.components),
-        used(pins, PIN_WORDS, counts.pins),
-        used(selectors, SELECTOR_WORDS, counts.selectors),
-        used(choices, CHOICE_WORDS, counts.choices),
-        used(models, MODEL_WORDS, counts.models),
-    );
-    put_out(out, last);
+pub(crate) fn print_summary(page: &mut Page, name: &[u8], answer: Answer, tables: Tables) {
+    explain_text::put_header(page, name, answer.header);
+    explain_text::put_counts(page, answer.counts);
+    put_tables(page, tables.in_use(answer.counts));
+    put_out(page);
 }

@@ -8,7 +8,7 @@ use Rattle.records.specs.declared.Counts.{Counts}
 use Rattle.records.specs.declared.Component.{Component}
 use Rattle.records.specs.declared.Header.{Header}
 use Rattle.records.specs.declared.Model.{Model}
-use Rattle.records.specs.declared.Name.{Name}
+use Rattle.records.specs.Texts.{Name}
 use Rattle.records.specs.declared.Pin.{Pin}
 use Rattle.text_buffer.specs.Lines.{name_text, words_text}
 use Rattle.text_buffer.specs.Numerals.{numeral_of, plain_text}

@@ -1,13 +1,13 @@
 // The summary of an accepted file: what it is, how much it has, and its pins in columns.
 ghost use Rattle.std.specs.Prelude.{◌≡◌, ◌-◌};
 ghost use Rattle.text_buffer.specs.Lines.{name_text};
-ghost use Rattle.text_buffer.specs.Put.{Put};
+ghost use Rattle.text_buffer.specs.Pages.{Writes};
 ghost use Rattle.line_rules.specs.Tables.{type_name};
 ghost use Rattle.explain_text.specs.Summaries.{header_text, labelled_text, counts_text, gap_text, column, level_text, component_text, heading_text, pin_columns, selector_text, pin_text, bare_text};
 
 use decimal::Cell;
 use records::{Component, Counts, Header, Model, ModelType, Name, Pin};
-use text_buffer::{put_byte, put_bytes, put_name, put_number, put_repeated, put_words};
+use text_buffer::Page;
 
 // The widths of the columns that hold names.
 #[derive(Clone, Copy)]
@@ -19,152 +19,145 @@ pub struct Widths {
 
 // ---- the file
 
-pub fn put_header(out: &mut [u8], at: usize, name: &[u8], header: Header) -> usize
-    ensures { Put out.old out.new at (header_text name.now header) result }
+pub fn put_header(page: &mut Page, name: &[u8], header: Header)
+    ensures { Writes page.old page.new (header_text name.now header) }
 {
-    let named = put_bytes(out, at, name);
-    let first = put_bytes(out, named, b": accepted\nfile name: ");
-    let file = put_words(out, first, header.name);
-    let second = put_bytes(out, file, b"\nrevision: ");
-    let revision = put_words(out, second, header.revision);
-    put_byte(out, revision, b'\n')
+    page.put_bytes(name);
+    page.put_bytes(b": accepted\nfile name: ");
+    page.put_words(header.name);
+    page.put_bytes(b"\nrevision: ");
+    page.put_words(header.revision);
+    page.put_byte(b'\n');
 }
 
-fn put_labelled(out: &mut [u8], at: usize, label: &[u8], count: usize) -> usize
-    ensures { Put out.old out.new at (labelled_text label.now count) result }
+fn put_labelled(page: &mut Page, label: &[u8], count: usize)
+    ensures { Writes page.old page.new (labelled_text label.now count) }
 {
-    let labelled = put_bytes(out, at, label);
-    put_number(out, labelled, count as u64)
+    page.put_bytes(label);
+    page.put_number(count as u64);
 }
 
-pub fn put_counts(out: &mut [u8], at: usize, counts: Counts) -> usize
-    ensures { Put out.old out.new at (counts_text counts) result }
+pub fn put_counts(page: &mut Page, counts: Counts)
+    ensures { Writes page.old page.new (counts_text counts) }
 {
-    let components = put_labelled(out, at, b"components: ", counts.components);
-    let pins = put_labelled(out, components, b", pins: ", counts.pins);
-    let selectors = put_labelled(out, pins, b", selectors: ", counts.selectors);
-    let models = put_labelled(out, selectors, b", models: ", counts.models);
-    let waveforms = put_labelled(out, models, b", waveforms: ", counts.waveforms);
-    let rows = put_labelled(out, waveforms, b", table rows: ", counts.rows);
-    put_byte(out, rows, b'\n')
+    put_labelled(page, b"components: ", counts.components);
+    put_labelled(page, b", pins: ", counts.pins);
+    put_labelled(page, b", selectors: ", counts.selectors);
+    put_labelled(page, b", models: ", counts.models);
+    put_labelled(page, b", waveforms: ", counts.waveforms);
+    put_labelled(page, b", table rows: ", counts.rows);
+    page.put_byte(b'\n');
 }
 
 // ---- columns
 
-// a - b, and 0 where b is the greater.
-fn less(a: usize, b: usize) -> usize
-    ensures { result ≡ a - b }
+// What fills a column whose text was put from start on.
+pub(crate) fn put_gap(page: &mut Page, start: usize, width: usize)
+    ensures { Writes page.old page.new (gap_text width (page.old.at - start)) }
 {
-    if a < b { 0 } else { a - b }
+    let count = page.len().saturating_sub(start);
+    page.put_repeated(b' ', width.saturating_sub(count));
+    page.put_bytes(b"  ");
 }
 
-// What fills a column whose text was put from start up to at.
-pub(crate) fn put_gap(out: &mut [u8], at: usize, start: usize, width: usize) -> usize
-    ensures { Put out.old out.new at (gap_text width (at - start)) result }
+pub(crate) fn put_column(page: &mut Page, text: &[u8], width: usize)
+    ensures { Writes page.old page.new (column width text.now) }
 {
-    let count = less(at, start);
-    let filled = put_repeated(out, at, b' ', less(width, count));
-    put_bytes(out, filled, b"  ")
+    let start = page.len();
+    page.put_bytes(text);
+    put_gap(page, start, width);
 }
 
-pub(crate) fn put_column(out: &mut [u8], at: usize, text: &[u8], width: usize) -> usize
-    ensures { Put out.old out.new at (column width text.now) result }
+pub(crate) fn put_name_column(page: &mut Page, name: Name, width: usize)
+    ensures { Writes page.old page.new (column width (name_text name)) }
 {
-    let end = put_bytes(out, at, text);
-    put_gap(out, end, at, width)
+    let start = page.len();
+    page.put_name(name);
+    put_gap(page, start, width);
 }
 
-pub(crate) fn put_name_column(out: &mut [u8], at: usize, name: Name, width: usize) -> usize
-    ensures { Put out.old out.new at (column width (name_text name)) result }
+fn put_type_column(page: &mut Page, kind: ModelType)
+    ensures { Writes page.old page.new (column 15 (type_name kind)) }
 {
-    let end = put_name(out, at, name);
-    put_gap(out, end, at, width)
-}
-
-fn put_type_column(out: &mut [u8], at: usize, kind: ModelType) -> usize
-    ensures { Put out.old out.new at (column 15 (type_name kind)) result }
-{
-    let end = type_text::put_type(out, at, kind);
-    put_gap(out, end, at, 15)
+    let start = page.len();
+    type_text::put_type(page, kind);
+    put_gap(page, start, 15);
 }
 
 // Volts, written out; a missing cell is a dash.
-fn put_level(out: &mut [u8], at: usize, cell: Cell) -> usize
-    ensures { Put out.old out.new at (level_text cell) result }
+fn put_level(page: &mut Page, cell: Cell)
+    ensures { Writes page.old page.new (level_text cell) }
 {
     match cell {
-        Cell::Number(d) => text_buffer::put_plain_decimal(out, at, d),
-        Cell::Missing => put_bytes(out, at, b"-"),
+        Cell::Number(d) => page.put_plain_decimal(d),
+        Cell::Missing => page.put_bytes(b"-"),
     }
 }
 
-fn put_level_column(out: &mut [u8], at: usize, cell: Cell) -> usize
-    ensures { Put out.old out.new at (column 8 (level_text cell)) result }
+fn put_level_column(page: &mut Page, cell: Cell)
+    ensures { Writes page.old page.new (column 8 (level_text cell)) }
 {
-    let end = put_level(out, at, cell);
-    put_gap(out, end, at, 8)
+    let start = page.len();
+    put_level(page, cell);
+    put_gap(page, start, 8);
 }
 
 // ---- a component and its pins
 
-pub fn put_component(out: &mut [u8], at: usize, c: Component) -> usize
-    ensures { Put out.old out.new at (component_text c) result }
+pub fn put_component(page: &mut Page, c: Component)
+    ensures { Writes page.old page.new (component_text c) }
 {
-    let label = put_bytes(out, at, b"\ncomponent ");
-    let named = put_name(out, label, c.name);
-    let second = put_bytes(out, named, b", manufacturer ");
-    let made = put_name(out, second, c.manufacturer);
-    put_byte(out, made, b'\n')
+    page.put_bytes(b"\ncomponent ");
+    page.put_name(c.name);
+    page.put_bytes(b", manufacturer ");
+    page.put_name(c.manufacturer);
+    page.put_byte(b'\n');
 }
 
-pub fn put_heading(out: &mut [u8], at: usize, w: Widths) -> usize
-    ensures { Put out.old out.new at (heading_text w) result }
+pub fn put_heading(page: &mut Page, w: Widths)
+    ensures { Writes page.old page.new (heading_text w) }
 {
-    let indent = put_bytes(out, at, b"  ");
-    let pin = put_column(out, indent, b"pin", w.pin);
-    let signal = put_column(out, pin, b"signal", w.signal);
-    let model = put_column(out, signal, b"model", w.model);
-    put_bytes(out, model, b"type             Vinl (V)  Vinh (V)\n")
+    page.put_bytes(b"  ");
+    put_column(page, b"pin", w.pin);
+    put_column(page, b"signal", w.signal);
+    put_column(page, b"model", w.model);
+    page.put_bytes(b"type             Vinl (V)  Vinh (V)\n");
 }
 
-fn put_pin_columns(out: &mut [u8], at: usize, w: Widths, p: Pin, model: Name) -> usize
-    ensures { Put out.old out.new at (pin_columns w p model) result }
+fn put_pin_columns(page: &mut Page, w: Widths, p: Pin, model: Name)
+    ensures { Writes page.old page.new (pin_columns w p model) }
 {
-    let indent = put_bytes(out, at, b"  ");
-    let pin = put_name_column(out, indent, p.name, w.pin);
-    let signal = put_name_column(out, pin, p.signal, w.signal);
-    put_name_column(out, signal, model, w.model)
+    page.put_bytes(b"  ");
+    put_name_column(page, p.name, w.pin);
+    put_name_column(page, p.signal, w.signal);
+    put_name_column(page, model, w.model);
 }
 
-fn put_selector(out: &mut [u8], at: usize, p: Pin, m: Model) -> usize
-    ensures { Put out.old out.new at (selector_text p m) result }
+fn put_selector(page: &mut Page, p: Pin, m: Model)
+    ensures { Writes page.old page.new (selector_text p m) }
 {
-    if questions::names::same_name(m.name, p.model) {
-        return put_bytes(out, at, b"");
+    if !questions::names::same_name(m.name, p.model) {
+        page.put_bytes(b"  by selector ");
+        page.put_name(p.model);
     }
-    let label = put_bytes(out, at, b"  by selector ");
-    put_name(out, label, p.model)
 }
 
 // A pin with the model chosen for it.
-pub fn put_pin(out: &mut [u8], at: usize, w: Widths, p: Pin, m: Model) -> usize
-    ensures { Put out.old out.new at (pin_text w p m) result }
+pub fn put_pin(page: &mut Page, w: Widths, p: Pin, m: Model)
+    ensures { Writes page.old page.new (pin_text w p m) }
 {
-    let kind = m.kind;
-    let vinl = m.vinl;
-    let vinh = m.vinh;
-    let named = put_pin_columns(out, at, w, p, m.name);
-    let typed = put_type_column(out, named, kind);
-    let low = put_level_column(out, typed, vinl);
-    let high = put_level(out, low, vinh);
-    let selector = put_selector(out, high, p, m);
-    put_byte(out, selector, b'\n')
+    put_pin_columns(page, w, p, m.name);
+    put_type_column(page, m.kind);
+    put_level_column(page, m.vinl);
+    put_level(page, m.vinh);
+    put_selector(page, p, m);
+    page.put_byte(b'\n');
 }
 
 // A pin that needs no model.
-pub fn put_bare_pin(out: &mut [u8], at: usize, w: Widths, p: Pin) -> usize
-    ensures { Put out.old out.new at (bare_text w p) result }
+pub fn put_bare_pin(page: &mut Page, w: Widths, p: Pin)
+    ensures { Writes page.old page.new (bare_text w p) }
 {
-    let named = put_pin_columns(out, at, w, p, p.model);
-    put_bytes(out, named, b"-                -         -\n")
+    put_pin_columns(page, w, p, p.model);
+    page.put_bytes(b"-                -         -\n");
 }

@@ -1,5 +1,4 @@
 -- That no fault has another number.
-pub mod Known
 pub mod Flaws
 pub mod Going
 pub mod Steps

@@ -11,7 +11,7 @@ use Rattle.records.specs.declared.Lending.{Lending}
 use Rattle.rules.specs.Whole.{refused, outcome, loading}
 use Rattle.rules.proofs.Outcomes.{loaded-few, loaded-enough}
 use Rattle.fault_numbers.specs.Numbers.{of_files, LoadingNumbers, LoadingRunsOut, TooFewRows}
-use Rattle.fault_numbers.proofs.Known.{Known, listed, is_among, more-known}
+use Rattle.laws.proofs.Known.{Known, listed, is_among, more-known}
 use Rattle.fault_numbers.proofs.Whole.{numbers, runs-out}
 
 -- too few rows and 25, or what a check tells

@@ -1,9 +1,9 @@
 -- Every step stops with one of its numbers, and leaves 10 or nothing: by cases, definition by definition.
+use Rattle.std.specs.Prelude.{Option, None, Some}
 use Prim.Native.Nat.{ℕ}
 use mathlib.Core.Path.{refl}
 use mathlib.Core.List.{List}
 use mathlib.Core.Bool.{not, ◌&&◌, ◌||◌}
-use mathlib.Core.Option.{Option, none, some}
 use lib.Dec.{eqb, leb}
 use Rattle.laws.specs.Lists.{all, among, one_of}
 use Rattle.laws.specs.Said.{or_fault}
@@ -43,8 +43,9 @@ use Rattle.rules.specs.declared.ModelState.{ModelState}
 use Rattle.rules.specs.declared.Stage.{Stage}
 use Rattle.rules.specs.declared.Stage.TheVariants.{BeforeVersion, InHeader, InComponent, InSelector, InModel, AfterEnd}
 use Rattle.fault_numbers.specs.Numbers.{of_steps}
-use Rattle.fault_numbers.proofs.Known.{Known, listed, either-known, more-known}
-use Rattle.fault_numbers.proofs.Flaws.{Fair, value, faulty, row-fair, argument-ten, word-marks, alone-marks, word-line-marks, cells-line-marks, number-line-marks, header-marks, opened-marks, component-marks, pin-marks, first_marks, ramp-marks, model-marks}
+use Rattle.laws.proofs.Known.{Known, listed, either-known, more-known}
+use Rattle.line_rules.proofs.Fair.{Fair, value, faulty, row-fair, word-line-fair, cells-line-fair, number-line-fair}
+use Rattle.fault_numbers.proofs.Flaws.{fair-marks, argument-ten, word-marks, alone-marks, header-marks, opened-marks, component-marks, pin-marks, first_marks, ramp-marks, model-marks}
 use Rattle.fault_numbers.proofs.Going.{Checks, Tells, stops, goes, quiet, either-tells, refuse-tells, unless-tells, flaw-tells, once-tells, named-tells, then-tells, within-tells}
 
 -- ---- what a line closes
@@ -126,8 +127,8 @@ keyword-tells s k w key.End = then-tells (done-tells k s) (λ t. goes (argument-
 -- 5, 6 and 21
 module _ (s : Stage) (k : ℕ) (w : List ℕ) where
   carried-tells : {n : ℕ} → Known of_steps n → (x : Option Keyword) → Tells (keyed s k w (or_fault n x))
-  carried-tells p none = stops p
-  carried-tells p (some x) = keyword-tells s k w x
+  carried-tells p None = stops p
+  carried-tells p (Some x) = keyword-tells s k w x
 
   slip-known : (name : List ℕ) → Known of_steps (gap_or_slip name)
   unfolding among gap_or_slip
@@ -144,9 +145,9 @@ module _ (s : Stage) (k : ℕ) (w : List ℕ) where
 
 component-line-tells : (c : ComponentState) (k : ℕ) (w : List ℕ) (l : ComponentList) → Tells (component_line c k w l)
 unfolding among
-component-line-tells c k w ComponentFirst = named-tells _ (line_at component_lines w) _ k w _ (word-line-marks locations w)
+component-line-tells c k w ComponentFirst = named-tells _ (line_at component_lines w) _ k w _ (fair-marks (word-line-fair locations w))
 component-line-tells c k w ComponentShut = stops (listed refl)
-component-line-tells c k w (PackageLines o g) = named-tells _ (line_at package_lines w) _ k w _ (cells-line-marks w)
+component-line-tells c k w (PackageLines o g) = named-tells _ (line_at package_lines w) _ k w _ (fair-marks (cells-line-fair w))
 component-line-tells c k w (PinRows o long any) = flaw-tells _ k w (pin-marks long w) (goes (listed refl))
 
 row-tells : (on : RowsSeen → ModelList) (m : ModelState) (r : RowsSeen) (k : ℕ) (w : List ℕ) {x : Reads Row} → Fair x → Tells (row_line on m r k (told_in w x))
@@ -162,7 +163,7 @@ model-line-tells m k w (CurrentRows o r) = row-tells (CurrentRows o) m r k w (ro
 model-line-tells m k w (RampLines o g) = named-tells _ (line_at ramp_lines w) _ k w _ (ramp-marks w)
 model-line-tells m k w (WaveformRows o g r) =
     either-tells (begins_letter (word 0 (words w)))
-    (refuse-tells _ _ (listed refl) (named-tells _ (line_at fixtures w) _ k w _ (number-line-marks w)))
+    (refuse-tells _ _ (listed refl) (named-tells _ (line_at fixtures w) _ k w _ (fair-marks (number-line-fair w))))
     (row-tells (WaveformRows o g) m r k w (row-fair w))
 
 line-tells : (s : Stage) (k : ℕ) (w : List ℕ) → Tells (on_line s k w)

@@ -17,7 +17,7 @@ use Rattle.cut_lines.specs.Texts.{Text, plain, change, onto_texts, texts_from}
 use Rattle.rules.specs.Steps.{on_change, on_text}
 use Rattle.rules.specs.declared.Stage.{Stage}
 use Rattle.fault_numbers.specs.Numbers.{is_step, StepNumbers}
-use Rattle.fault_numbers.proofs.Known.{listed}
+use Rattle.laws.proofs.Known.{listed}
 use Rattle.fault_numbers.proofs.Going.{Checks, Tells, step_is, quiet, refuse-tells, passes-tells}
 use Rattle.fault_numbers.proofs.Steps.{plain-tells}
 

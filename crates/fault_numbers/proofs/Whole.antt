@@ -1,4 +1,5 @@
 -- A whole file: its texts one by one, each text's step and what it adds, then its names and its bytes.
+use Rattle.std.specs.Prelude.{Result, Ok, Err}
 use Prim.Native.Nat.{ℕ, ◌+◌, min}
 use Prim.Native.Char.{code}
 use mathlib.Core.Path.{◌≡◌, refl, subst}
@@ -7,14 +8,13 @@ use mathlib.Core.Bool.{Bool, true, false, cond}
 use lib.ListN.{length}
 use lib.Dec.{eqb, leb}
 use Rattle.laws.specs.Lists.{all, among}
-use Rattle.laws.specs.Said.{Result, says, fault}
 use Rattle.laws.proofs.Tests.{cond-all, impossible}
 use Rattle.lines.specs.Lines.{Physical, lines_of, is_allowed, line_fault, fault_from, bytes_fault}
-use Rattle.lines.specs.declared.Bytes.{Bytes}
 use Rattle.records.specs.declared.Kind.TheVariants.{OfComponent}
 use Rattle.records.specs.Bounds.{most_waveforms}
 use Rattle.records.specs.declared.LineFault.{LineFault}
 use Rattle.records.specs.declared.Lengths.{Lengths}
+use Rattle.records.specs.declared.Fault.{Fault}
 use Rattle.cut_lines.specs.Texts.{Text}
 use Rattle.rules.specs.Steps.{is_ended, on_text}
 use Rattle.rules.specs.Outline.{Entry, is, count, is_used, is_found, is_listed, first_failing}
@@ -23,19 +23,19 @@ use Rattle.rules.specs.declared.Stage.{Stage}
 use Rattle.rules.specs.declared.Stage.TheVariants.{BeforeVersion}
 use Rattle.rules.specs.declared.Event.{Event}
 use Rattle.rules.specs.declared.Event.TheVariants.{Quiet, Opened, PinRow, ChoiceRow, WaveformOpened, TableRow, Ended}
-use Rattle.rules.specs.declared.Went.{Went}
+use Rattle.rules.specs.Going.{Went}
 use Rattle.fault_numbers.specs.Numbers.{of_added, leaves, is_added, AddedNumbers, of_files, Numbers, RunsOut}
-use Rattle.fault_numbers.proofs.Known.{Known, listed, is_among, either-known, other-known, more-known}
+use Rattle.laws.proofs.Known.{Known, listed, is_among, either-known, other-known, more-known}
 use Rattle.fault_numbers.proofs.Going.{Tells, stops, goes}
 use Rattle.fault_numbers.proofs.Texts.{by-texts}
 
 -- ---- what a line adds
 
-data Adds : Result LineFault Held → Type 0 where
-  held : {h : Held} → Adds (says h)
-  denied : {f : LineFault} → Known of_added f.number → Adds (fault f)
+data Adds : Result Held LineFault → Type 0 where
+  held : {h : Held} → Adds (Ok h)
+  denied : {f : LineFault} → Known of_added f.number → Adds (Err f)
 
-either-adds : (t : Bool) {x y : Result LineFault Held} → Adds x → Adds y → Adds (cond t x y)
+either-adds : (t : Bool) {x y : Result Held LineFault} → Adds x → Adds y → Adds (cond t x y)
 either-adds t {x} {y} p q = cond-all Adds t x y (λ h. p) (λ h. q)
 
 entry-adds : (l : Lengths) (h : Held) (e : Entry) → Adds (admit_entry l h e)
@@ -54,9 +54,9 @@ admit-adds l h k w WaveformOpened p = either-adds (leb (min most_waveforms l.wav
 admit-adds l h k w TableRow p = held
 admit-adds l h k w (Ended f) p =
     either-adds (eqb (count (is OfComponent) h.entries) 0) (denied (listed refl))
-    (cond-all Adds (eqb f.number 0) (says h) (fault f) (λ t. held) (λ t. denied (more-known refl (other-known f.number 0 t p))))
+    (cond-all Adds (eqb f.number 0) (Ok h) (Err f) (λ t. held) (λ t. denied (more-known refl (other-known f.number 0 t p))))
 
-adds-is : {x : Result LineFault Held} → Adds x → is_added x ≡ true
+adds-is : {x : Result Held LineFault} → Adds x → is_added x ≡ true
 adds-is held = refl
 adds-is (denied (listed h)) = h
 
@@ -71,7 +71,7 @@ data Ends (past : ℕ) : Outcome → Type 0 where
   runs_out : Ends past (refused 19 past 0)
 
 module _ (l : Lengths) (past : ℕ) where
-  admission-ends : (k : ℕ) {go : Held → Outcome} {x : Result LineFault Held} → Adds x → ((h : Held) → Ends past (go h)) → Ends past (after_admission k go x)
+  admission-ends : (k : ℕ) {go : Held → Outcome} {x : Result Held LineFault} → Adds x → ((h : Held) → Ends past (go h)) → Ends past (after_admission k go x)
   unfolding all among
   admission-ends k (held {h = h}) q = q h
   admission-ends k (denied p) q = tells (more-known refl p)
@@ -117,7 +117,7 @@ module _ (past : ℕ) where
       (listed refl)
 
   module _ (go : Outcome) (p : Ends past go) where
-    abbrev BytesEnd : Bytes → Type 0
+    abbrev BytesEnd : Result (Unit {0}) Fault → Type 0
     BytesEnd b = Ends past (after_bytes go b)
 
     lines_end : (k : ℕ) (ls : List Physical) → BytesEnd (fault_from k ls)

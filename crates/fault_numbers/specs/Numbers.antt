@@ -1,7 +1,6 @@
 -- Which numbers faults have: those of a line's step and of what it adds, those of a file that is checked, and those of a file that is loaded.
-use Rattle.std.specs.Prelude.{ℕ, ◌+◌, ◌<◌, ◌≡◌, List, [], ◌∷◌, Bool, true, length}
+use Rattle.std.specs.Prelude.{ℕ, ◌+◌, ◌<◌, ◌≡◌, List, [], ◌∷◌, Bool, true, length, Result, Ok, Err}
 use Rattle.laws.specs.Lists.{all, among}
-use Rattle.laws.specs.Said.{Result, says, fault}
 use Rattle.records.specs.Bounds.{most_rows}
 use Rattle.records.specs.declared.LineFault.{LineFault}
 use Rattle.records.specs.declared.Lengths.{Lengths}
@@ -13,8 +12,7 @@ use Rattle.rules.specs.Whole.{Held, refused, admit, outcome, loading}
 use Rattle.rules.specs.declared.Stage.{Stage}
 use Rattle.rules.specs.declared.Event.{Event}
 use Rattle.rules.specs.declared.Event.TheVariants.{Quiet, Opened, PinRow, ChoiceRow, WaveformOpened, TableRow, Ended}
-use Rattle.rules.specs.declared.Went.{Went}
-use Rattle.rules.specs.declared.Went.TheVariants.{On, Stop}
+use Rattle.rules.specs.Going.{Went}
 
 -- ---- a line
 
@@ -38,13 +36,13 @@ leaves (Ended f) = f.number
 
 -- a step stops with one of its numbers, or goes on and leaves 10 or nothing
 abbrev pub is_step : Went → Bool
-is_step (Stop f) = among f.number of_steps
-is_step (On s e) = among (leaves e) (0 ∷ 10 ∷ [])
+is_step (Err f) = among f.number of_steps
+is_step (Ok (s, e)) = among (leaves e) (0 ∷ 10 ∷ [])
 
 -- what it adds is held, or denied with one of these numbers
-abbrev pub is_added : Result LineFault Held → Bool
-is_added (says h) = true
-is_added (fault f) = among f.number of_added
+abbrev pub is_added : Result Held LineFault → Bool
+is_added (Ok h) = true
+is_added (Err f) = among f.number of_added
 
 -- any text of any lines, numbered from k on, whatever the comment character c in force at the first, at whatever stage it is met
 abbrev pub StepNumbers : Type 0

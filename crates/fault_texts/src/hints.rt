@@ -1,12 +1,13 @@
 // A hint for each fault: what to look at.
-ghost use Rattle.text_buffer.specs.Put.{Put};
+ghost use Rattle.text_buffer.specs.Pages.{Writes};
 ghost use Rattle.fault_texts.specs.Hints.{hint_of};
 
 use crate::texts::put_text;
+use text_buffer::Page;
 
 // What to look at for fault `number`.
-pub fn put_hint(out: &mut [u8], at: usize, number: u8) -> usize
-    ensures { Put out.old out.new at (hint_of number) result }
+pub fn put_hint(page: &mut Page, number: u8)
+    ensures { Writes page.old page.new (hint_of number) }
 {
     let hints = b"\
         Look at the line and at the keyword above it.\n\
@@ -36,5 +37,5 @@ pub fn put_hint(out: &mut [u8], at: usize, number: u8) -> usize
         Look at the line and at the keyword above it.\n\
         Lend 32,768 words of rows: no file has more rows than that.\n\
         ";
-    put_text(out, at, hints, number)
+    put_text(page, hints, number);
 }

@@ -1,12 +1,13 @@
 // The sentence for each fault, after document 01's list of faults and those of document 02.
-ghost use Rattle.text_buffer.specs.Put.{Put};
+ghost use Rattle.text_buffer.specs.Pages.{Writes};
 ghost use Rattle.fault_texts.specs.Sentences.{sentence_of};
 
 use crate::texts::put_text;
+use text_buffer::Page;
 
 // What fault `number` means.
-pub fn put_sentence(out: &mut [u8], at: usize, number: u8) -> usize
-    ensures { Put out.old out.new at (sentence_of number) result }
+pub fn put_sentence(page: &mut Page, number: u8)
+    ensures { Writes page.old page.new (sentence_of number) }
 {
     let sentences = b"\
         No fault has this number.\n\
@@ -36,5 +37,5 @@ pub fn put_sentence(out: &mut [u8], at: usize, number: u8) -> usize
         No fault has this number.\n\
         Fewer than 8,192 rows are lent.\n\
         ";
-    put_text(out, at, sentences, number)
+    put_text(page, sentences, number);
 }

@@ -1,8 +1,8 @@
 -- When a file is refused or accepted: what is then answered, and what the store then holds.
+use Rattle.std.specs.Prelude.{None, Some, Ok, Result, Err}
 use Prim.Native.Nat.{ℕ, ◌≤◌, ◌<◌, zero-le}
 use mathlib.Core.Path.{◌≡◌, refl, sym, ap, ◌∙◌, subst}
 use mathlib.Core.List.{List, map, reverse}
-use mathlib.Core.Option.{none, some}
 use native.Mathlib.Omega.{arith}
 use Rattle.cut_lines.specs.Texts.{Text}
 use Rattle.cut_lines.specs.Cursors.{rest, past, first_cursor, Placed}
@@ -14,7 +14,6 @@ use Rattle.rules.specs.Outline.{is}
 use Rattle.rules.specs.Whole.{Held, Outcome, passed, refused, outcome, loading, texts_of, last_checks}
 use Rattle.lines.specs.Lines.{bytes_fault}
 use Rattle.records.specs.declared.Fault.{Fault}
-use Rattle.lines.specs.declared.Bytes.TheVariants.{Clean}
 use Rattle.records.specs.Bounds.{most_rows}
 use Rattle.records.specs.declared.Lengths.{Lengths}
 use Rattle.records.specs.declared.Lending.{Lending}
@@ -27,13 +26,10 @@ use Rattle.noted_events.specs.Events.{log_of}
 use Rattle.file_answer.specs.Scans.{fault_of_ending, finish_is, WithinAt}
 use Rattle.noted_events.specs.declared.Tally.{Tally}
 use Rattle.file_answer.specs.declared.Scanned.{Scanned}
-use Rattle.file_answer.specs.declared.Ending.{Ending}
-use Rattle.file_answer.specs.declared.Ending.TheVariants.{Whole, Broken}
 use Rattle.component_records.specs.Views.{header_laid}
 use Rattle.file_answer.specs.Answered.{refusal, answer_of, answer_in, answer_for}
 use Rattle.file_answer.specs.Sorted.{Sorted, SortedFor, Outlines, LoadedFor, Loads, ReadWhole}
 use Rattle.records.specs.declared.Answer.{Answer}
-use Rattle.records.specs.declared.Verdict.TheVariants.{Accepted}
 use Rattle.file_answer.proofs.Laws.{all-texts, used-twice, broken-off, read_through}
 use Rattle.file_answer.proofs.SortedLaws.{by_kind}
 
@@ -71,7 +67,7 @@ module _ (l : Lengths) (s xs : List ℕ) (t : Tally) (read : ReadWhole l s xs t)
       }
 
   pub accepts : (r : Answer) (h : Held) → outcome l s ≡ passed h
-      → r ≡ record { verdict = Accepted; counts = t.counts; header = header_laid (rest s first_cursor) } → Outlines l s r xs
+      → r ≡ record { verdict = (Ok tt); counts = t.counts; header = header_laid (rest s first_cursor) } → Outlines l s r xs
   unfolding answer_of file_in
   accepts r h is e =
       record {
@@ -85,22 +81,22 @@ module _ (l : Lengths) (s xs : List ℕ) (t : Tally) (read : ReadWhole l s xs t)
 
 -- ---- the lines read to some end
 
-module _ (l : Lengths) (s xs : List ℕ) (z : Scanned) (clean : bytes_fault s ≡ Clean)
+module _ (l : Lengths) (s xs : List ℕ) (z : Scanned) (clean : bytes_fault s ≡ Ok tt)
     (read : run_log l (past s first_cursor) BeforeVersion empty_log (rest s first_cursor) ≡ finish_is s xs z) where
-  pub twice : (k : ℕ) → clash (map entry_of (notes_to s xs z.tally.names)) ≡ some k → outcome l s ≡ refused 14 k 0
+  pub twice : (k : ℕ) → clash (map entry_of (notes_to s xs z.tally.names)) ≡ Some k → outcome l s ≡ refused 14 k 0
   unfolding log_in
   twice k h = used-twice l s clean (finish_is s xs z) read k h
 
-  pub broken : (f : Fault) → clash (map entry_of (notes_to s xs z.tally.names)) ≡ none → z.ending ≡ Broken f → outcome l s ≡ refused f.number f.line f.column
+  pub broken : (f : Fault) → clash (map entry_of (notes_to s xs z.tally.names)) ≡ None → z.ending ≡ Err f → outcome l s ≡ refused f.number f.line f.column
   unfolding log_in
   broken f h e = broken-off l s clean (finish_is s xs z) read f h (ap fault_of_ending e)
 
-  pub all_read : clash (map entry_of (notes_to s xs z.tally.names)) ≡ none → z.ending ≡ Whole → WithinAt xs z.tally z.ending → ReadWhole l s xs z.tally
+  pub all_read : clash (map entry_of (notes_to s xs z.tally.names)) ≡ None → z.ending ≡ Ok tt → WithinAt xs z.tally z.ending → ReadWhole l s xs z.tally
   all_read h e w =
       let kept = subst (WithinAt xs z.tally) e w in
       record {
         clean = clean;
-        read = read ∙ ap (λ (x : Ending). record { fault = fault_of_ending x; log = log_of s xs z.tally }) e;
+        read = read ∙ ap (λ (x : Result (Unit {0}) Fault). record { fault = fault_of_ending x; log = log_of s xs z.tally }) e;
         names = h;
         within = kept.0;
         filed = kept.1;

@@ -1,11 +1,11 @@
 -- A row's line in an open table changes the rows that were seen and the file's count of rows, and nothing else of where the reading stands.
+use Rattle.std.specs.Prelude.{Ok, Err}
 use Prim.Native.Nat.{ℕ, ◌+◌, min}
 use mathlib.Core.Path.{◌≡◌, refl, sym, ap, ap₂, ◌∙◌, subst}
 use mathlib.Core.List.{List, ◌∷◌}
 use mathlib.Core.Bool.{Bool, cond}
 use native.Mathlib.Omega.{arith}
 use lib.Dec.{ltb, eqb}
-use Rattle.laws.specs.Said.{says, fault}
 use Rattle.laws.specs.Lists.{part}
 use Rattle.laws.proofs.Tests.{by-test, cond_no, impossible}
 use Rattle.decimal.specs.Answers.{past_numbers, decimal_in}
@@ -29,9 +29,7 @@ use Rattle.rules.specs.declared.ModelList.TheVariants.{CurrentRows, WaveformRows
 use Rattle.rules.specs.declared.ModelState.{ModelState}
 use Rattle.rules.specs.declared.Stage.TheVariants.{InModel}
 use Rattle.rules.specs.declared.Event.TheVariants.{TableRow}
-use Rattle.rules.specs.declared.Went.TheVariants.{On}
 use Rattle.model_steps.specs.Rows.{row_step, row_went}
-use Rattle.model_steps.specs.declared.RowStep.TheVariants as step
 use Rattle.model_steps.proofs.Laws.{row-line, row_seen}
 use Rattle.notes.specs.Noted.{run_log}
 use Rattle.note_words.specs.Store.{log_in}
@@ -58,18 +56,18 @@ waveform-holds o g m k w r y e =
 
 -- ---- one row
 
-row-said : (w : List ℕ) (r more : RowsSeen) (x : Reads line.Row) → row_step r (told_in w x) ≡ step.Next more → (y : line.Row) × (x ≡ says y)
-row-said w r more (says y) h = (y, refl)
-row-said w r more (fault f) h = impossible (cc)
+row-said : (w : List ℕ) (r more : RowsSeen) (x : Reads line.Row) → row_step r (told_in w x) ≡ Ok more → (y : line.Row) × (x ≡ Ok y)
+row-said w r more (Ok y) h = (y, refl)
+row-said w r more (Err f) h = impossible (cc)
 
 module _ (m : ModelState) (table : RowsSeen → ModelList) (holds : HoldsRows table) (w : List ℕ) (r more : RowsSeen) (row : RowIs w r more) where
-  row_on : (k : ℕ) → on_plain (InModel (with_model_list m (table r))) k w ≡ On (InModel (with_model_list m (table more))) TableRow
+  row_on : (k : ℕ) → on_plain (InModel (with_model_list m (table r))) k w ≡ Ok (InModel (with_model_list m (table more)), TableRow)
   unfolding on_plain
   row_on k =
       let y = row-said w r more (row_of w) row.row in
       cond_no _ _ row.unbracketed
       ∙ holds (with_model_list m (table r)) k w r y.0 y.1
-      ∙ row-line table (with_model_list m (table r)) r k (says y.0)
+      ∙ row-line table (with_model_list m (table r)) r k (Ok y.0)
       ∙ ap (row_went table (with_model_list m (table r)) k) (ap (λ (x : Reads line.Row). row_step r (told_in w x)) (sym y.1) ∙ row.row)
 
   row-runs : (l : Lengths) (s xs : List ℕ) (t : Tally) (p k c : ℕ) (ts : List Text)

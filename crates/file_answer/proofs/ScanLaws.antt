@@ -1,21 +1,22 @@
 -- Laws of `specs/Scans.antt`: one text more, by its step and by what it adds.
+use Rattle.std.specs.Prelude.{Err, Ok}
 use Prim.Native.Nat.{ℕ, ◌≤◌, min}
 use mathlib.Core.Path.{◌≡◌, refl, sym, ap, ◌∙◌, subst}
 use mathlib.Core.List.{List}
 use mathlib.Core.Bool.{Bool, true, false, cond}
 use native.Mathlib.Omega.{arith}
 use lib.Dec.{eqb, leb}
-use borrow.Author.Tests.{eq-eqb, ne_eqb}
 use lib.ListN.{length}
 use Rattle.laws.specs.Lists.{part}
 use Rattle.laws.proofs.Tests.{by-test, cond_yes, cond_no, impossible}
 use Rattle.records.specs.Flaws.{at_line}
 use Rattle.records.specs.declared.Fault.{Fault}
 use Rattle.records.specs.declared.LineFault.{LineFault}
-use Rattle.cut_lines.specs.Texts.{Text, plain}
+use Rattle.cut_lines.specs.Texts.{Text}
 use Rattle.cut_lines.specs.Cursors.{rest, past, first_cursor, CleanFrom, Goes, TextIs, ChangeIs, OutIs}
 use Rattle.cut_lines.specs.declared.Cursor.{Cursor}
-use Rattle.rules.specs.Going.{passes, refuse, quietly}
+use Rattle.rules.specs.Going.{passes, refuse, quietly, Went}
+use Rattle.rules.proofs.Went.{event-of}
 use Rattle.rules.specs.Steps.{is_before, is_ended, on_plain, on_change}
 use Rattle.rules.specs.Whole.{bound}
 use Rattle.records.specs.Bounds.{most_waveforms}
@@ -27,32 +28,27 @@ use Rattle.rules.specs.declared.Stage.TheVariants.{BeforeVersion}
 use Rattle.rules.specs.declared.Event.{Event}
 use Rattle.rules.specs.declared.Event.TheVariants.{Quiet}
 use Rattle.rules.specs.declared.Event.TheVariants as event
-use Rattle.rules.specs.declared.Went.{Went}
-use Rattle.rules.specs.declared.Went.TheVariants.{On, Stop}
 use Rattle.notes.specs.Noted.{Note, Log, Logged, going, full, with_note, logged, used, broken, out_of_lines, run_log, empty_log, nothing_used}
 use Rattle.note_words.specs.Store.{most_names, log_in, notes_to, store_length}
 use Rattle.note_words.proofs.Laws.{filed-none}
-use Rattle.noted_events.specs.Events.{log_of, logged_at, told_is, Within, KeptCounts, KeptBy, Ready}
-use Rattle.noted_events.specs.declared.Told.TheVariants.{Going, Full}
-use Rattle.file_answer.specs.Scans.{finish_is, text_step, change_step, told_by, standing, run_from, Reached, Ground, Sound}
-use Rattle.file_answer.specs.declared.NotedLine.{NotedLine}
+use Rattle.noted_events.specs.Events.{Told, log_of, logged_at, told_is, Within, KeptCounts, KeptBy, Ready}
+use Rattle.file_answer.specs.Scans.{finish_is, text_step, change_step, standing, run_from, Reached, Ground, Sound}
 use Rattle.noted_events.specs.declared.Spot.{Spot}
 use Rattle.noted_events.specs.declared.Tally.{Tally}
 use Rattle.file_answer.specs.declared.Standing.{Standing}
-use Rattle.file_answer.specs.declared.Ending.TheVariants.{Broken}
 
 -- ---- a line that cutting leaves
 
 module _ (l : Lengths) (n : ℕ) (s xs ys : List ℕ) (g : Stage) (t : Tally) (p : Spot) where
-  pub plain-going : (u : Stage) (e : Event) (v : Tally) → on_plain g p.line (part p.start p.end s) ≡ On u e → logged_at l s xs t p e ≡ going (log_of s ys v)
+  pub plain-going : (u : Stage) (e : Event) (v : Tally) → on_plain g p.line (part p.start p.end s) ≡ Ok (u, e) → logged_at l s xs t p e ≡ going (log_of s ys v)
       → text_step l n s xs g t p ≡ run_log l n u (log_of s ys v) (rest s p.next)
   plain-going u e v h k = rw h rw k refl
 
-  pub plain-full : (u : Stage) (e : Event) (f : LineFault) (v : Tally) → on_plain g p.line (part p.start p.end s) ≡ On u e → logged_at l s xs t p e ≡ full f p.line (log_of s ys v)
+  pub plain-full : (u : Stage) (e : Event) (f : LineFault) (v : Tally) → on_plain g p.line (part p.start p.end s) ≡ Ok (u, e) → logged_at l s xs t p e ≡ full f p.line (log_of s ys v)
       → text_step l n s xs g t p ≡ broken (at_line p.line f) (log_of s ys v)
   plain-full u e f v h k = rw h rw k refl
 
-  pub plain-stop : (f : Fault) → on_plain g p.line (part p.start p.end s) ≡ Stop f → text_step l n s xs g t p ≡ finish_is s xs (record { ending = Broken f; tally = t })
+  pub plain-stop : (f : Fault) → on_plain g p.line (part p.start p.end s) ≡ Err f → text_step l n s xs g t p ≡ finish_is s xs (record { ending = Err f; tally = t })
   plain-stop f h = rw h refl
 
 -- ---- a line that has no room for what it adds has a fault with a number
@@ -85,37 +81,24 @@ numbered l g t ts event.WaveformOpened = numbered-cond (leb (min most_waveforms 
 numbered l g t ts event.TableRow = refl
 numbered l g t ts (event.Ended f) = numbered-cond (eqb g.counts.components 0) _ _ refl (numbered-end _ g f)
 
-pub full-told : (l : Lengths) (s xs ys : List ℕ) (t : Tally) (p : Spot) (e : Event) (f : LineFault) (v : Tally) → logged_at l s xs t p e ≡ told_is s ys p.line (Full f v)
-    → Full f v ≡ told_by (record { tally = v; fault = f })
-full-told l s xs ys t p e f v h =
-    sym (cond_no _ _ (ap (λ (x : Logged). eqb (number_of x) 0) (sym h) ∙ numbered l (log_of s xs t) (plain p.line (part p.start p.end s)) (rest s p.next) e))
-
--- ---- a line that is noted, and one that is not
-
-told-going : (r : NotedLine) → r.fault.number ≡ 0 → told_by r ≡ Going r.tally
-told-going r h = cond_yes _ _ (eq-eqb r.fault.number 0 h)
-
-told-full : (r : NotedLine) → (r.fault.number ≡ 0 → ⊥) → told_by r ≡ Full r.fault r.tally
-told-full r h = cond_no _ _ (ne_eqb r.fault.number 0 h)
-
 -- ---- a [Comment Char] line adds nothing
 
-stop-on : {X : Type 0} (f : Fault) (u : Stage) (e : Event) → Stop f ≡ On u e → X
+stop-on : {X : Type 0} (f : Fault) (u : Stage) (e : Event) → ◌≡◌ {A = Went} (Err f) (Ok (u, e)) → X
 stop-on f u e h = impossible (cc)
 
 module _ (u : Stage) (e : Event) where
-  quiet-refuse : (t : Bool) (n k : ℕ) (went : Went) → (went ≡ On u e → e ≡ Quiet) → refuse t n k went ≡ On u e → e ≡ Quiet
+  quiet-refuse : (t : Bool) (n k : ℕ) (went : Went) → (went ≡ Ok (u, e) → e ≡ Quiet) → refuse t n k went ≡ Ok (u, e) → e ≡ Quiet
   unfolding refuse
   quiet-refuse t n k went q h = by-test t (λ b. stop-on _ u e (sym (cond_yes _ _ b) ∙ h)) (λ b. q (sym (cond_no _ _ b) ∙ h))
 
-  quiet-passes : (f : LineFault) (k : ℕ) (s : Stage) → passes f k (quietly s) ≡ On u e → e ≡ Quiet
+  quiet-passes : (f : LineFault) (k : ℕ) (s : Stage) → passes f k (quietly s) ≡ Ok (u, e) → e ≡ Quiet
   unfolding passes
   quiet-passes f k s h =
       by-test (eqb f.number 0)
-      (λ b. let z : On s Quiet ≡ On u e = sym (cond_yes _ _ b) ∙ h in cc)
+      (λ b. sym (event-of (sym (cond_yes _ _ b) ∙ h)))
       (λ b. stop-on _ u e (sym (cond_no _ _ b) ∙ h))
 
-  quiet-change : (g : Stage) (k : ℕ) (f : LineFault) → on_change g k f ≡ On u e → e ≡ Quiet
+  quiet-change : (g : Stage) (k : ℕ) (f : LineFault) → on_change g k f ≡ Ok (u, e) → e ≡ Quiet
   unfolding on_change
   quiet-change g k f =
       quiet-refuse (is_ended g) 7 k _
@@ -124,10 +107,10 @@ module _ (u : Stage) (e : Event) where
       (quiet-passes f k g)))
 
 module _ (l : Lengths) (n : ℕ) (s xs : List ℕ) (g : Stage) (t : Tally) (k : ℕ) (f : LineFault) (c : Cursor) where
-  pub change-on : (u : Stage) (e : Event) → on_change g k f ≡ On u e → change_step l n s xs g t k f c ≡ run_log l n u (log_of s xs t) (rest s c)
+  pub change-on : (u : Stage) (e : Event) → on_change g k f ≡ Ok (u, e) → change_step l n s xs g t k f c ≡ run_log l n u (log_of s xs t) (rest s c)
   change-on u e h = rw h rw (quiet-change u e g k f h) refl
 
-  pub change-stop : (x : Fault) → on_change g k f ≡ Stop x → change_step l n s xs g t k f c ≡ finish_is s xs (record { ending = Broken x; tally = t })
+  pub change-stop : (x : Fault) → on_change g k f ≡ Err x → change_step l n s xs g t k f c ≡ finish_is s xs (record { ending = Err x; tally = t })
   change-stop x h = rw h refl
 
 -- ---- a turn
@@ -155,18 +138,18 @@ module _ (l : Lengths) (s xs : List ℕ) (x : Standing) where
 -- ---- from a place on, behind the text that stands there
 
 module _ (l : Lengths) (s xs ys : List ℕ) (g : Stage) (c : Cursor) (t : Tally) (p : Spot) (text : TextIs s c p.line p.start p.end p.next) where
-  pub text-going : (u : Stage) (e : Event) (v : Tally) → on_plain g p.line (part p.start p.end s) ≡ On u e → logged_at l s xs t p e ≡ going (log_of s ys v)
+  pub text-going : (u : Stage) (e : Event) (v : Tally) → on_plain g p.line (part p.start p.end s) ≡ Ok (u, e) → logged_at l s xs t p e ≡ going (log_of s ys v)
       → run_from l s xs (standing g c t) ≡ run_from l s ys (standing u p.next v)
   text-going u e v h k =
       run-text l s xs (standing g c t) p text
       ∙ plain-going l (past s c) s xs ys g t p u e v h k
       ∙ ap (λ (m : ℕ). run_log l m u (log_of s ys v) (rest s p.next)) text.goes.ends
 
-  text-full : (u : Stage) (e : Event) (f : LineFault) (v : Tally) → on_plain g p.line (part p.start p.end s) ≡ On u e → logged_at l s xs t p e ≡ full f p.line (log_of s ys v)
-      → run_from l s xs (standing g c t) ≡ finish_is s ys (record { ending = Broken (at_line p.line f); tally = v })
+  text-full : (u : Stage) (e : Event) (f : LineFault) (v : Tally) → on_plain g p.line (part p.start p.end s) ≡ Ok (u, e) → logged_at l s xs t p e ≡ full f p.line (log_of s ys v)
+      → run_from l s xs (standing g c t) ≡ finish_is s ys (record { ending = Err (at_line p.line f); tally = v })
   text-full u e f v h k = run-text l s xs (standing g c t) p text ∙ plain-full l (past s c) s xs ys g t p u e f v h k
 
-  pub text-stop : (f : Fault) → on_plain g p.line (part p.start p.end s) ≡ Stop f → run_from l s xs (standing g c t) ≡ finish_is s xs (record { ending = Broken f; tally = t })
+  pub text-stop : (f : Fault) → on_plain g p.line (part p.start p.end s) ≡ Err f → run_from l s xs (standing g c t) ≡ finish_is s xs (record { ending = Err f; tally = t })
   text-stop f h = run-text l s xs (standing g c t) p text ∙ plain-stop l (past s c) s xs ys g t p f h
 
   text-sound : (v : Tally) → Ground s xs c t → length ys ≡ length xs → KeptCounts ys t v → Ground s ys p.next v
@@ -174,32 +157,32 @@ module _ (l : Lengths) (s xs ys : List ℕ) (g : Stage) (c : Cursor) (t : Tally)
       record { placed = text.goes.placed; reached = reached-on s c p.next text.goes h.reached; small = h.small; store = omega (arith, e, h.store); within = k.within; filed = k.filed; rows = omega (arith, k.rows, h.rows, text.goes.rises) }
 
 -- as it was noted: q is the text p
-module _ (l : Lengths) (s xs ys : List ℕ) (g : Stage) (c : Cursor) (t : Tally) (p q : Spot) (is : q ≡ p) (text : TextIs s c p.line p.start p.end p.next) (r : NotedLine) (e : Event) (noted : logged_at l s xs t q e ≡ told_is s ys q.line (told_by r)) where
-  noted_here : logged_at l s xs t p e ≡ told_is s ys p.line (told_by r)
-  noted_here = subst (λ (z : Spot). logged_at l s xs t z e ≡ told_is s ys z.line (told_by r)) is noted
+module _ (l : Lengths) (s xs ys : List ℕ) (g : Stage) (c : Cursor) (t : Tally) (p q : Spot) (is : q ≡ p) (text : TextIs s c p.line p.start p.end p.next) (r : Told) (e : Event) (noted : logged_at l s xs t q e ≡ told_is s ys q.line r) where
+  noted_here : logged_at l s xs t p e ≡ told_is s ys p.line r
+  noted_here = subst (λ (z : Spot). logged_at l s xs t z e ≡ told_is s ys z.line r) is noted
 
-  pub noted-going : (u : Stage) → on_plain g p.line (part p.start p.end s) ≡ On u e → r.fault.number ≡ 0 → run_from l s xs (standing g c t) ≡ run_from l s ys (standing u p.next r.tally)
-  noted-going u h z = text-going l s xs ys g c t p text u e r.tally h (noted_here ∙ ap (told_is s ys p.line) (told-going r z))
+  pub noted-going : (u : Stage) (v : Tally) → on_plain g p.line (part p.start p.end s) ≡ Ok (u, e) → r ≡ Ok v → run_from l s xs (standing g c t) ≡ run_from l s ys (standing u p.next v)
+  noted-going u v h z = text-going l s xs ys g c t p text u e v h (noted_here ∙ ap (told_is s ys p.line) z)
 
-  pub noted-full : (u : Stage) → on_plain g p.line (part p.start p.end s) ≡ On u e → (r.fault.number ≡ 0 → ⊥)
-      → run_from l s xs (standing g c t) ≡ finish_is s ys (record { ending = Broken (at_line p.line r.fault); tally = r.tally })
-  noted-full u h z = text-full l s xs ys g c t p text u e r.fault r.tally h (noted_here ∙ ap (told_is s ys p.line) (told-full r z))
+  pub noted-full : (u : Stage) (f : LineFault) (v : Tally) → on_plain g p.line (part p.start p.end s) ≡ Ok (u, e) → r ≡ Err (f, v)
+      → run_from l s xs (standing g c t) ≡ finish_is s ys (record { ending = Err (at_line p.line f); tally = v })
+  noted-full u f v h z = text-full l s xs ys g c t p text u e f v h (noted_here ∙ ap (told_is s ys p.line) z)
 
-pub noted-sound : (l : Lengths) (s xs ys : List ℕ) (g : Stage) (c : Cursor) (t : Tally) (p : Spot) → TextIs s c p.line p.start p.end p.next → (r : NotedLine) → Ground s xs c t → length ys ≡ length xs
-    → KeptBy ys t (told_by r) → r.fault.number ≡ 0 → Ground s ys p.next r.tally
-noted-sound l s xs ys g c t p text r h k m z = text-sound l s xs ys g c t p text r.tally h k (subst (KeptBy ys t) (told-going r z) m)
+pub noted-sound : (l : Lengths) (s xs ys : List ℕ) (g : Stage) (c : Cursor) (t : Tally) (p : Spot) → TextIs s c p.line p.start p.end p.next → (r : Told) (v : Tally) → Ground s xs c t → length ys ≡ length xs
+    → KeptBy ys t r → r ≡ Ok v → Ground s ys p.next v
+noted-sound l s xs ys g c t p text r v h k m z = text-sound l s xs ys g c t p text v h k (subst (KeptBy ys t) z m)
 
-pub noted-names : (xs : List ℕ) (t : Tally) (r : NotedLine) → KeptBy xs t (told_by r) → (r.fault.number ≡ 0 → ⊥) → r.tally.names ≤ most_names
-noted-names xs t r m z = subst (KeptBy xs t) (told-full r z) m
+pub noted-names : (xs : List ℕ) (t : Tally) (r : Told) (f : LineFault) (v : Tally) → KeptBy xs t r → r ≡ Err (f, v) → v.names ≤ most_names
+noted-names xs t r f v m z = subst (KeptBy xs t) z m
 
 module _ (l : Lengths) (s xs : List ℕ) (g : Stage) (c : Cursor) (t : Tally) (k : ℕ) (f : LineFault) (n : Cursor) (line : ChangeIs s c k f n) where
-  pub line_on : (u : Stage) (e : Event) → on_change g k f ≡ On u e → run_from l s xs (standing g c t) ≡ run_from l s xs (standing u n t)
+  pub line_on : (u : Stage) (e : Event) → on_change g k f ≡ Ok (u, e) → run_from l s xs (standing g c t) ≡ run_from l s xs (standing u n t)
   line_on u e h =
       run-change l s xs (standing g c t) k f n line
       ∙ change-on l (past s c) s xs g t k f n u e h
       ∙ ap (λ (m : ℕ). run_log l m u (log_of s xs t) (rest s n)) line.goes.ends
 
-  pub line-stop : (x : Fault) → on_change g k f ≡ Stop x → run_from l s xs (standing g c t) ≡ finish_is s xs (record { ending = Broken x; tally = t })
+  pub line-stop : (x : Fault) → on_change g k f ≡ Err x → run_from l s xs (standing g c t) ≡ finish_is s xs (record { ending = Err x; tally = t })
   line-stop x h = run-change l s xs (standing g c t) k f n line ∙ change-stop l (past s c) s xs g t k f n x h
 
   pub line-sound : Ground s xs c t → Ground s xs n t

@@ -1,5 +1,5 @@
 -- The rows of [Pin], passed one after another, as the code answers it.
-use Rattle.std.specs.Prelude.{ℕ, ◌+◌, ◌≤◌, ◌≡◌, List, Bool, true, false}
+use Rattle.std.specs.Prelude.{ℕ, ◌+◌, ◌≤◌, ◌≡◌, List, Bool, true, false, Ok}
 use Rattle.laws.specs.Lists.{part}
 use Rattle.line_rules.specs.Fields.{is_bracketed}
 use Rattle.cut_lines.specs.Cursors.{Goes}
@@ -10,7 +10,6 @@ use Rattle.rules.specs.Component.{pin_flaw}
 use Rattle.rules.specs.Steps.{on_plain}
 use Rattle.rules.specs.declared.Stage.{Stage}
 use Rattle.rules.specs.declared.Event.TheVariants.{PinRow}
-use Rattle.rules.specs.declared.Went.TheVariants.{On}
 use Rattle.component_steps.specs.Steps.{NamesLie}
 use Rattle.component_steps.specs.declared.PinNames.{PinNames}
 use Rattle.note_words.specs.Store.{lies_at, words_of_row, with_name}
@@ -51,7 +50,7 @@ one_pin t = with_pins t (t.names + 1) (t.counts.pins + 1)
 
 -- a stage in which pin rows are read, and which they leave as it is
 abbrev pub KeepsPins : Stage → Bool → Type 0
-KeepsPins g long = (k : ℕ) (w : List ℕ) → is_bracketed w ≡ false → (pin_flaw long w).number ≡ 0 → on_plain g k w ≡ On g PinRow
+KeepsPins g long = (k : ℕ) (w : List ℕ) → is_bracketed w ≡ false → (pin_flaw long w).number ≡ 0 → on_plain g k w ≡ Ok (g, PinRow)
 
 -- the texts from c on begin with a pin row
 pub record PinNext (l : Lengths) (s xs : List ℕ) (c : Cursor) (t : Tally) (long : Bool) (ys : List ℕ) (next : Cursor) : Type 0 where

@@ -1,6 +1,5 @@
 -- The rows of an open table, passed one after another, as the code answers it.
-use Rattle.std.specs.Prelude.{ℕ, ◌+◌, ◌≤◌, ◌≡◌, List, Bool, false, ltb}
-use Rattle.laws.specs.Said.{says}
+use Rattle.std.specs.Prelude.{ℕ, ◌+◌, ◌≤◌, ◌≡◌, List, Bool, false, ltb, Ok}
 use Rattle.decimal.specs.Answers.{past_numbers, decimal_in}
 use Rattle.decimal.specs.declared.Decimal.{Decimal}
 use Rattle.records.specs.Flaws.{told_in}
@@ -16,7 +15,6 @@ use Rattle.rules.specs.declared.ModelList.{ModelList}
 use Rattle.rules.specs.declared.ModelState.{ModelState}
 use Rattle.rules.specs.declared.Stage.TheVariants.{InModel}
 use Rattle.model_steps.specs.Rows.{row_step}
-use Rattle.model_steps.specs.declared.RowStep.TheVariants as step
 use Rattle.noted_events.specs.Events.{Within, FiledBy}
 use Rattle.noted_events.specs.declared.Tally.{Tally}
 use Rattle.file_answer.specs.Scans.{run_from, Reached}
@@ -31,7 +29,7 @@ seen_rows count last head tail = record { count = count; last = last; head = hea
 -- w is a row after r
 pub record RowIs (w : List ℕ) (r more : RowsSeen) : Type 0 where
   pub unbracketed : is_bracketed w ≡ false
-  pub row : row_step r (told_in w (row_of w)) ≡ step.Next more
+  pub row : row_step r (told_in w (row_of w)) ≡ Ok more
 
 -- x is amiss, or w as a row after so many, the last of which has this number
 abbrev pub RowIn : List ℕ → ℕ → Decimal → RowWords → Type 0
@@ -43,7 +41,7 @@ RowIn w count last x =
 
 -- the list of a model's state whose lines are rows
 abbrev pub HoldsRows : (RowsSeen → ModelList) → Type 0
-HoldsRows table = (m : ModelState) (k : ℕ) (w : List ℕ) (r : RowsSeen) (y : line.Row) → row_of w ≡ says y → model_line m k w (table r) ≡ row_line table m r k (says y)
+HoldsRows table = (m : ModelState) (k : ℕ) (w : List ℕ) (r : RowsSeen) (y : line.Row) → row_of w ≡ Ok y → model_line m k w (table r) ≡ row_line table m r k (Ok y)
 
 -- with n rows in the file
 abbrev pub with_rows : Tally → ℕ → Tally

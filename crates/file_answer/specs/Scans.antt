@@ -1,6 +1,5 @@
 -- The lines read from a place on, as the code answers it.
-use Rattle.std.specs.Prelude.{ℕ, ◌≤◌, ◌≡◌, List, cond, eqb, length}
-use Rattle.std.proofs.Math.Option.{Option, none, some}
+use Rattle.std.specs.Prelude.{ℕ, ◌≤◌, ◌≡◌, List, length, Option, None, Some, Result, Ok, Err}
 use Rattle.laws.specs.Lists.{part}
 use Rattle.records.specs.declared.Fault.{Fault}
 use Rattle.records.specs.declared.LineFault.{LineFault}
@@ -15,17 +14,12 @@ use Rattle.note_words.specs.Store.{store_length}
 use Rattle.noted_events.specs.Events.{log_of, Within, FiledBy}
 use Rattle.noted_events.specs.declared.Spot.{Spot}
 use Rattle.noted_events.specs.declared.Tally.{Tally}
-use Rattle.noted_events.specs.declared.Told.{Told}
-use Rattle.noted_events.specs.declared.Told.TheVariants.{Going, Full}
 use Rattle.file_answer.specs.declared.Standing.{Standing}
 use Rattle.file_answer.specs.declared.Scanned.{Scanned}
-use Rattle.file_answer.specs.declared.Ending.{Ending}
-use Rattle.file_answer.specs.declared.Ending.TheVariants.{Whole, Broken}
-use Rattle.file_answer.specs.declared.NotedLine.{NotedLine}
 
-abbrev pub fault_of_ending : Ending → Option Fault
-fault_of_ending Whole = none
-fault_of_ending (Broken f) = some f
+abbrev pub fault_of_ending : Result (Unit {0}) Fault → Option Fault
+fault_of_ending (Ok tt) = None
+fault_of_ending (Err f) = Some f
 
 abbrev pub finish_is : List ℕ → List ℕ → Scanned → Finish
 finish_is s xs r = record { fault = fault_of_ending r.ending; log = log_of s xs r.tally }
@@ -42,14 +36,10 @@ abbrev pub change_step : Lengths → ℕ → List ℕ → List ℕ → Stage →
 change_step l n s xs g t k f c =
     after_went l (log_of s xs t) (change k f) (rest s c) (λ (u : Stage) (h : Log). run_log l n u h (rest s c)) (on_change g k f)
 
--- a line's event as it was noted
-abbrev pub told_by : NotedLine → Told
-told_by r = cond (eqb r.fault.number 0) (Going r.tally) (Full r.fault r.tally)
-
 -- lines read to the end leave a tally within the bounds, and a store filed by it
-abbrev pub WithinAt : List ℕ → Tally → Ending → Type 0
-WithinAt xs t Whole = Within t × FiledBy xs t
-WithinAt xs t (Broken f) = Unit {0}
+abbrev pub WithinAt : List ℕ → Tally → Result (Unit {0}) Fault → Type 0
+WithinAt xs t (Ok tt) = Within t × FiledBy xs t
+WithinAt xs t (Err f) = Unit {0}
 
 -- ---- from a place on
 

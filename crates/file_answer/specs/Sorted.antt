@@ -1,8 +1,6 @@
 -- What is noted of an accepted file, for those who fill the tables: its names by kind.
-use Rattle.std.specs.Prelude.{ℕ, zero, suc, ◌≤◌, ◌≡◌, List, [], ◌∷◌, ◌++◌, map, length}
-use Rattle.std.proofs.Math.Option.{none}
+use Rattle.std.specs.Prelude.{ℕ, zero, suc, ◌≤◌, ◌≡◌, List, [], ◌∷◌, ◌++◌, map, length, None, Ok}
 use Rattle.lines.specs.Lines.{bytes_fault}
-use Rattle.lines.specs.declared.Bytes.TheVariants.{Clean}
 use Rattle.cut_lines.specs.Cursors.{rest, past, first_cursor}
 use Rattle.rules.specs.Whole.{Outcome, passed, refused, outcome, loading, texts_of}
 use Rattle.records.specs.declared.Kind.{Kind}
@@ -26,7 +24,7 @@ up_to f (suc n) = up_to f n ++ (f n ∷ [])
 
 -- the store holds the file's names by kind, in file order
 pub record Sorted (l : Lengths) (s xs : List ℕ) : Type 0 where
-  pub clean : bytes_fault s ≡ Clean
+  pub clean : bytes_fault s ≡ Ok tt
   pub past : ℕ
   pub log : Log
   pub run : run_log l past BeforeVersion empty_log (texts_of s) ≡ whole log
@@ -51,8 +49,8 @@ pub record Loads (l : Lending) (s : List ℕ) (r : Answer) (xs : List ℕ) : Typ
 
 -- all lines are read, without fault and with no name used twice
 pub record ReadWhole (l : Lengths) (s xs : List ℕ) (t : Tally) : Type 0 where
-  pub clean : bytes_fault s ≡ Clean
+  pub clean : bytes_fault s ≡ Ok tt
   pub read : run_log l (past s first_cursor) BeforeVersion empty_log (rest s first_cursor) ≡ whole (log_of s xs t)
-  pub names : clash (map entry_of (notes_to s xs t.names)) ≡ none
+  pub names : clash (map entry_of (notes_to s xs t.names)) ≡ None
   pub within : Within t
   pub filed : FiledBy xs t

@@ -3,7 +3,7 @@
 
 use cut_lines::Cursor;
 use noted_events::Tally;
-use records::{Fault, LineFault};
+use records::Fault;
 use rules::{RowsSeen, Stage};
 
 pub mod rows; // rows.rt: the rows of an open table, in a loop of their own
@@ -36,22 +36,8 @@ pub struct Standing {
     pub tally: Tally,
 }
 
-// The lines are read to the end, or to the first fault.
-#[derive(Clone, Copy)]
-pub enum Ending {
-    Whole,
-    Broken(Fault),
-}
-
 #[derive(Clone, Copy)]
 pub struct Scanned {
-    pub ending: Ending,
+    pub ending: Result<(), Fault>,
     pub tally: Tally,
-}
-
-// What is noted and counted behind a line, and its fault, where there was no room; 0 for none.
-#[derive(Clone, Copy)]
-pub struct NotedLine {
-    pub tally: Tally,
-    pub fault: LineFault,
 }

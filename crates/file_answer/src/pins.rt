@@ -52,7 +52,7 @@ fn pin_noted(
         return false;
     }
     let names = pin_names(w);
-    if row_fault(w, names, long).number != 0 {
+    if row_fault(w, names, long).is_err() {
         return false;
     }
     let x = pin_note(start, end, names);

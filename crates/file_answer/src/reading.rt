@@ -4,14 +4,13 @@ ghost use Rattle.records.specs.Flaws.{bare, at_line};
 ghost use Rattle.cut_lines.specs.Cursors.{rest, past, first_cursor, CleanFrom};
 ghost use Rattle.rules.specs.declared.Stage.TheVariants.{BeforeVersion};
 ghost use Rattle.notes.specs.Noted.{run_log, empty_log, out_of_lines};
-ghost use Rattle.file_answer.specs.declared.Ending.TheVariants.{Broken};
 ghost use Rattle.note_words.specs.Store.{most_names, store_length};
 ghost use Rattle.noted_events.specs.Events.{log_of, logged_at, told_is, KeptBy, Ready, Within, FiledBy};
-ghost use Rattle.file_answer.specs.Scans.{told_by, finish_is, standing, WithinAt, Sound, ListPassed};
+ghost use Rattle.file_answer.specs.Scans.{finish_is, standing, WithinAt, Sound, ListPassed};
 
 use crate::pins::behind_pins;
 use crate::rows::behind_rows;
-use crate::{Ending, NotedLine, Scanned, Standing};
+use crate::{Scanned, Standing};
 use cut_lines::{Cursor, Next};
 use noted_events::events::note_event;
 use noted_events::{Spot, Tally, Told};
@@ -19,17 +18,17 @@ use records::{Fault, Lengths, LineFault};
 use rules::{Event, Stage, Went};
 
 fn broken(f: Fault, t: Tally) -> Scanned
-    ensures { result ≡ record { ending = Broken f; tally = t } }
+    ensures { result ≡ record { ending = Err f; tally = t } }
 {
     Scanned {
-        ending: Ending::Broken(f),
+        ending: Err(f),
         tally: t,
     }
 }
 
 // The fault of a line that has no room for what it adds, or of [End]'s own.
 fn broken_at(f: LineFault, line: u64, t: Tally) -> Scanned
-    ensures { result ≡ record { ending = Broken (at_line line f); tally = t } }
+    ensures { result ≡ record { ending = Err (at_line line f); tally = t } }
 {
     broken(
         Fault {
@@ -62,35 +61,16 @@ fn stands(stage: Stage, cursor: Cursor, tally: Tally) -> Standing
     }
 }
 
-// Behind a line without fault.
-fn faultless(t: Tally) -> NotedLine
-    ensures { result ≡ record { tally = t; fault = bare 0 } }
-{
-    NotedLine {
-        tally: t,
-        fault: LineFault {
-            number: 0,
-            column: 0,
-        },
-    }
-}
-
 // Notes and counts what a line adds; most add nothing.
-fn note_line(notes: &mut [u16], src: &[u8], l: Lengths, t: Tally, p: Spot, e: Event) -> NotedLine
+fn note_line(notes: &mut [u16], src: &[u8], l: Lengths, t: Tally, p: Spot, e: Event) -> Told
     requires { Ready src.now notes.old t p }
-    ensures e_value { logged_at l src.now notes.old t p e ≡ told_is src.now notes.new p.line (told_by result) }
-    ensures kept_by { KeptBy notes.new t (told_by result) }
+    ensures e_value { logged_at l src.now notes.old t p e ≡ told_is src.now notes.new p.line result }
+    ensures kept_by { KeptBy notes.new t result }
 {
     if let Event::Quiet = e {
-        return faultless(t);
+        return Ok(t);
     }
-    match note_event(notes, src, l, t, p, e) {
-        Told::Going(more) => faultless(more),
-        Told::Full(fault, full) => NotedLine {
-            tally: full,
-            fault: fault,
-        },
-    }
+    note_event(notes, src, l, t, p, e)
 }
 
 // Rows of tables and pins come in numbers.
@@ -136,7 +116,7 @@ fn out_of_lines(s: Stage, t: Tally, line: u64) -> Scanned
         Stage::InSelector(_) => broken(f, t),
         Stage::InModel(_) => broken(f, t),
         Stage::AfterEnd => Scanned {
-            ending: Ending::Whole,
+            ending: Ok(()),
             tally: t,
         },
     }
@@ -160,15 +140,13 @@ pub fn scan(notes: &mut [u16], src: &[u8], l: Lengths) -> Scanned
                 end,
                 next,
             } => match steps::on_plain(stage, line, &src[start..end]) {
-                Went::On(u, e) => {
+                Ok((u, e)) => {
                     stage = u;
                     cursor = next;
                     let p = spot_at(line, start, end, next);
-                    let noted = note_line(notes, src, l, tally, p, e);
-                    tally = noted.tally;
-                    let fault = noted.fault;
-                    if fault.number != 0 {
-                        return broken_at(fault, line, tally);
+                    match note_line(notes, src, l, tally, p, e) {
+                        Ok(more) => tally = more,
+                        Err((fault, full)) => return broken_at(fault, line, full),
                     }
                     if comes_in_numbers(e) {
                         let x = stands(stage, cursor, tally);
@@ -178,14 +156,14 @@ pub fn scan(notes: &mut [u16], src: &[u8], l: Lengths) -> Scanned
                         tally = y.tally;
                     }
                 }
-                Went::Stop(f) => return broken(f, tally),
+                Err(f) => return broken(f, tally),
             },
             Next::Change { line, fault, next } => match steps::on_change(stage, line, fault) {
-                Went::On(u, _) => {
+                Ok((u, _)) => {
                     stage = u;
                     cursor = next;
                 }
-                Went::Stop(f) => return broken(f, tally),
+                Err(f) => return broken(f, tally),
             },
             Next::Out { line } => return out_of_lines(stage, tally, line),
         }

@@ -1,28 +1,23 @@
 // Bytes, lines, names, last checks, one after the other: the first fault ends the reading.
 ghost use Rattle.std.specs.Prelude.{◌≡◌, ◌≤◌, length};
 ghost use Rattle.lines.specs.Lines.{bytes_fault};
-ghost use Rattle.lines.specs.declared.Bytes.TheVariants.{Clean};
 ghost use Rattle.cut_lines.specs.Cursors.{rest, first_cursor};
 ghost use Rattle.note_words.specs.Store.{store_length};
 ghost use Rattle.component_records.specs.Views.{header_laid};
 ghost use Rattle.file_answer.specs.Answered.{refusal, answer_of};
 ghost use Rattle.file_answer.specs.Sorted.{Outlines, Loads, ReadWhole};
-ghost use Rattle.records.specs.declared.Verdict.TheVariants.{Accepted};
 
-use crate::Ending;
 use crate::reading::scan;
 use cut_lines::Cursor;
-use lines::Bytes;
-use name_checks::{Clash, Last};
 use note_words::STORE_LENGTH;
 use noted_events::Tally;
-use records::{Answer, Counts, Fault, Header, Lending, Lengths, MOST_ROWS, Verdict};
+use records::{Answer, Counts, Fault, Header, Lending, Lengths, MOST_ROWS};
 
 fn refused(f: Fault) -> Answer
     ensures { result ≡ refusal f }
 {
     Answer {
-        verdict: Verdict::Refused(f),
+        verdict: Err(f),
         counts: Counts {
             components: 0,
             pins: 0,
@@ -51,10 +46,10 @@ fn refused_at(number: u8, line: u64) -> Answer
 }
 
 fn accepted(src: &[u8], c: Counts) -> Answer
-    ensures { result ≡ record { verdict = Accepted; counts = c; header = header_laid (rest src.now first_cursor) } }
+    ensures { result ≡ record { verdict = (Ok tt); counts = c; header = header_laid (rest src.now first_cursor) } }
 {
     Answer {
-        verdict: Verdict::Accepted,
+        verdict: Ok(()),
         counts: c,
         header: component_records::header_of(src, Cursor::first()),
     }
@@ -66,24 +61,24 @@ fn last_checks(src: &[u8], l: Lengths, t: Tally, notes: &[u16]) -> Answer
     ensures { Outlines l src.now result notes.now }
 {
     match name_checks::last_fault(src, notes, t.names) {
-        Last::Fine => accepted(src, t.counts),
-        Last::Faulty(f) => refused(f),
+        Ok(()) => accepted(src, t.counts),
+        Err(f) => refused(f),
     }
 }
 
 // The lines of a file whose bytes are clean.
 fn settle(src: &[u8], l: Lengths, notes: &mut [u16]) -> Answer
-    requires { (bytes_fault src.now ≡ Clean) × (store_length ≤ length notes.old) }
+    requires { (bytes_fault src.now ≡ Ok tt) × (store_length ≤ length notes.old) }
     ensures { Outlines l src.now result notes.new }
 {
     let z = scan(notes, src, l);
     let t = z.tally;
     let ending = z.ending;
     match name_checks::first_clash(src, notes, t.names) {
-        Clash::At(k) => refused_at(14, k),
-        Clash::NoClash => match ending {
-            Ending::Whole => last_checks(src, l, t, notes),
-            Ending::Broken(f) => refused(f),
+        Some(k) => refused_at(14, k),
+        None => match ending {
+            Ok(()) => last_checks(src, l, t, notes),
+            Err(f) => refused(f),
         },
     }
 }
@@ -94,8 +89,8 @@ pub fn outlined(src: &[u8], l: Lengths, notes: &mut [u16]) -> Answer
     ensures { Outlines l src.now result notes.new }
 {
     match lines::check_bytes(src) {
-        Bytes::Clean => settle(src, l, notes),
-        Bytes::Faulty(f) => refused(f),
+        Ok(()) => settle(src, l, notes),
+        Err(f) => refused(f),
     }
 }
 

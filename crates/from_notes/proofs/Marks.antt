@@ -1,4 +1,5 @@
 -- A cursor by words reads what the words say: a comment character that stands in no line cuts nothing, whichever it is.
+use Rattle.std.specs.Prelude.{Ok, Err}
 use Prim.Native.Nat.{ℕ, suc, ◌+◌, ◌≤◌, ◌<◌}
 use Prim.Native.Char.{code}
 use mathlib.Core.Path.{◌≡◌, refl, sym, ap, ◌∙◌}
@@ -16,7 +17,7 @@ use Rattle.laws.proofs.Fronts.{front-whole, other-yes}
 use Rattle.lines.specs.Lines.{Physical, is_return, onto_line, lines_of, cut}
 use Rattle.cut_lines.specs.Change.{is_change, change_of}
 use Rattle.cut_lines.specs.Texts.{Text, change, texts_from}
-use Rattle.laws.specs.Said.{says, fault, or_else}
+use Rattle.laws.specs.Said.{or_else}
 use Rattle.records.specs.Flaws.{Reads, flaw_in, told}
 use Rattle.cut_lines.specs.Cursors.{rest}
 use Rattle.from_notes.specs.Made.{mark_of, StandsAt}
@@ -55,8 +56,8 @@ cut-lacks c w h = ap (trim is_blank) (front-whole (other c) w h)
 
 after-marks : (c d k : ℕ) (ls : List Physical) → texts_from c k ls ≡ texts_from d k ls → (r : Reads ℕ)
     → texts_from (or_else c r) k ls ≡ texts_from (or_else d r) k ls
-after-marks c d k ls e (says x) = refl
-after-marks c d k ls e (fault f) = e
+after-marks c d k ls e (Ok x) = refl
+after-marks c d k ls e (Err f) = e
 
 texts-marks : (c d k : ℕ) (ls : List Physical) → all (lacks c) ls ≡ true → all (lacks d) ls ≡ true → texts_from c k ls ≡ texts_from d k ls
 unfolding texts_from all

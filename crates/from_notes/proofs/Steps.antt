@@ -1,13 +1,15 @@
 -- The models made one after the other: a model is opened behind its keyword line, and what the keywords so far say, with what is left, stays what the notes say.
+use Rattle.std.specs.Prelude.{Option, Some, None, is_some}
+use Rattle.std.specs.Option.{option_to_list}
 use Prim.Native.Nat.{ℕ, suc, ◌+◌, ◌-◌, ◌≤◌}
 use mathlib.Core.Path.{◌≡◌, sym, ap, ◌∙◌, subst}
 use mathlib.Core.List.{List, [], ◌∷◌, ◌++◌, flat_map, append_assoc, append-nil}
-use mathlib.Core.Bool.{Bool, true, false}
+use mathlib.Core.Bool.{Bool, true, false, cond}
 use native.Mathlib.Omega.{arith}
 use lib.ListN.{length, length-append}
 use borrow.Rule.Slice.PartMut.{put_mid, mid_of}
 use Rattle.laws.specs.Lists.{front}
-use Rattle.laws.proofs.Tests.{cond_yes, cond_no, impossible}
+use Rattle.laws.proofs.Tests.{impossible}
 use Rattle.cut_lines.specs.Texts.{Text}
 use Rattle.cut_lines.specs.Cursors.{rest}
 use Rattle.cut_lines.specs.declared.Cursor.{Cursor}
@@ -115,16 +117,15 @@ module _ {s ns : List ℕ} {p : Progress} {k : ℕ} {o : Opening} (opened : Open
       }
 
   -- behind a waveform
-  behind-waveform : t.found ≡ true → Partly s ns k o.lines t.body (texts s t.next) (waves ++ (t.waveform ∷ [])) (rowed ++ takes.written)
-  behind-waveform q =
-      subst (λ (ts : List Text). Partly s ns k o.lines t.body ts (waves ++ (t.waveform ∷ [])) (rowed ++ takes.written)) (cond_yes _ _ q)
-      (subst (λ (l : List Waveform). Partly s ns k o.lines t.body (left_of s t) (waves ++ l) (rowed ++ takes.written)) (cond_yes _ _ q) goes_on)
+  behind-waveform : (w : Waveform) → t.waveform ≡ Some w → Partly s ns k o.lines t.body (texts s t.next) (waves ++ (w ∷ [])) (rowed ++ takes.written)
+  behind-waveform w q =
+      subst (λ (l : Option Waveform). Partly s ns k o.lines t.body (cond (is_some l) (texts s t.next) []) (waves ++ option_to_list l) (rowed ++ takes.written)) q goes_on
 
   -- nothing is left
-  at-end : t.found ≡ false → Partly s ns k o.lines t.body [] waves (rowed ++ takes.written)
+  at-end : t.waveform ≡ None → Partly s ns k o.lines t.body [] waves (rowed ++ takes.written)
   at-end q =
-      subst (λ (ts : List Text). Partly s ns k o.lines t.body ts waves (rowed ++ takes.written)) (cond_no _ _ q)
-      (subst (λ (l : List Waveform). Partly s ns k o.lines t.body (left_of s t) l (rowed ++ takes.written)) (ap (λ (l : List Waveform). waves ++ l) (cond_no _ _ q) ∙ append-nil waves) goes_on)
+      subst (λ (l : List Waveform). Partly s ns k o.lines t.body [] l (rowed ++ takes.written)) (append-nil waves)
+      (subst (λ (l : Option Waveform). Partly s ns k o.lines t.body (cond (is_some l) (texts s t.next) []) (waves ++ option_to_list l) (rowed ++ takes.written)) q goes_on)
 
   whole : Partly s ns k o.lines t.body [] waves (rowed ++ takes.written) → Whole s ns (suc k) waves (rowed ++ takes.written)
   unfolding tables_in waveforms_laid flat_map stored
@@ -137,8 +138,8 @@ module _ {s ns : List ℕ} {p : Progress} {k : ℕ} {o : Opening} (opened : Open
         written = takes.written;
         lies = lies-put lies room takes.written (model_words (left_of s t)) (sym goes_on.rows) is takes.lies;
         sound = λ _. (takes.placed, takes.fits);
-        waveform = λ q. so q (behind-waveform q);
-        model = λ q. not_so q (whole (at-end q));
+        waveform = λ w q. so (ap is_some q) (behind-waveform w q);
+        model = λ q. not_so (ap is_some q) (whole (at-end q));
         made = λ q. ap (model_from s ns k o.lines) (sym (body-fold.empty t.body)) ∙ (at-end q).model;
       }
 

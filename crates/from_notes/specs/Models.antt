@@ -1,5 +1,5 @@
 -- The models of a store, made one after the other: what is made so far, with what is left of the model that was read last, is what the notes say.
-use Rattle.std.specs.Prelude.{ℕ, suc, ◌≤◌, ◌≡◌, List, [], ◌∷◌, ◌++◌, Bool, true, false, length}
+use Rattle.std.specs.Prelude.{ℕ, suc, ◌≤◌, ◌≡◌, List, [], ◌∷◌, ◌++◌, Bool, true, false, Some, None, is_some, length}
 use Rattle.laws.specs.Lists.{front}
 use Rattle.cut_lines.specs.Texts.{Text}
 use Rattle.cut_lines.specs.Cursors.{rest, Placed}
@@ -54,12 +54,12 @@ texts s c = front is_within (rest s c)
 -- k models are whole, and the next goes on behind its waveform, if p stands there
 abbrev pub Reached : List ℕ → List ℕ → Progress → ℕ → List Waveform → List ℕ → Type 0
 Reached s ns p k waves rowed =
-    whether p.taken.found (Partly s ns k p.lines p.taken.body (texts s p.taken.next) waves rowed) (Whole s ns k waves rowed)
+    whether (is_some p.taken.waveform) (Partly s ns k p.lines p.taken.body (texts s p.taken.next) waves rowed) (Whole s ns k waves rowed)
 
 -- ---- a step
 
 abbrev pub Sound : List ℕ → Progress → Type 0
-Sound s p = p.taken.found ≡ true → Placed s p.taken.next × BodyFits p.taken.body p.taken.next
+Sound s p = is_some p.taken.waveform ≡ true → Placed s p.taken.next × BodyFits p.taken.body p.taken.next
 
 pub record OpensAt (s ns : List ℕ) (p : Progress) (k : ℕ) (r : Opening) : Type 0 where
   pub placed : Placed s r.next
@@ -80,6 +80,6 @@ pub record Goes (s ns : List ℕ) (k : ℕ) (waves : List Waveform) (rowed befor
   pub written : List ℕ
   pub lies : Lies before now r.words (rowed ++ written)
   pub sound : Sound s r
-  pub waveform : r.taken.found ≡ true → Reached s ns r k (waves ++ (r.taken.waveform ∷ [])) (rowed ++ written)
-  pub model : r.taken.found ≡ false → Reached s ns r (suc k) waves (rowed ++ written)
-  pub made : r.taken.found ≡ false → model_from s ns k r.lines r.taken.body ≡ model_at s ns k
+  pub waveform : (w : Waveform) → r.taken.waveform ≡ Some w → Reached s ns r k (waves ++ (w ∷ [])) (rowed ++ written)
+  pub model : r.taken.waveform ≡ None → Reached s ns r (suc k) waves (rowed ++ written)
+  pub made : r.taken.waveform ≡ None → model_from s ns k r.lines r.taken.body ≡ model_at s ns k

@@ -8,7 +8,7 @@ pub mod places; // places.rt: what the words of a store name: words, parts of th
 pub mod tables; // tables.rt: the records of sections and of their rows
 pub mod models; // models.rt: the models with their waveforms and rows
 
-pub use models::{is_waveform, model_made, next_record, no_record, waveform_made};
+pub use models::{model_made, next_record, no_record, waveform_made};
 pub use tables::{choice_at, component_at, pin_at, selector_at};
 
 // How far the models are made: how many words their rows took; and of the model that was read last, what its first lines and its keywords so far say. It goes

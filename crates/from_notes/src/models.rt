@@ -36,7 +36,7 @@ fn opening(src: &[u8], notes: &[u16], p: Progress, k: usize) -> Opening
     requires { Sound src.now p }
     ensures { OpensAt src.now notes.now p k result }
 {
-    if p.taken.found {
+    if p.taken.waveform.is_some() {
         let lines = p.lines;
         let body = p.taken.body;
         let next = p.taken.next;
@@ -76,13 +76,8 @@ pub fn next_record(rows: &mut [u64], src: &[u8], notes: &[u16], p: Progress, k: 
 
 // ---- the record that the last step made
 
-pub fn is_waveform(p: Progress) -> bool
-    ensures { result ≡ p.taken.found }
-{
-    p.taken.found
-}
-
-pub fn waveform_made(p: Progress) -> Waveform
+// None if it is a model's.
+pub fn waveform_made(p: Progress) -> Option<Waveform>
     ensures { result ≡ p.taken.waveform }
 {
     p.taken.waveform

@@ -10,27 +10,29 @@ pub struct Given {
     pub bits: u64,
 }
 
-pub fn none_given() -> Given
-    ensures { result ≡ none_given }
-{
-    Given { bits: 0 }
-}
-
-// The thing at place k was given.
-pub fn is_given(x: Given, k: usize) -> bool
-    ensures { result ≡ has x k }
-{
-    k < 64 && (x.bits >> k) % 2 == 1
-}
-
-// The thing at place k is given too.
-pub fn also(x: Given, k: usize) -> Given
-    ensures { result ≡ with x k }
-{
-    if k >= 64 {
-        return x;
+impl Given {
+    pub fn none() -> Given
+        ensures { result ≡ none_given }
+    {
+        Given { bits: 0 }
     }
-    Given {
-        bits: x.bits | (1 << k),
+
+    // The thing at place k was given.
+    pub fn is_given(self, k: usize) -> bool
+        ensures { result ≡ has self k }
+    {
+        k < 64 && (self.bits >> k) % 2 == 1
+    }
+
+    // The thing at place k is given too.
+    pub fn also(self, k: usize) -> Given
+        ensures { result ≡ with self k }
+    {
+        if k >= 64 {
+            return self;
+        }
+        Given {
+            bits: self.bits | (1 << k),
+        }
     }
 }

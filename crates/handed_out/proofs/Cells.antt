@@ -1,11 +1,12 @@
 -- Every number, cell, row and slope that a line says is fine: each is read by `number_of`, whose answers are fine.
+use Rattle.std.specs.Prelude.{Ok, Err}
 use Prim.Native.Nat.{ℕ}
 use Prim.Native.Char.{code}
 use mathlib.Core.List.{List, [], ◌∷◌}
 use mathlib.Core.Bool.{◌&&◌}
 use lib.ListN.{drop}
 use Rattle.laws.specs.Lists.{begins, among}
-use Rattle.laws.specs.Said.{Said, says, fault}
+use Rattle.laws.specs.Said.{Said}
 use Rattle.laws.proofs.Tests.{cond-all}
 use Rattle.decimal.specs.Decimal.{number_of, given_cell, cell_of, is_missing}
 use Rattle.decimal.specs.Fine.{Fine, FineNumber, FineCell, FineRead}
@@ -39,15 +40,15 @@ number-says : (w : List ℕ) → Says Fine (number_of w)
 number-says w = from (number_of w) (number-fine w)
   where
     from : (r : Said Decimal) → FineNumber r → Says Fine r
-    from (says d) h = h
-    from (fault n) h = tt
+    from (Ok d) h = h
+    from (Err n) h = tt
 
 cell-says : (w : List ℕ) → Says FineCell (cell_of w)
 cell-says w = from (cell_of w) (cell-fine w)
   where
     from : (r : Said Cell) → FineRead r → Says FineCell r
-    from (says c) h = h
-    from (fault n) h = tt
+    from (Ok c) h = h
+    from (Err n) h = tt
 
 given-says : (w : List ℕ) → Says FineCell (given_cell w)
 unfolding given_cell
@@ -77,8 +78,8 @@ row-says w =
 -- ---- slopes
 
 ratio-says : (a b : Said Decimal) → Says Fine a → Says Fine b → Says FineSlope (ratio_of a b)
-ratio-says (says d) b x y = says_on Fine FineSlope b _ y (λ e z. (x, z))
-ratio-says (fault n) b x y = tt
+ratio-says (Ok d) b x y = says_on Fine FineSlope b _ y (λ e z. (x, z))
+ratio-says (Err n) b x y = tt
 
 slope-from : (before behind : List ℕ) → Says FineSlope (slope_from before behind)
 unfolding slope_from
@@ -97,7 +98,7 @@ slope-or-says w = cond-all (Says FineSlope) (is_missing w) _ _ (λ e. tt) (λ e.
 
 upward-says : (t : RampTriple) → FineSlopes t → Says FineSlopes (upward t)
 unfolding upward
-upward-says t h = cond-all (Says FineSlopes) (is_upward t.typ && (is_upward t.min && is_upward t.max)) (says t) _ (λ e. h) (λ e. tt)
+upward-says t h = cond-all (Says FineSlopes) (is_upward t.typ && (is_upward t.min && is_upward t.max)) (Ok t) _ (λ e. h) (λ e. tt)
 
 slopes-say : (v : List ℕ) → Says FineSlopes (three_slopes v)
 unfolding three_slopes

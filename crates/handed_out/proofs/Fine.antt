@@ -1,10 +1,10 @@
 -- Every record is fine: table by table and section by section, each behind what was laid before.
+use Rattle.std.specs.Prelude.{Ok, Err}
 use Prim.Native.Nat.{ℕ, ◌+◌}
 use mathlib.Core.List.{List, [], ◌∷◌, flat_map}
 use lib.ListN.{length}
 use Rattle.laws.specs.Bytes.{bytes}
 use Rattle.laws.specs.Lists.{one_of, Every}
-use Rattle.laws.specs.Said.{says, fault}
 use Rattle.laws.proofs.Every.{every_append}
 use Rattle.words.specs.Words.{words}
 use Rattle.records.specs.Flaws.{Reads}
@@ -32,8 +32,8 @@ waveforms-fine (t ∷ ts) n =
     (waveform-fine n (edge_of t.key) t.lines, tt) (waveforms-fine ts (n + length (rows_of t)))
 
 row-onto : (x : Reads Row) (rs : List Row) → Says FineRow x → Every FineRow rs → Every FineRow (onto_rows x rs)
-row-onto (says r) rs h k = (h, k)
-row-onto (fault f) rs h k = k
+row-onto (Ok r) rs h k = (h, k)
+row-onto (Err f) rs h k = k
 
 rows-fine : (ls : List (List ℕ)) → Every FineRow (rows_in ls)
 unfolding rows_in

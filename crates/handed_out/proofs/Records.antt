@@ -1,4 +1,5 @@
 -- Every record is fine: its texts are parts of the file's, so they are bytes, padded to their length; its cells are said by lines, or missing.
+use Rattle.std.specs.Prelude.{Ok}
 use Prim.Native.Nat.{ℕ, ◌-◌, ◌≤◌, ◌<◌}
 use Prim.Native.String.{String}
 use mathlib.Core.Path.{◌≡◌}
@@ -8,7 +9,6 @@ use lib.ListN.{length, take, drop, replicate, length-append, length-take, length
 use lib.Dec.{eqb}
 use Rattle.laws.specs.Bytes.{is_blank, is_small, capital}
 use Rattle.laws.specs.Lists.{after, Every}
-use Rattle.laws.specs.Said.{says}
 use Rattle.laws.proofs.Tests.{cond-all}
 use Rattle.laws.proofs.Every.{every_append}
 use Rattle.decimal.specs.Fine.{FineCell}
@@ -101,7 +101,7 @@ kept-bytes w h = cond-all (Every IsByte) (needs_no_model w) _ _ (λ e. every-map
 
 pin-cells : (v : List ℕ) → Says FineTriple (pin_cells v)
 unfolding pin_cells
-pin-cells v = cond-all (Says FineTriple) (eqb (length (words v)) 0) (says no_cells) _ (λ e. no_cells_lem) (λ e. cells_say v)
+pin-cells v = cond-all (Says FineTriple) (eqb (length (words v)) 0) (Ok no_cells) _ (λ e. no_cells_lem) (λ e. cells_say v)
 
 pin-fine : (w : List ℕ) → Every IsByte w → FinePin (pin_in w)
 unfolding pin_in

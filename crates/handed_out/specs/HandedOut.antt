@@ -1,5 +1,5 @@
 -- What a reading leaves in tables of words is handed out as the records that document 01 reads.
-use Rattle.std.specs.Prelude.{ℕ, ◌<◌, ◌≡◌, List, length, get_or}
+use Rattle.std.specs.Prelude.{ℕ, ◌<◌, ◌≡◌, List, length, get_or, Some}
 use Rattle.rules.specs.Whole.{passed, loading, texts_of}
 use Rattle.rules.specs.Reading.{file_in}
 use Rattle.layout.specs.Laid.{Laid, laid}
@@ -12,7 +12,6 @@ use Rattle.records.specs.declared.Model.{Model}
 use Rattle.records.specs.declared.Waveform.{Waveform}
 use Rattle.records.specs.declared.Row.{Row}
 use Rattle.record_words.specs.Records.{component_size, pin_size, selector_size, choice_size, model_size, waveform_size, row_size}
-use Rattle.table_records.specs.declared.StoredRow.TheVariants.{Kept}
 use Rattle.table_records.specs.Values.{record_at}
 use Rattle.table_records.specs.Records.{component_from, pin_from, selector_from, choice_from, model_from, waveform_from, row_from}
 use Rattle.table_records.specs.Fine.{AreBytes}
@@ -27,7 +26,7 @@ pub record HandedOut (a : Laid) (u : WordTables) : Type 0 where
   pub choices : (k : ℕ) (d : Choice) → k < length a.choices → choice_from (record_at choice_size u.choices k) ≡ get_or a.choices k d
   pub models : (k : ℕ) (d : Model) → k < length a.models → model_from (record_at model_size u.models k) ≡ get_or a.models k d
   pub waveforms : (k : ℕ) (d : Waveform) → k < length a.waveforms → waveform_from (record_at waveform_size u.waveforms k) ≡ get_or a.waveforms k d
-  pub rows : (k : ℕ) (d : Row) → k < length a.rows → row_from (record_at row_size u.rows k) ≡ Kept (get_or a.rows k d)
+  pub rows : (k : ℕ) (d : Row) → k < length a.rows → row_from (record_at row_size u.rows k) ≡ Some (get_or a.rows k d)
 
 -- for every accepted file, whatever the tables held
 abbrev pub ReadIsHandedOut : Type 0

@@ -2,13 +2,14 @@
 #![tactic(auto)]
 
 ghost use Rattle.std.specs.Prelude.{◌≡◌, ◌≤◌, length, drop};
-ghost use Rattle.records.specs.Flaws.{told};
+ghost use Rattle.records.specs.Flaws.{told, bare, checked};
 ghost use Rattle.keywords.specs.Answers.{ArgumentFrom};
 ghost use Rattle.rules.specs.Header.{version, header_place, header_flaw, header_part, header_line, header_shut, header_done};
 
+use given::Given;
 use keywords::{HeaderPart, HeaderText};
 use named_lines::Form;
-use records::LineFault;
+use records::{LineFault, at_line};
 use rules::{Event, HeaderState, Stage, Went};
 
 // [IBIS Ver] at line k, whose argument begins at a place.
@@ -16,16 +17,13 @@ pub fn open_header(k: u64, w: &[u8], at: usize) -> Went
     requires { ArgumentFrom w.now at }
     ensures { result ≡ version k w.now }
 {
-    let fault = named_lines::argument_fault(w, at, Form::Version);
-    if fault.number != 0 {
-        return rules::stopped_at(fault, k);
-    }
+    at_line(named_lines::argument_fault(w, at, Form::Version), k)?;
     let h = HeaderState {
         line: k,
         text: false,
-        parts: given::none_given(),
+        parts: Given::none(),
     };
-    Went::On(Stage::InHeader(h), Event::Quiet)
+    Ok((Stage::InHeader(h), Event::Quiet))
 }
 
 // The place of a keyword among the header's.
@@ -48,20 +46,20 @@ fn part_place(p: HeaderPart) -> usize
 }
 
 // What is wrong with its argument, which begins at a place.
-fn part_fault(w: &[u8], at: usize, p: HeaderPart) -> LineFault
+fn part_fault(w: &[u8], at: usize, p: HeaderPart) -> Result<(), LineFault>
     requires { at ≤ length w.now }
-    ensures { result ≡ told w.now (header_flaw (drop at w.now) p) }
+    ensures { result ≡ checked (told w.now (header_flaw (drop at w.now) p)) }
 {
     match p {
         HeaderPart::FileName => named_lines::argument_fault(w, at, Form::FileName),
         HeaderPart::FileRev => {
             if at < w.len() {
-                records::bare_fault(0)
+                Ok(())
             } else {
-                records::at_fault(10, at)
+                Err(records::at_fault(10, at))
             }
         }
-        HeaderPart::FreeText(_) => records::bare_fault(0),
+        HeaderPart::FreeText(_) => Ok(()),
     }
 }
 
@@ -71,20 +69,13 @@ pub fn header_part(h: HeaderState, k: u64, w: &[u8], at: usize, p: HeaderPart) -
     ensures { result ≡ header_part h k w.now p }
 {
     let place = part_place(p);
-    let parts = h.parts;
-    if given::is_given(parts, place) {
-        return rules::stopped(8, k);
-    }
-    let fault = part_fault(w, at, p);
-    if fault.number != 0 {
-        return rules::stopped_at(fault, k);
-    }
+    let parts = rules::once(h.parts, place, k, part_fault(w, at, p))?;
     let next = HeaderState {
-        line: h.line,
         text: place >= 2,
-        parts: given::also(parts, place),
+        parts,
+        ..h
     };
-    Went::On(Stage::InHeader(next), Event::Quiet)
+    Ok((Stage::InHeader(next), Event::Quiet))
 }
 
 // A line of the header that is no keyword line.
@@ -92,7 +83,7 @@ pub fn header_line(h: HeaderState, k: u64) -> Went
     ensures { result ≡ header_line h k }
 {
     if h.text {
-        return Went::On(Stage::InHeader(h), Event::Quiet);
+        return Ok((Stage::InHeader(h), Event::Quiet));
     }
     rules::stopped(7, k)
 }
@@ -101,22 +92,16 @@ pub fn header_line(h: HeaderState, k: u64) -> Went
 pub fn header_shut(h: HeaderState) -> Went
     ensures { result ≡ header_shut h }
 {
-    let parts = h.parts;
-    let next = HeaderState {
-        line: h.line,
-        text: false,
-        parts: parts,
-    };
-    Went::On(Stage::InHeader(next), Event::Quiet)
+    let next = HeaderState { text: false, ..h };
+    Ok((Stage::InHeader(next), Event::Quiet))
 }
 
 // What the header lacks.
-pub fn header_done(h: HeaderState) -> u8
-    ensures { result ≡ header_done h }
+pub fn header_done(h: HeaderState) -> Result<(), LineFault>
+    ensures { result ≡ checked (bare (header_done h)) }
 {
-    let parts = h.parts;
-    if !given::is_given(parts, 0) {
-        return 9;
+    if !h.parts.is_given(0) || !h.parts.is_given(1) {
+        return Err(records::bare_fault(9));
     }
-    if given::is_given(parts, 1) { 0 } else { 9 }
+    Ok(())
 }

@@ -1,13 +1,11 @@
 -- Source document 000, section 3a: every keyword of the hierarchy, from all three of its trees (.ibs, .pkg and .ebd files). Each name stands in
 -- small letters with underscores, and they stand in the order of their bytes: document 02, "into one long constant table of names".
-use Rattle.std.specs.Prelude.{ℕ, List, [], ◌∷◌, map, Bool, true, false, ◌&&◌, ◌||◌, eqb, leb, length}
+use Rattle.std.specs.Prelude.{ℕ, List, [], ◌∷◌, map, Bool, true, false, ◌&&◌, ◌||◌, eqb, leb, length, Option, Some, None}
 use Prim.Native.Char.{code}
 use Prim.Native.String.{String}
 use Rattle.laws.specs.Bytes.{bytes, is_small}
 use Rattle.laws.specs.Lists.{all}
 use Rattle.laws.specs.Order.{comes_before}
-use Rattle.name_table.specs.declared.Found.{Found}
-use Rattle.name_table.specs.declared.Found.TheVariants.{At, Nothing}
 
 abbrev pub names : List String
 names =
@@ -55,6 +53,6 @@ is_table (name ∷ more) = is_spelled name && (is_ahead name more && is_table mo
 
 -- ---- what a search says
 
-abbrev pub is_found : Found → Bool
-is_found (At k) = true
-is_found Nothing = false
+abbrev pub is_found : Option ℕ → Bool
+is_found (Some k) = true
+is_found None = false

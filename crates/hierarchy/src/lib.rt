@@ -8,8 +8,6 @@ ghost use Rattle.words.specs.declared.Spelling.TheVariants.{AsKeyword};
 ghost use Rattle.name_table.specs.Names.{place_from};
 ghost use Rattle.hierarchy.specs.Hierarchy.{hierarchy, is_found};
 
-use name_table::Found;
-
 // Every name in small letters with underscores, in the order of bytes, with a blank between.
 pub const NAMES: [u8; 1525] = *b"\
     add_submodel algorithmic_model alternate_package_models bandwidth begin_board_description \
@@ -32,7 +30,7 @@ pub const NAMES: [u8; 1525] = *b"\
     ttpower voltage_range";
 
 // The place of a keyword in the table, in any letter case, a space equal to an underscore.
-pub fn place(w: &[u8]) -> Found
+pub fn place(w: &[u8]) -> Option<usize>
     ensures value { result ≡ place_from 0 (map (byte_as AsKeyword) w.now) hierarchy }
     ensures result_value { is_found result ≡ one_of (map (byte_as AsKeyword) w.now) hierarchy }
 {

@@ -1,4 +1,5 @@
 -- Where a keyword's argument begins: a rest of a list stands where its length says.
+use Rattle.std.specs.Prelude.{Option, Some, None, Ok, Err, Result}
 use Prim.Native.Nat.{ℕ, ◌+◌, ◌-◌, ◌≤◌}
 use Prim.Native.Char.{code}
 use mathlib.Core.Path.{◌≡◌, refl, sym, ap, ◌∙◌}
@@ -15,12 +16,9 @@ use Rattle.name_table.specs.Names.{meaning}
 use Rattle.hierarchy.specs.Hierarchy.{hierarchy}
 use Rattle.keywords.specs.Form.{closing, is_formed, spelled, inside, argument}
 use Rattle.keywords.specs.Carried.{carried}
-use Rattle.keywords.specs.Answers.{known, keyword_or_nothing, key_read, ArgumentFrom}
+use Rattle.keywords.specs.Answers.{known, key_read, ArgumentFrom}
 use Rattle.keywords.specs.declared.Keyword.{Keyword}
-use Rattle.keywords.specs.declared.Named.{Named}
-use Rattle.keywords.specs.declared.Named.TheVariants.{Is, Nothing}
-use Rattle.keywords.specs.declared.KeyRead.{KeyRead}
-use Rattle.keywords.specs.declared.KeyRead.TheVariants.{Known, Gap, Slip, Malformed}
+use Rattle.keywords.specs.declared.KeyFault.{KeyFault}
 use Rattle.keywords.proofs.Laws.{closing_at}
 
 -- a rest, by its length
@@ -46,25 +44,23 @@ argument-rest w =
     ∙ after-at is_blank w (stop + 1) start refl)
 
 -- the place in the answer
-abbrev place : ℕ → KeyRead → ℕ
-place n (Known key at) = at
-place n Gap = n
-place n Slip = n
-place n Malformed = n
+abbrev place : ℕ → Result (Keyword × ℕ) KeyFault → ℕ
+place n (Ok (key, at)) = at
+place n (Err f) = n
 
-known-place : (n : ℕ) (listed : Bool) (x : Named) → place n (known n listed x) ≡ n
-known-place n true Nothing = refl
-known-place n false Nothing = refl
-known-place n listed (Is key) = refl
+known-place : (n : ℕ) (listed : Bool) (x : Option Keyword) → place n (known n listed x) ≡ n
+known-place n true None = refl
+known-place n false None = refl
+known-place n listed (Some key) = refl
 
-module _ (w : List ℕ) {key : Keyword} {at : ℕ} (e : key_read w ≡ Known key at) where
+module _ (w : List ℕ) {key : Keyword} {at : ℕ} (e : key_read w ≡ Ok (key, at)) where
   key-place : at ≡ length w - length (argument w)
   unfolding key_read
   key-place =
       let n : ℕ = length w - length (argument w) in
       sym (ap (place n) e)
       ∙ by-test (is_formed w)
-      (λ h. ap (place n) (cond_yes _ _ h) ∙ known-place n (one_of (spelled (inside w)) hierarchy) (keyword_or_nothing (meaning (spelled (inside w)) carried)))
+      (λ h. ap (place n) (cond_yes _ _ h) ∙ known-place n (one_of (spelled (inside w)) hierarchy) (meaning (spelled (inside w)) carried))
       (λ h. ap (place n) (cond_no _ _ h))
 
   -- the place that the code hands on

@@ -1,4 +1,5 @@
 -- Laws of `specs/Form.antt` and `specs/Carried.antt`: from a place on, and where a line's argument begins.
+use Rattle.std.specs.Prelude.{Option, None, Err, Result}
 use Prim.Native.Nat.{ℕ, ◌+◌, ◌-◌, ◌≤◌, ◌<◌}
 use Prim.Native.Char.{code}
 use mathlib.Core.Path.{◌≡◌, refl, sym, ap, ◌∙◌}
@@ -18,16 +19,15 @@ use Rattle.words.specs.declared.Spelling.TheVariants.{AsKeyword}
 use Rattle.name_table.specs.Names.{meaning, place_from}
 use Rattle.name_table.specs.Places.{names_of, meaning_of}
 use Rattle.name_table.specs.Listed.{names_in}
-use Rattle.name_table.specs.declared.Found.{Found}
 use Rattle.name_table.specs.declared.NameList.TheVariants.{Keywords}
 use Rattle.name_table.proofs.Laws.{meaning-place}
 use Rattle.hierarchy.specs.Hierarchy.{hierarchy}
 use Rattle.keywords.specs.Form.{inside, closing, is_joint, in_parts, is_closed, is_formed, spelled, argument}
 use Rattle.keywords.specs.Carried.{carried}
-use Rattle.keywords.specs.Answers.{keyword_or_nothing, known, key_read}
-use Rattle.keywords.specs.declared.Named.TheVariants.{Nothing}
-use Rattle.keywords.specs.declared.KeyRead.{KeyRead}
-use Rattle.keywords.specs.declared.KeyRead.TheVariants.{Gap, Slip, Malformed}
+use Rattle.keywords.specs.Answers.{known, key_read}
+use Rattle.keywords.specs.declared.Keyword.{Keyword}
+use Rattle.keywords.specs.declared.KeyFault.{KeyFault}
+use Rattle.keywords.specs.declared.KeyFault.TheVariants.{Gap, Slip, Malformed}
 
 -- ---- `in_parts`, from a place on
 
@@ -59,7 +59,7 @@ unfolding words grown onto_word is_blank carried names_of
 list-names = refl
 
 -- the place that the code finds stands for the meaning
-pub meaning-found : (w : List ℕ) (f : Found) → f ≡ place_from 0 (map (byte_as AsKeyword) w) (names_in Keywords)
+pub meaning-found : (w : List ℕ) (f : Option ℕ) → f ≡ place_from 0 (map (byte_as AsKeyword) w) (names_in Keywords)
     → meaning (spelled w) carried ≡ meaning_of carried f
 unfolding spelled
 meaning-found w f q =
@@ -78,8 +78,8 @@ closed-within w at h =
 -- ---- a keyword line by the place of its `]`
 
 -- what a line with a name so spelled is, if its argument begins at a place
-abbrev pub of_name : ℕ → List ℕ → KeyRead
-of_name at name = known at (one_of name hierarchy) (keyword_or_nothing (meaning name carried))
+abbrev pub of_name : ℕ → List ℕ → Result (Keyword × ℕ) KeyFault
+of_name at name = known at (one_of name hierarchy) (meaning name carried)
 
 module _ (w : List ℕ) (stop : ℕ) (found : stop ≡ 1 + length (front (other (code "]")) (drop 1 w))) where
   pub inside-at : part 1 stop w ≡ inside w
@@ -90,11 +90,11 @@ module _ (w : List ℕ) (stop : ℕ) (found : stop ≡ 1 + length (front (other 
   unfolding closing
   closing_at = sym (after-at (other 93) w 1 stop found)
 
-  pub key-open : is_closed (drop stop w) ≡ false → key_read w ≡ Malformed
+  pub key-open : is_closed (drop stop w) ≡ false → key_read w ≡ Err Malformed
   unfolding key_read is_formed
   key-open h = cond_no _ _ (and_right (in_parts false (inside w)) (is_closed (closing w)) (ap is_closed (sym closing_at) ∙ h))
 
-  pub key_apart : in_parts false (part 1 stop w) ≡ false → key_read w ≡ Malformed
+  pub key_apart : in_parts false (part 1 stop w) ≡ false → key_read w ≡ Err Malformed
   unfolding key_read is_formed
   key_apart h = cond_no _ _ (and_left (in_parts false (inside w)) (is_closed (closing w)) (ap (in_parts false) (sym inside-at) ∙ h))
 
@@ -112,14 +112,14 @@ module _ (w : List ℕ) (stop : ℕ) (found : stop ≡ 1 + length (front (other 
       ∙ ap (λ (x : List ℕ). of_name at (spelled x)) (sym inside-at)
 
   pub key-not-carried : is_closed (drop stop w) ≡ true → in_parts false (part 1 stop w) ≡ true
-      → keyword_or_nothing (meaning (spelled (part 1 stop w)) carried) ≡ Nothing → key_read w ≡ cond (one_of (spelled (part 1 stop w)) hierarchy) Gap Slip
+      → meaning (spelled (part 1 stop w)) carried ≡ None → key_read w ≡ Err (cond (one_of (spelled (part 1 stop w)) hierarchy) Gap Slip)
   key-not-carried h k e =
       let at : ℕ = stop + 1 + length (front is_blank (drop (stop + 1) w)) in
       key-known at h k refl
       (omega (arith, closed-within w stop h, front-le is_blank (drop (stop + 1) w), length-drop (stop + 1) w))
       ∙ ap (known at (one_of (spelled (part 1 stop w)) hierarchy)) e
 
-pub key-none : (w : List ℕ) → length w ≡ 0 → key_read w ≡ Malformed
+pub key-none : (w : List ℕ) → length w ≡ 0 → key_read w ≡ Err Malformed
 unfolding key_read is_formed inside front in_parts
 key-none [] h = refl
 key-none (b ∷ w) h = absurd (omega arith)

@@ -1,9 +1,9 @@
 -- Every keyword that is carried is one of the hierarchy and has at most 17 letters, and every name of the hierarchy can stand in brackets: each a test computed over a table.
+use Rattle.std.specs.Prelude.{Option, None, Some}
 use Prim.Native.Nat.{ℕ, ◌≤◌, ◌<◌}
 use mathlib.Core.Path.{◌≡◌, refl}
 use mathlib.Core.List.{List}
 use mathlib.Core.Bool.{Bool, true, false}
-use mathlib.Core.Option.{Option, none, some}
 use native.Mathlib.Omega.{arith}
 use lib.Dec.{leb}
 use lib.ListN.{length}
@@ -24,7 +24,7 @@ all_listed : all is_listed carried ≡ true
 unfolding carried hierarchy all one_of eqs
 all_listed = refl
 
-pub carried-listed : (w : List ℕ) (k : Keyword) → meaning w carried ≡ some k → one_of w hierarchy ≡ true
+pub carried-listed : (w : List ℕ) (k : Keyword) → meaning w carried ≡ Some k → one_of w hierarchy ≡ true
 carried-listed w k e = meaning-entry is_listed carried all_listed w k e
 
 -- no carried keyword has more than 17 letters
@@ -35,12 +35,12 @@ all_short : all is_short carried ≡ true
 unfolding carried all
 all_short = refl
 
-pub long-none : (w : List ℕ) → 17 < length w → meaning w carried ≡ none
+pub long-none : (w : List ℕ) → 17 < length w → meaning w carried ≡ None
 long-none w h = by-case (meaning w carried) refl
   where
-    by-case : (x : Option Keyword) → meaning w carried ≡ x → x ≡ none
-    by-case none e = refl
-    by-case (some k) e =
+    by-case : (x : Option Keyword) → meaning w carried ≡ x → x ≡ None
+    by-case None e = refl
+    by-case (Some k) e =
         let short : length w ≤ 17 = leb-true (length w) 17 (meaning-entry is_short carried all_short w k e) in
         absurd (omega (arith, h, short))
 

@@ -1,13 +1,13 @@
 -- A keyword and its name say the same: the table of names has each keyword once, under its spelling.
+use Rattle.std.specs.Prelude.{Err, Option, None, Some, Result}
 use Prim.Native.Nat.{ℕ}
 use Prim.Native.String.{String}
 use mathlib.Core.Path.{◌≡◌, refl, sym, ap, ◌∙◌}
 use mathlib.Core.List.{List}
 use mathlib.Core.Bool.{Bool, true, cond}
-use mathlib.Core.Option.{Option, none, some}
 use Rattle.laws.specs.Bytes.{bytes}
 use Rattle.laws.specs.Lists.{eqs, all, one_of}
-use Rattle.laws.specs.Said.{Said, fault, or_fault}
+use Rattle.laws.specs.Said.{Said, or_fault}
 use Rattle.laws.proofs.Tests.{by-test, cond_map}
 use Rattle.laws.proofs.Same.{eqs-eq}
 use Rattle.name_table.specs.Names.{Naming, meaning}
@@ -15,7 +15,7 @@ use Rattle.name_table.proofs.Laws.{meaning-entry}
 use Rattle.hierarchy.specs.Hierarchy.{hierarchy}
 use Rattle.keywords.specs.Form.{inside, is_formed, spelled}
 use Rattle.keywords.specs.Carried.{carried, gap_or_slip, key_of}
-use Rattle.keywords.specs.Answers.{keyword_says, keyword_or_nothing, known, key_read}
+use Rattle.keywords.specs.Answers.{keyword_says, known, key_read}
 use Rattle.keywords.specs.declared.Keyword.{Keyword}
 use Rattle.keywords.specs.declared.Keyword.TheVariants.{IbisVer, InHeader, Opens, InComponent, InModel, End}
 use Rattle.keywords.specs.declared.HeaderPart.TheVariants.{FileName, FileRev, FreeText}
@@ -24,8 +24,8 @@ use Rattle.keywords.specs.declared.Section.TheVariants.{Component, Selector, Mod
 use Rattle.keywords.specs.declared.ComponentPart.TheVariants.{Manufacturer, Package, Pin}
 use Rattle.keywords.specs.declared.ModelPart.TheVariants.{VoltageRange, TemperatureRange, Current, Ramp, Waveform}
 use Rattle.keywords.specs.declared.CurrentTable.TheVariants.{Pulldown, Pullup, GndClamp, PowerClamp}
-use Rattle.keywords.specs.declared.KeyRead.{KeyRead}
-use Rattle.keywords.specs.declared.KeyRead.TheVariants.{Malformed}
+use Rattle.keywords.specs.declared.KeyFault.{KeyFault}
+use Rattle.keywords.specs.declared.KeyFault.TheVariants.{Malformed}
 use Rattle.records.specs.declared.Edge.TheVariants.{Rising, Falling}
 
 abbrev pub spelling : Keyword → String
@@ -55,7 +55,7 @@ spelling (InModel (Waveform Falling)) = "falling_waveform"
 spelling End = "end"
 
 -- a keyword's spelling is its name in the table
-pub spelling-known : (k : Keyword) → meaning (bytes (spelling k)) carried ≡ some k
+pub spelling-known : (k : Keyword) → meaning (bytes (spelling k)) carried ≡ Some k
 unfolding meaning carried eqs
 spelling-known IbisVer = refl
 spelling-known (InHeader FileName) = refl
@@ -91,22 +91,22 @@ unfolding carried all eqs
 carried-spelled = refl
 
 -- a name of the table is the spelling of its keyword
-pub spelled-known : (w : List ℕ) (k : Keyword) → meaning w carried ≡ some k → w ≡ bytes (spelling k)
+pub spelled-known : (w : List ℕ) (k : Keyword) → meaning w carried ≡ Some k → w ≡ bytes (spelling k)
 spelled-known w k e = eqs-eq w _ (meaning-entry is_spelled carried carried-spelled w k e)
 
 -- ---- what the code answers to a keyword line says what the line says
 
-known-says : (at : ℕ) (name : List ℕ) (x : Option Keyword) → keyword_says (known at (one_of name hierarchy) (keyword_or_nothing x)) ≡ or_fault (gap_or_slip name) x
+known-says : (at : ℕ) (name : List ℕ) (x : Option Keyword) → keyword_says (known at (one_of name hierarchy) x) ≡ or_fault (gap_or_slip name) x
 unfolding gap_or_slip
-known-says at name none = by-test (one_of name hierarchy) (λ h. rw h) (λ h. rw h)
-known-says at name (some k) = refl
+known-says at name None = by-test (one_of name hierarchy) (λ h. rw h) (λ h. rw h)
+known-says at name (Some k) = refl
 
 pub key-said : (w : List ℕ) → keyword_says (key_read w) ≡ key_of w
 unfolding key_read key_of
 key-said w =
-    cond_map keyword_says (is_formed w) _ Malformed
-    ∙ ap (λ (x : Said Keyword). cond (is_formed w) x (fault 5)) (known-says _ (spelled (inside w)) (meaning (spelled (inside w)) carried))
+    cond_map keyword_says (is_formed w) _ (Err Malformed)
+    ∙ ap (λ (x : Said Keyword). cond (is_formed w) x (Err 5)) (known-says _ (spelled (inside w)) (meaning (spelled (inside w)) carried))
 
 -- what is read of the line, and what it says
-pub said-too : (w : List ℕ) (r : KeyRead) → key_read w ≡ r → (r ≡ key_read w) × (keyword_says r ≡ key_of w)
+pub said-too : (w : List ℕ) (r : Result (Keyword × ℕ) KeyFault) → key_read w ≡ r → (r ≡ key_read w) × (keyword_says r ≡ key_of w)
 said-too w r e = (sym e, ap keyword_says (sym e) ∙ key-said w)

@@ -1,7 +1,7 @@
 -- Document 01, "What is read": the keywords, each spelled in small letters with underscores, and what a keyword line is.
-use Rattle.std.specs.Prelude.{ℕ, List, [], ◌∷◌, cond}
+use Rattle.std.specs.Prelude.{ℕ, List, [], ◌∷◌, cond, Err}
 use Rattle.laws.specs.Lists.{one_of}
-use Rattle.laws.specs.Said.{Said, fault, or_fault}
+use Rattle.laws.specs.Said.{Said, or_fault}
 use Rattle.name_table.specs.Names.{Naming, naming, meaning}
 use Rattle.hierarchy.specs.Hierarchy.{hierarchy}
 use Rattle.keywords.specs.Form.{inside, is_formed, spelled}
@@ -36,4 +36,4 @@ gap_or_slip name = cond (one_of name hierarchy) 6 21
 
 -- 5, badly formed, goes first; then 6 and 21, not carried
 unfoldable pub key_of : List ℕ → Said Keyword
-key_of w = cond (is_formed w) (or_fault (gap_or_slip (spelled (inside w))) (meaning (spelled (inside w)) carried)) (fault 5)
+key_of w = cond (is_formed w) (or_fault (gap_or_slip (spelled (inside w))) (meaning (spelled (inside w)) carried)) (Err 5)

@@ -8,10 +8,10 @@ ghost use Rattle.name_table.specs.Places.{meaning_at};
 ghost use Rattle.hierarchy.specs.Hierarchy.{hierarchy};
 ghost use Rattle.keywords.specs.Form.{spelled, is_joint, in_parts, is_closed};
 ghost use Rattle.keywords.specs.Carried.{carried, key_of};
-ghost use Rattle.keywords.specs.Answers.{keyword_says, key_read, keyword_or_nothing};
-ghost use Rattle.keywords.specs.declared.KeyRead.TheVariants.{Gap, Slip};
+ghost use Rattle.keywords.specs.Answers.{key_fault, keyword_says, key_read};
+ghost use Rattle.keywords.specs.declared.KeyFault.TheVariants.{Gap, Slip};
 
-use name_table::{Found, NameList};
+use name_table::NameList;
 use records::Edge;
 use words::Spelling;
 
@@ -73,31 +73,34 @@ pub enum Keyword {
     End,
 }
 
-// What a keyword line is: a keyword and where its argument begins; a gap of ours, a keyword of the hierarchy that is not carried (6); a slip, one
-// outside the hierarchy (21); badly formed (5).
+// Why a keyword line opens nothing: a gap of ours, a keyword of the hierarchy that is not carried (6); a slip, one outside the hierarchy (21); badly
+// formed (5).
 #[derive(Clone, Copy)]
-pub enum KeyRead {
-    Known { keyword: Keyword, argument: usize },
+pub enum KeyFault {
     Gap,
     Slip,
     Malformed,
 }
 
-// A keyword by its name, or nothing.
-#[derive(Clone, Copy)]
-pub enum Named {
-    Is(Keyword),
-    Nothing,
+impl KeyFault {
+    // Document 01's number.
+    pub fn number(self) -> u8
+        ensures { result ≡ key_fault self }
+    {
+        match self {
+            KeyFault::Gap => 6,
+            KeyFault::Slip => 21,
+            KeyFault::Malformed => 5,
+        }
+    }
 }
 
 // A space or an underscore.
+#[tactic(auto, unfolding(crate::specs::Form::is_joint))]
 fn joint(b: u8) -> bool
     ensures { result ≡ is_joint b }
 {
-    if b == b' ' {
-        return true;
-    }
-    b == b'_'
+    b == b' ' || b == b'_'
 }
 
 // One or more parts, joined by one space or one underscore each.
@@ -105,9 +108,7 @@ fn in_parts(w: &[u8]) -> bool
     ensures { result ≡ in_parts false w.now }
 {
     let mut part = false;
-    let mut i = 0;
-    while i < w.len() {
-        let b = w[i];
+    for &b in w {
         if joint(b) {
             if !part {
                 return false;
@@ -119,7 +120,6 @@ fn in_parts(w: &[u8]) -> bool
             }
             part = true;
         }
-        i += 1;
     }
     part
 }
@@ -145,46 +145,51 @@ pub fn same_spelled(w: &[u8], name: &[u8]) -> bool
     words::same_as(Spelling::AsKeyword, w, name)
 }
 
+// The keywords, in the order of their names.
+static CARRIED: [Keyword; 24] = [
+    Keyword::IbisVer,
+    Keyword::InHeader(HeaderPart::FileName),
+    Keyword::InHeader(HeaderPart::FileRev),
+    Keyword::InHeader(HeaderPart::FreeText(HeaderText::Date)),
+    Keyword::InHeader(HeaderPart::FreeText(HeaderText::Source)),
+    Keyword::InHeader(HeaderPart::FreeText(HeaderText::Notes)),
+    Keyword::InHeader(HeaderPart::FreeText(HeaderText::Disclaimer)),
+    Keyword::InHeader(HeaderPart::FreeText(HeaderText::Copyright)),
+    Keyword::Opens(Section::Component),
+    Keyword::InComponent(ComponentPart::Manufacturer),
+    Keyword::InComponent(ComponentPart::Package),
+    Keyword::InComponent(ComponentPart::Pin),
+    Keyword::Opens(Section::Selector),
+    Keyword::Opens(Section::Model),
+    Keyword::InModel(ModelPart::VoltageRange),
+    Keyword::InModel(ModelPart::TemperatureRange),
+    Keyword::InModel(ModelPart::Current(CurrentTable::Pulldown)),
+    Keyword::InModel(ModelPart::Current(CurrentTable::Pullup)),
+    Keyword::InModel(ModelPart::Current(CurrentTable::GndClamp)),
+    Keyword::InModel(ModelPart::Current(CurrentTable::PowerClamp)),
+    Keyword::InModel(ModelPart::Ramp),
+    Keyword::InModel(ModelPart::Waveform(Edge::Rising)),
+    Keyword::InModel(ModelPart::Waveform(Edge::Falling)),
+    Keyword::End,
+];
+
 // The keyword at a place of their list.
-fn keyword_at(k: usize) -> Named
-    ensures { result ≡ keyword_or_nothing (meaning_at carried k) }
+fn keyword_at(k: usize) -> Option<Keyword>
+    ensures { result ≡ meaning_at carried k }
 {
-    match k {
-        0 => Named::Is(Keyword::IbisVer),
-        1 => Named::Is(Keyword::InHeader(HeaderPart::FileName)),
-        2 => Named::Is(Keyword::InHeader(HeaderPart::FileRev)),
-        3 => Named::Is(Keyword::InHeader(HeaderPart::FreeText(HeaderText::Date))),
-        4 => Named::Is(Keyword::InHeader(HeaderPart::FreeText(HeaderText::Source))),
-        5 => Named::Is(Keyword::InHeader(HeaderPart::FreeText(HeaderText::Notes))),
-        6 => Named::Is(Keyword::InHeader(HeaderPart::FreeText(HeaderText::Disclaimer))),
-        7 => Named::Is(Keyword::InHeader(HeaderPart::FreeText(HeaderText::Copyright))),
-        8 => Named::Is(Keyword::Opens(Section::Component)),
-        9 => Named::Is(Keyword::InComponent(ComponentPart::Manufacturer)),
-        10 => Named::Is(Keyword::InComponent(ComponentPart::Package)),
-        11 => Named::Is(Keyword::InComponent(ComponentPart::Pin)),
-        12 => Named::Is(Keyword::Opens(Section::Selector)),
-        13 => Named::Is(Keyword::Opens(Section::Model)),
-        14 => Named::Is(Keyword::InModel(ModelPart::VoltageRange)),
-        15 => Named::Is(Keyword::InModel(ModelPart::TemperatureRange)),
-        16 => Named::Is(Keyword::InModel(ModelPart::Current(CurrentTable::Pulldown))),
-        17 => Named::Is(Keyword::InModel(ModelPart::Current(CurrentTable::Pullup))),
-        18 => Named::Is(Keyword::InModel(ModelPart::Current(CurrentTable::GndClamp))),
-        19 => Named::Is(Keyword::InModel(ModelPart::Current(CurrentTable::PowerClamp))),
-        20 => Named::Is(Keyword::InModel(ModelPart::Ramp)),
-        21 => Named::Is(Keyword::InModel(ModelPart::Waveform(Edge::Rising))),
-        22 => Named::Is(Keyword::InModel(ModelPart::Waveform(Edge::Falling))),
-        23 => Named::Is(Keyword::End),
-        _ => Named::Nothing,
+    if k < CARRIED.len() {
+        return Some(CARRIED[k]);
     }
+    None
 }
 
 // A keyword by its name, of any length, compared byte by byte as it stands.
-pub fn keyword_named(w: &[u8]) -> Named
-    ensures { result ≡ keyword_or_nothing (meaning (spelled w.now) carried) }
+pub fn keyword_named(w: &[u8]) -> Option<Keyword>
+    ensures { result ≡ meaning (spelled w.now) carried }
 {
     match name_table::place_as(Spelling::AsKeyword, w, NameList::Keywords) {
-        Found::At(k) => keyword_at(k),
-        Found::Nothing => Named::Nothing,
+        Some(k) => keyword_at(k),
+        None => None,
     }
 }
 
@@ -192,39 +197,36 @@ pub fn keyword_named(w: &[u8]) -> Named
 const LONGEST: usize = 17;
 
 // What a name is that is not carried. It is asked in two places of `key_of`, so that the compiler leaves the table out of that function's frame.
-fn gap_or_slip(name: &[u8]) -> KeyRead
+fn gap_or_slip(name: &[u8]) -> KeyFault
     ensures { result ≡ cond (one_of (spelled name.now) hierarchy) Gap Slip }
 {
     match hierarchy::place(name) {
-        Found::At(k) => KeyRead::Gap,
-        Found::Nothing => KeyRead::Slip,
+        Some(_) => KeyFault::Gap,
+        None => KeyFault::Slip,
     }
 }
 
-// What a keyword line is. Its text begins with `[`.
-pub fn key_of(w: &[u8]) -> KeyRead
+// What a keyword line is: a keyword and where its argument begins. Its text begins with `[`.
+pub fn key_of(w: &[u8]) -> Result<(Keyword, usize), KeyFault>
     ensures value { result ≡ key_read w.now }
     ensures result_value { keyword_says result ≡ key_of w.now }
 {
     if w.len() == 0 {
-        return KeyRead::Malformed;
+        return Err(KeyFault::Malformed);
     }
     let stop = words::find(w, 1, b']');
     if !closed_at(w, stop) {
-        return KeyRead::Malformed;
+        return Err(KeyFault::Malformed);
     }
     let name = &w[1..stop];
     if !in_parts(name) {
-        return KeyRead::Malformed;
+        return Err(KeyFault::Malformed);
     }
     if LONGEST < name.len() {
-        return gap_or_slip(name);
+        return Err(gap_or_slip(name));
     }
     match keyword_named(name) {
-        Named::Is(keyword) => KeyRead::Known {
-            keyword: keyword,
-            argument: words::skip_blanks(w, stop + 1),
-        },
-        Named::Nothing => gap_or_slip(name),
+        Some(keyword) => Ok((keyword, words::skip_blanks(w, stop + 1))),
+        None => Err(gap_or_slip(name)),
     }
 }

@@ -1,6 +1,7 @@
 -- The laws, by what they are about.
 
 pub mod Tests
+pub mod Known
 pub mod Numbers
 pub mod Bytes
 pub mod Lists
@@ -11,3 +12,4 @@ pub mod Appended
 pub mod Same
 pub mod Order
 pub mod Eights
+pub mod Handed

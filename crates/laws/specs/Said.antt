@@ -1,31 +1,26 @@
 -- What a word or a line says, or its fault.
-use Rattle.std.specs.Prelude.{ℕ}
-use Rattle.std.proofs.Math.Option.{Option, none, some}
-
-pub data Result (F : Type 0) (A : Type 0) : Type 0 where
-  says : A → Result F A
-  fault : F → Result F A
+use Rattle.std.specs.Prelude.{ℕ, Result, Ok, Err, Option, None, Some}
 
 -- of a word: the number of its fault
 abbrev pub Said : Type 0 → Type 0
-Said A = Result ℕ A
+Said A = Result A ℕ
 
 -- its fault; 0 for none
 abbrev pub fault_in : {A : Type 0} → Said A → ℕ
-fault_in (says a) = 0
-fault_in (fault n) = n
+fault_in (Ok a) = 0
+fault_in (Err n) = n
 
 -- what it says, or else a
-abbrev pub or_else : {F A : Type 0} → A → Result F A → A
-or_else a (says b) = b
-or_else a (fault f) = a
+abbrev pub or_else : {F A : Type 0} → A → Result A F → A
+or_else a (Ok b) = b
+or_else a (Err f) = a
 
 -- its fault, or what `go` makes of what it says
-abbrev pub read_on : {F A B : Type 0} → Result F A → (A → Result F B) → Result F B
-read_on (says a) go = go a
-read_on (fault f) go = fault f
+abbrev pub read_on : {F A B : Type 0} → Result A F → (A → Result B F) → Result B F
+read_on (Ok a) go = go a
+read_on (Err f) go = Err f
 
 -- nothing is fault f
-abbrev pub or_fault : {F A : Type 0} → F → Option A → Result F A
-or_fault f none = fault f
-or_fault f (some a) = says a
+abbrev pub or_fault : {F A : Type 0} → F → Option A → Result A F
+or_fault f None = Err f
+or_fault f (Some a) = Ok a

@@ -1,12 +1,11 @@
 -- What the rest of the open section gives, text by text: by the names of the keywords, each of which is tried.
+use Rattle.std.specs.Prelude.{Ok, Option, None, Some}
 use Prim.Native.Nat.{ℕ}
 use mathlib.Core.Path.{◌≡◌, refl, sym, ap, ap₂, ◌∙◌}
 use mathlib.Core.List.{List, [], ◌∷◌, ◌++◌}
 use mathlib.Core.Bool.{Bool, true, false, cond, not}
-use mathlib.Core.Option.{Option, none, some}
 use Rattle.laws.specs.Bytes.{bytes, is_blank}
 use Rattle.laws.specs.Lists.{front, eqs, one_of}
-use Rattle.laws.specs.Said.{says}
 use Rattle.laws.proofs.Tests.{by-test, cond-all, cond_map}
 use Rattle.words.specs.Words.{words, grown, onto_word}
 use Rattle.keywords.specs.Carried.{key_of}
@@ -96,16 +95,16 @@ gathered g ls ps tb = record { pin_lines = as_pins g ls ++ ps; choice_lines = as
 
 -- only a component has pins, and only a model tables
 abbrev pub of_components : {A : Type 0} → Option Section → List A → List A
-of_components none l = []
-of_components (some Component) l = l
-of_components (some Selector) l = []
-of_components (some Model) l = []
+of_components None l = []
+of_components (Some Component) l = l
+of_components (Some Selector) l = []
+of_components (Some Model) l = []
 
 abbrev pub of_models : {A : Type 0} → Option Section → List A → List A
-of_models none l = []
-of_models (some Component) l = []
-of_models (some Selector) l = []
-of_models (some Model) l = l
+of_models None l = []
+of_models (Some Component) l = []
+of_models (Some Selector) l = []
+of_models (Some Model) l = l
 
 abbrev pub ahead : Open → List Text → Ahead
 ahead o ts = gathered o.gives (under ts) (of_components o.within (pins_ahead ts)) (of_models o.within (tables_ahead ts))
@@ -113,10 +112,10 @@ ahead o ts = gathered o.gives (under ts) (of_components o.within (pins_ahead ts)
 -- ---- a keyword line: nothing is left under the keyword above
 
 module _ (k : ℕ) (w : List ℕ) (ts : List Text) where
-  pub key-at : {x : Keyword} → is_bracketed w ≡ true → key_of w ≡ says x → key_at (plain k w) ≡ some x
+  pub key-at : {x : Keyword} → is_bracketed w ≡ true → key_of w ≡ Ok x → key_at (plain k w) ≡ Some x
   key-at b e = rw (b, e)
 
-  pub no_key : is_bracketed w ≡ false → key_at (plain k w) ≡ none
+  pub no_key : is_bracketed w ≡ false → key_at (plain k w) ≡ None
   no_key b = rw b
 
   pub under-key : is_bracketed w ≡ true → under (plain k w ∷ ts) ≡ []
@@ -167,12 +166,12 @@ named_tables name ls more = cond (one_of name (words (bytes table_keywords))) (r
 
 module _ (ls : List (List ℕ)) where
   spelling-pins : (more : List (List ℕ)) (k : Keyword)
-      → cond (not (is_end (some k))) (named_pins (bytes (spelling k)) ls more) [] ≡ key_pins ls more (some k)
+      → cond (not (is_end (Some k))) (named_pins (bytes (spelling k)) ls more) [] ≡ key_pins ls more (Some k)
   unfolding eqs
   spelling-pins more = each-keyword _ refl refl refl refl refl refl refl refl refl refl refl refl refl refl refl refl refl refl refl refl refl refl refl refl
 
   spelling-tables : (more : List TableIs) (k : Keyword)
-      → cond (not (is_end (some k))) (named_tables (bytes (spelling k)) ls more) [] ≡ key_tables ls more (some k)
+      → cond (not (is_end (Some k))) (named_tables (bytes (spelling k)) ls more) [] ≡ key_tables ls more (Some k)
   unfolding one_of eqs words grown onto_word is_blank
   spelling-tables more = each-keyword _ refl refl refl refl refl refl refl refl refl refl refl refl refl refl refl refl refl refl refl refl refl refl refl refl
 
@@ -191,9 +190,9 @@ tables-are = refl
 module _ (t : Text) (ts : List Text) where
   pins-by : (x : Option Keyword) → key_at t ≡ x → pins_ahead (t ∷ ts) ≡ key_pins (under ts) (pins_ahead ts) x
   unfolding lines_under
-  pins-by none e = ap (lines_under "pin") (within-at t ts e) ∙ rw (key-unnamed t (key.InComponent Pin) e)
-  pins-by (some k) e =
-      let inside : Bool = not (is_end (some k)) in
+  pins-by None e = ap (lines_under "pin") (within-at t ts e) ∙ rw (key-unnamed t (key.InComponent Pin) e)
+  pins-by (Some k) e =
+      let inside : Bool = not (is_end (Some k)) in
       ap (lines_under "pin") (within-at t ts e)
       ∙ cond_map (lines_under "pin") inside (t ∷ front is_within ts) []
       ∙ ap₂ (λ (name : List ℕ) (ls : List (List ℕ)). cond inside (named_pins name ls (pins_ahead ts)) []) (key-named t k e) (under-within ts)
@@ -201,12 +200,12 @@ module _ (t : Text) (ts : List Text) where
 
   tables-by : (x : Option Keyword) → key_at t ≡ x → tables_ahead (t ∷ ts) ≡ key_tables (under ts) (tables_ahead ts) x
   unfolding tables_in
-  tables-by none e =
+  tables-by None e =
       ap tables_in (within-at t ts e)
       ∙ ap (λ (is : Bool). cond is (record { key = key_name t; lines = under (front is_within ts) } ∷ []) [] ++ tables_ahead ts)
       (ap (one_of (key_name t)) tables-are ∙ none-of-spellings t table_keys e)
-  tables-by (some k) e =
-      let inside : Bool = not (is_end (some k)) in
+  tables-by (Some k) e =
+      let inside : Bool = not (is_end (Some k)) in
       ap tables_in (within-at t ts e)
       ∙ cond_map tables_in inside (t ∷ front is_within ts) []
       ∙ ap₂ (λ (name : List ℕ) (ls : List (List ℕ)). cond inside (named_tables name ls (tables_ahead ts)) []) (key-named t k e) (under-within ts)
@@ -235,7 +234,7 @@ none_left rows ps tb = refl
 -- a section ends: nothing of it is left
 pub none_after : (x : Option Section)
     → record { pin_lines = of_components x []; choice_lines = []; open_rows = []; tables = of_models x [] } ≡ none_ahead
-none_after none = refl
-none_after (some Component) = refl
-none_after (some Selector) = refl
-none_after (some Model) = refl
+none_after None = refl
+none_after (Some Component) = refl
+none_after (Some Selector) = refl
+none_after (Some Model) = refl

@@ -1,10 +1,10 @@
 -- The event of a line is known from the last keyword above it: by cases on the stage, past each check of `rules/specs/Steps.antt`.
+use Rattle.std.specs.Prelude.{Ok, Err, Option, None, Some}
 use Prim.Native.Nat.{ℕ}
 use mathlib.Core.Path.{◌≡◌, refl, sym, ap, subst}
 use mathlib.Core.List.{List}
 use mathlib.Core.Bool.{true, false}
-use mathlib.Core.Option.{Option, none, some}
-use Rattle.laws.specs.Said.{Said, says, fault}
+use Rattle.laws.specs.Said.{Said}
 use Rattle.laws.proofs.Tests.{cond-all}
 use Rattle.words.specs.Words.{word, words}
 use Rattle.keywords.specs.Carried.{key_of}
@@ -54,7 +54,7 @@ pub record Open : Type 0 where
   pub gives : Gives
 
 abbrev pub closed : Open
-closed = record { within = none; gives = nothing }
+closed = record { within = None; gives = nothing }
 
 abbrev component_gives : ComponentList → Gives
 component_gives ComponentFirst = nothing
@@ -72,9 +72,9 @@ model_gives (WaveformRows o g r) = rows
 abbrev pub open_at : Stage → Open
 open_at BeforeVersion = closed
 open_at (InHeader h) = closed
-open_at (InComponent c) = record { within = some Component; gives = component_gives c.list }
-open_at (InSelector s) = record { within = some Selector; gives = choices }
-open_at (InModel m) = record { within = some Model; gives = model_gives m.list }
+open_at (InComponent c) = record { within = Some Component; gives = component_gives c.list }
+open_at (InSelector s) = record { within = Some Selector; gives = choices }
+open_at (InModel m) = record { within = Some Model; gives = model_gives m.list }
 open_at AfterEnd = closed
 
 -- ---- what a line gives, by what is open
@@ -83,16 +83,16 @@ pub data LineGives : Gives → List ℕ → Event → Type 0 where
   quiet : {w : List ℕ} → LineGives nothing w Quiet
   pin : {w : List ℕ} → LineGives pins w PinRow
   choice : {w : List ℕ} → LineGives choices w ChoiceRow
-  row : {w : List ℕ} {r : Row} → row_of w ≡ says r → LineGives rows w TableRow
+  row : {w : List ℕ} {r : Row} → row_of w ≡ Ok r → LineGives rows w TableRow
   -- a waveform's named line
-  fixture : {w : List ℕ} {f : Flaw} → row_of w ≡ fault f → LineGives rows w Quiet
+  fixture : {w : List ℕ} {f : Flaw} → row_of w ≡ Err f → LineGives rows w Quiet
 
 -- ---- what a keyword gives and opens, by the section it stands in
 
 abbrev pub section_opens : Section → Open
-section_opens Component = record { within = some Component; gives = nothing }
-section_opens Selector = record { within = some Selector; gives = choices }
-section_opens Model = record { within = some Model; gives = nothing }
+section_opens Component = record { within = Some Component; gives = nothing }
+section_opens Selector = record { within = Some Selector; gives = choices }
+section_opens Model = record { within = Some Model; gives = nothing }
 
 abbrev pub component_opens : ComponentPart → Gives
 component_opens Manufacturer = nothing
@@ -114,11 +114,11 @@ model_event Ramp = Quiet
 model_event (Waveform e) = WaveformOpened
 
 pub data KeyGives : Option Section → Keyword → Open → Event → Type 0 where
-  of_version : KeyGives none key.IbisVer closed Quiet
-  of_header : {p : HeaderPart} → KeyGives none (key.InHeader p) closed Quiet
+  of_version : KeyGives None key.IbisVer closed Quiet
+  of_header : {p : HeaderPart} → KeyGives None (key.InHeader p) closed Quiet
   of_section : {x : Option Section} (o : Section) → KeyGives x (key.Opens o) (section_opens o) (Opened o)
-  of_component : (p : ComponentPart) → KeyGives (some Component) (key.InComponent p) (record { within = some Component; gives = component_opens p }) Quiet
-  of_model : (p : ModelPart) → KeyGives (some Model) (key.InModel p) (record { within = some Model; gives = model_opens p }) (model_event p)
+  of_component : (p : ComponentPart) → KeyGives (Some Component) (key.InComponent p) (record { within = Some Component; gives = component_opens p }) Quiet
+  of_model : (p : ModelPart) → KeyGives (Some Model) (key.InModel p) (record { within = Some Model; gives = model_opens p }) (model_event p)
   of_end : {x : Option Section} {f : LineFault} → KeyGives x key.End closed (Ended f)
 
 -- ---- a text: from what is open before it to what is open behind it
@@ -127,7 +127,7 @@ pub data Stepped : Open → Text → Open → Event → Type 0 where
   by_change : {o : Open} {k : ℕ} {f : LineFault} → Stepped o (change k f) o Quiet
   by_line : {o : Open} {k : ℕ} {w : List ℕ} {e : Event} → is_bracketed w ≡ false → LineGives o.gives w e → Stepped o (plain k w) o e
   by_key : {o u : Open} {k : ℕ} {w : List ℕ} {x : Keyword} {e : Event}
-      → is_bracketed w ≡ true → key_of w ≡ says x → KeyGives o.within x u e → Stepped o (plain k w) u e
+      → is_bracketed w ≡ true → key_of w ≡ Ok x → KeyGives o.within x u e → Stepped o (plain k w) u e
 
 -- ---- lines: the section stays, and what its open list gives
 
@@ -135,42 +135,42 @@ abbrev LineStep : Option Section → Gives → List ℕ → Stage → Event → 
 LineStep x g w s e = (open_at s ≡ record { within = x; gives = g }) × LineGives g w e
 
 component-goes : (c : ComponentState) (k : ℕ) (w : List ℕ) (l : ComponentList) → component_gives c.list ≡ component_gives l
-    → Goes (LineStep (some Component) (component_gives l) w) (component_line c k w l)
+    → Goes (LineStep (Some Component) (component_gives l) w) (component_line c k w l)
 component-goes c k w ComponentFirst q =
-    past-named (LineStep (some Component) nothing w) c.first (line_at component_lines w) _ k w _ (λ h. (ap (λ (g : Gives). record { within = some Component; gives = g }) q, quiet))
+    past-named (LineStep (Some Component) nothing w) c.first (line_at component_lines w) _ k w _ (λ h. (ap (λ (g : Gives). record { within = Some Component; gives = g }) q, quiet))
 component-goes c k w ComponentShut q = tt
-component-goes c k w (PackageLines o g) q = past-named (LineStep (some Component) nothing w) g (line_at package_lines w) _ k w _ (λ h. (refl, quiet))
+component-goes c k w (PackageLines o g) q = past-named (LineStep (Some Component) nothing w) g (line_at package_lines w) _ k w _ (λ h. (refl, quiet))
 component-goes c k w (PinRows o long any) q = past-passes _ _ k _ (refl, pin)
 
 -- a row goes on only where it is one
 row_goes : (P : Stage → Event → Type 0) (on : RowsSeen → ModelList) (m : ModelState) (r : RowsSeen) (k : ℕ) (w : List ℕ) (x : Reads Row)
-    → ((y : Row) → x ≡ says y → P (InModel (with_model_list m (on (with_row r y.number (is_number y.cells.typ))))) TableRow)
+    → ((y : Row) → x ≡ Ok y → P (InModel (with_model_list m (on (with_row r y.number (is_number y.cells.typ))))) TableRow)
     → Goes P (row_line on m r k (told_in w x))
-row_goes P on m r k w (fault f) p = tt
-row_goes P on m r k w (says y) p = past-refuse P _ 13 k _ (p y refl)
+row_goes P on m r k w (Err f) p = tt
+row_goes P on m r k w (Ok y) p = past-refuse P _ 13 k _ (p y refl)
 
 waveform-goes : (m : ModelState) (o : ℕ) (g : Given) (r : RowsSeen) (k : ℕ) (w : List ℕ)
-    → Goes (LineStep (some Model) rows w) (waveform_line m o g r k w)
+    → Goes (LineStep (Some Model) rows w) (waveform_line m o g r k w)
 unfolding waveform_line
 waveform-goes m o g r k w =
-    cond-all (Goes (LineStep (some Model) rows w)) (begins_letter (word 0 (words w))) _ _
-    (λ b. past-refuse _ _ 7 k _ (past-named (LineStep (some Model) rows w) g (line_at fixtures w) _ k w _ (λ h. (refl, fixture (letter-no-row w b)))))
+    cond-all (Goes (LineStep (Some Model) rows w)) (begins_letter (word 0 (words w))) _ _
+    (λ b. past-refuse _ _ 7 k _ (past-named (LineStep (Some Model) rows w) g (line_at fixtures w) _ k w _ (λ h. (refl, fixture (letter-no-row w b)))))
     (λ b. row_goes _ (WaveformRows o g) m r k w (row_of w) (λ y e. (refl, row e)))
 
 model-goes : (m : ModelState) (k : ℕ) (w : List ℕ) (l : ModelList) → model_gives m.list ≡ model_gives l
-    → Goes (LineStep (some Model) (model_gives l) w) (model_line m k w l)
+    → Goes (LineStep (Some Model) (model_gives l) w) (model_line m k w l)
 unfolding with_first
 model-goes m k w ModelFirst q =
-    past-named (LineStep (some Model) nothing w) m.first (line_at model_lines w) _ k w _ (λ h. (ap (λ (g : Gives). record { within = some Model; gives = g }) q, quiet))
+    past-named (LineStep (Some Model) nothing w) m.first (line_at model_lines w) _ k w _ (λ h. (ap (λ (g : Gives). record { within = Some Model; gives = g }) q, quiet))
 model-goes m k w ModelShut q = tt
 model-goes m k w (CurrentRows o r) q = row_goes _ (CurrentRows o) m r k w (row_of w) (λ y e. (refl, row e))
-model-goes m k w (RampLines o g) q = past-named (LineStep (some Model) nothing w) g (line_at ramp_lines w) _ k w _ (λ h. (refl, quiet))
+model-goes m k w (RampLines o g) q = past-named (LineStep (Some Model) nothing w) g (line_at ramp_lines w) _ k w _ (λ h. (refl, quiet))
 model-goes m k w (WaveformRows o g r) q = waveform-goes m o g r k w
 
 line-goes : (s : Stage) (k : ℕ) (w : List ℕ) → Goes (LineStep (open_at s).within (open_at s).gives w) (on_line s k w)
 unfolding header_line selector_line
 line-goes BeforeVersion k w = tt
-line-goes (InHeader h) k w = cond-all (Goes (LineStep none nothing w)) h.text _ _ (λ e. (refl, quiet)) (λ e. tt)
+line-goes (InHeader h) k w = cond-all (Goes (LineStep None nothing w)) h.text _ _ (λ e. (refl, quiet)) (λ e. tt)
 line-goes (InComponent c) k w = component-goes c k w c.list refl
 line-goes (InSelector s) k w = past-passes _ _ k _ (refl, choice)
 line-goes (InModel m) k w = model-goes m k w m.list refl
@@ -182,13 +182,13 @@ line-goes AfterEnd k w = tt
 abbrev Stays : Option Section → Stage → Event → Type 0
 Stays x t e = (open_at t).within ≡ x
 
-component-shut : (c : ComponentState) (l : ComponentList) → Goes (Stays (some Component)) (component_shut c l)
+component-shut : (c : ComponentState) (l : ComponentList) → Goes (Stays (Some Component)) (component_shut c l)
 component-shut c ComponentFirst = refl
 component-shut c ComponentShut = refl
 component-shut c (PackageLines o g) = past-refuse _ _ 9 o _ refl
 component-shut c (PinRows o long any) = past-refuse _ _ 9 o _ refl
 
-model-shut : (m : ModelState) (l : ModelList) → Goes (Stays (some Model)) (model_shut m l)
+model-shut : (m : ModelState) (l : ModelList) → Goes (Stays (Some Model)) (model_shut m l)
 model-shut m ModelFirst = refl
 model-shut m ModelShut = refl
 model-shut m (CurrentRows o r) = past-unless _ _ o _ refl
@@ -233,13 +233,13 @@ section-goes x k w Selector = past-passes _ _ k _ (of_section Selector)
 section-goes x k w Model = past-passes _ _ k _ (of_section Model)
 
 component-part : (c : ComponentState) (k : ℕ) (w : List ℕ) (p : ComponentPart)
-    → Goes (KeyStep (some Component) (key.InComponent p)) (component_part c k w p)
+    → Goes (KeyStep (Some Component) (key.InComponent p)) (component_part c k w p)
 unfolding component_part
 component-part c k w Manufacturer = past-once _ _ _ k _ (of_component Manufacturer)
 component-part c k w Package = past-once _ _ _ k _ (of_component Package)
 component-part c k w Pin = past-once _ _ _ k _ (of_component Pin)
 
-model-part : (m : ModelState) (k : ℕ) (w : List ℕ) (p : ModelPart) → Goes (KeyStep (some Model) (key.InModel p)) (model_part m k w p)
+model-part : (m : ModelState) (k : ℕ) (w : List ℕ) (p : ModelPart) → Goes (KeyStep (Some Model) (key.InModel p)) (model_part m k w p)
 unfolding single_part waveform_part
 model-part m k w VoltageRange = past-once _ _ _ k _ (of_model VoltageRange)
 model-part m k w TemperatureRange = past-once _ _ _ k _ (of_model TemperatureRange)
@@ -285,8 +285,8 @@ module _ (k : ℕ) (w : List ℕ) where
   -- behind what the keyword line closed
   keyed-goes : (s t : Stage) (x : Said Keyword) → is_bracketed w ≡ true → key_of w ≡ x → (open_at t).within ≡ (open_at s).within
       → Goes (TextStep s (plain k w)) (keyed t k w x)
-  keyed-goes s t (fault n) b r q = tt
-  keyed-goes s t (says x) b r q =
+  keyed-goes s t (Err n) b r q = tt
+  keyed-goes s t (Ok x) b r q =
       past_all (TextStep s (plain k w)) (KeyStep (open_at t).within x) (on_keyword t k w x) (keyword-goes t k w x)
       (λ u e g. by_key b r (subst (λ (y : Option Section). KeyGives y x (open_at u) e) q g))
 

@@ -1,4 +1,5 @@
 -- What is noted, and what is ahead, make up the tables, before a text as behind it: a law for each kind of line, and for each table's keyword.
+use Rattle.std.specs.Prelude.{Ok}
 use Prim.Native.Nat.{ℕ, suc, ◌+◌}
 use mathlib.Core.Path.{◌≡◌, refl, sym, ap, subst, ◌∙◌}
 use mathlib.Core.List.{List, [], ◌∷◌, ◌++◌, map, flat_map}
@@ -6,7 +7,6 @@ use native.Mathlib.Omega.{arith}
 use lib.ListN.{length, length-append}
 use Rattle.laws.specs.Bytes.{is_blank}
 use Rattle.laws.specs.Lists.{eqs, one_of}
-use Rattle.laws.specs.Said.{says}
 use Rattle.records.specs.Flaws.{Reads}
 use Rattle.words.specs.Words.{words, grown, onto_word}
 use Rattle.keywords.specs.declared.ModelPart.TheVariants.{Current, Waveform}
@@ -87,7 +87,7 @@ row_carried p c rs more tb h e =
       waved = λ v. ap (λ (k : ℕ). h.counts.waveforms + length (waveforms_laid tb k)) (sym n) ∙ v;
     }
 
-onto-one : (x : Reads Row) (r : Row) (more : List Row) → x ≡ says r → length (onto_rows x more) ≡ suc (length more)
+onto-one : (x : Reads Row) (r : Row) (more : List Row) → x ≡ Ok r → length (onto_rows x more) ≡ suc (length more)
 onto-one x r more e = ap (λ (y : Reads Row). length (onto_rows y more)) e
 
 same_ahead : {x y z : Ahead} {h g : Log} → x ≡ y → Carried y h z g → Carried x h z g

@@ -1,8 +1,8 @@
 -- A text leads on, whatever it is: by cases on what a keyword gives where it stands.
+use Rattle.std.specs.Prelude.{Option, None, Some}
 use Prim.Native.Nat.{ℕ}
 use mathlib.Core.Path.{◌≡◌, refl, sym, ap, subst, ◌∙◌}
 use mathlib.Core.List.{List, [], ◌∷◌}
-use mathlib.Core.Option.{Option, none, some}
 use Rattle.laws.specs.Lists.{front}
 use Rattle.keywords.specs.declared.Keyword.{Keyword}
 use Rattle.keywords.specs.declared.Section.{Section}
@@ -27,20 +27,20 @@ use Rattle.layout_by_notes.proofs.Opening.{section-onward}
 abbrev at_key : Option Section → List Text → Keyword → Ahead
 at_key x ts a =
     record {
-      pin_lines = of_components x (key_pins (under ts) (pins_ahead ts) (some a));
+      pin_lines = of_components x (key_pins (under ts) (pins_ahead ts) (Some a));
       choice_lines = [];
       open_rows = [];
-      tables = of_models x (key_tables (under ts) (tables_ahead ts) (some a));
+      tables = of_models x (key_tables (under ts) (tables_ahead ts) (Some a));
     }
 
-module _ (k : ℕ) (w : List ℕ) (ts : List Text) {a : Keyword} (q : key_at (plain k w) ≡ some a) (v : under (plain k w ∷ ts) ≡ []) where
+module _ (k : ℕ) (w : List ℕ) (ts : List Text) {a : Keyword} (q : key_at (plain k w) ≡ Some a) (v : under (plain k w ∷ ts) ≡ []) where
   key-ahead : (x : Option Section) (g : Gives) → ahead (record { within = x; gives = g }) (plain k w ∷ ts) ≡ at_key x ts a
   key-ahead x g =
       ahead-at (plain k w) ts q (record { within = x; gives = g }) [] v
-      ∙ none_left g (of_components x (key_pins (under ts) (pins_ahead ts) (some a))) (of_models x (key_tables (under ts) (tables_ahead ts) (some a)))
+      ∙ none_left g (of_components x (key_pins (under ts) (pins_ahead ts) (Some a))) (of_models x (key_tables (under ts) (tables_ahead ts) (Some a)))
 
   -- a keyword that opens no section
-  inside : (x : Option Section) (g : Gives) (u : Open) (e : Event) (h : Log) → opens (some a) ≡ none
+  inside : (x : Option Section) (g : Gives) (u : Open) (e : Event) (h : Log) → opens (Some a) ≡ None
       → Carried (at_key x ts a) h (ahead u ts) (log_after h (plain k w) ts e) → Onward (record { within = x; gives = g }) (plain k w) ts h u e
   inside x g u e h n c =
       carried_on (record { within = x; gives = g }) (plain k w) ts h u e (key-ahead x g)
@@ -49,28 +49,28 @@ module _ (k : ℕ) (w : List ℕ) (ts : List Text) {a : Keyword} (q : key_at (pl
 
 module _ (k : ℕ) (w : List ℕ) (ts : List Text) (h : Log) (c : Counted h) where
   key-onward : {x : Option Section} {a : Keyword} {u : Open} {e : Event} → KeyGives x a u e
-      → (g : Gives) → key_at (plain k w) ≡ some a → under (plain k w ∷ ts) ≡ [] → Onward (record { within = x; gives = g }) (plain k w) ts h u e
-  key-onward of_version g q v = inside k w ts q v none g closed Quiet h refl nothing-moves
-  key-onward of_header g q v = inside k w ts q v none g closed Quiet h refl nothing-moves
+      → (g : Gives) → key_at (plain k w) ≡ Some a → under (plain k w ∷ ts) ≡ [] → Onward (record { within = x; gives = g }) (plain k w) ts h u e
+  key-onward of_version g q v = inside k w ts q v None g closed Quiet h refl nothing-moves
+  key-onward of_header g q v = inside k w ts q v None g closed Quiet h refl nothing-moves
   key-onward {x} (of_section o) g q v =
       section-onward k w ts h c (record { within = x; gives = g }) o (key-ahead k w ts q v x g ∙ none_after x) (sections-at (plain k w) ts q)
   key-onward (of_component Manufacturer) g q v =
-      inside k w ts q v (some Component) g (record { within = some Component; gives = nothing }) Quiet h refl nothing-moves
+      inside k w ts q v (Some Component) g (record { within = Some Component; gives = nothing }) Quiet h refl nothing-moves
   key-onward (of_component Package) g q v =
-      inside k w ts q v (some Component) g (record { within = some Component; gives = nothing }) Quiet h refl nothing-moves
+      inside k w ts q v (Some Component) g (record { within = Some Component; gives = nothing }) Quiet h refl nothing-moves
   key-onward (of_component Pin) g q v =
-      inside k w ts q v (some Component) g (record { within = some Component; gives = pins }) Quiet h refl nothing-moves
+      inside k w ts q v (Some Component) g (record { within = Some Component; gives = pins }) Quiet h refl nothing-moves
   key-onward (of_model VoltageRange) g q v =
-      inside k w ts q v (some Model) g (record { within = some Model; gives = nothing }) Quiet h refl nothing-moves
+      inside k w ts q v (Some Model) g (record { within = Some Model; gives = nothing }) Quiet h refl nothing-moves
   key-onward (of_model TemperatureRange) g q v =
-      inside k w ts q v (some Model) g (record { within = some Model; gives = nothing }) Quiet h refl nothing-moves
+      inside k w ts q v (Some Model) g (record { within = Some Model; gives = nothing }) Quiet h refl nothing-moves
   key-onward (of_model (Current t)) g q v =
-      inside k w ts q v (some Model) g (record { within = some Model; gives = rows }) Quiet h refl
+      inside k w ts q v (Some Model) g (record { within = Some Model; gives = rows }) Quiet h refl
       (current-carried t (under ts) (tables_ahead ts) h)
   key-onward (of_model Ramp) g q v =
-      inside k w ts q v (some Model) g (record { within = some Model; gives = nothing }) Quiet h refl nothing-moves
+      inside k w ts q v (Some Model) g (record { within = Some Model; gives = nothing }) Quiet h refl nothing-moves
   key-onward (of_model (Waveform e)) g q v =
-      inside k w ts q v (some Model) g (record { within = some Model; gives = rows }) WaveformOpened h refl
+      inside k w ts q v (Some Model) g (record { within = Some Model; gives = rows }) WaveformOpened h refl
       (waveform-carried (plain k w) ts e (tables_ahead ts) h)
   key-onward {x} (of_end {f = f}) g q v =
       inside k w ts q v x g closed (Ended f) h refl (subst (λ (y : Ahead). Carried y h none_ahead h) (sym (none_after x)) nothing-moves)

@@ -1,4 +1,5 @@
 -- An accepted file lies in the tables as noted, and within them: one induction over the texts, for whatever a step keeps.
+use Rattle.std.specs.Prelude.{Err, Ok}
 use Prim.Native.Nat.{ℕ}
 use mathlib.Core.Path.{◌≡◌, refl, sym, ap, subst, ◌∙◌}
 use mathlib.Core.List.{List, [], ◌∷◌, map, flat_map, append-nil}
@@ -13,8 +14,7 @@ use Rattle.records.specs.declared.Lengths.{Lengths}
 use Rattle.rules.specs.declared.Stage.{Stage}
 use Rattle.rules.specs.declared.Stage.TheVariants.{BeforeVersion, InHeader, InComponent, InSelector, InModel, AfterEnd}
 use Rattle.rules.specs.declared.Event.{Event}
-use Rattle.rules.specs.declared.Went.{Went}
-use Rattle.rules.specs.declared.Went.TheVariants.{On, Stop}
+use Rattle.rules.specs.Going.{Went}
 use Rattle.records.specs.declared.Fault.{Fault}
 use Rattle.notes.specs.Noted.{Log, empty_log, sections, Logged, going, full, logged, Finish, whole, broken, out_of_lines, after_logged, after_went, run_log}
 use Rattle.layout_by_notes.specs.Lies.{pick, is_of, noted, component_noted, pin_noted, selector_noted, choice_noted, model_noted, Lies, Bounded, Fits}
@@ -53,9 +53,9 @@ module _ (l : Lengths) (past : ℕ) (P : Open → Log → List Text → Type 0) 
     past-went : (s : Stage) (t : Text) (h : Log) (x : Went) → Goes (λ (u : Stage) (e : Event). Stepped (open_at s) t (open_at u) e) x
         → ((u : Open) (e : Event) → Stepped (open_at s) t u e → Room l h.counts e → P u (log_after h t ts e) ts)
         → after_went l h t ts (λ (u : Stage) (y : Log). run_log l past u y ts) x ≡ whole g → P closed g []
-    past-went s t h (On u e) y step r =
+    past-went s t h (Ok (u, e)) y step r =
         past-logged u (logged l h t ts e) (kept-after (λ (z : Log). P (open_at u) z ts) l h t ts e (λ room. step (open_at u) e y room)) r
-    past-went s t h (Stop f) y step r = absurd (never-whole f h g r)
+    past-went s t h (Err f) y step r = absurd (never-whole f h g r)
 
   kept-to-end : ((o : Open) (t : Text) (u : Open) (e : Event) (h : Log) (ts : List Text)
       → Stepped o t u e → Room l h.counts e → P o h (t ∷ ts) → P u (log_after h t ts e) ts)

@@ -8,10 +8,8 @@ ghost use Rattle.lent_pins.specs.Search.{pin_place};
 ghost use Rattle.lending.specs.Lent.{spare_pin, one_component, three_pins, no_selectors, no_choices, two_models, one_waveform, many_words, few_words, enough_of, scant_of, ReadEnough, ReadScant};
 
 use lent_pins::Sought;
-use name_table::Found;
-use records::{
-    Answer, Choice, Component, Counts, Lengths, Model, Name, Pin, Selector, Verdict, Waveform,
-};
+use records::{Answer, Choice, Component, Lengths, Model, Name, Pin, Selector, Waveform};
+use text_buffer::Page;
 
 // An answer and the tables as they are left: 8,192 rows, as loading asks for, and three words that hold no row.
 #[derive(Clone, Copy)]
@@ -211,7 +209,7 @@ fn read_scant(src: &[u8]) -> Scant
 // ---- the search
 
 // A component's pin by its name, in the table that is lent for the search.
-fn find_pin(pins: [Pin; 3], used: usize, sought: Sought) -> Found
+fn find_pin(pins: [Pin; 3], used: usize, sought: Sought) -> Option<usize>
     ensures { result ≡ pin_place (take used pins) sought }
 {
     lent_pins::find_pin(&pins, used, sought)
@@ -219,31 +217,23 @@ fn find_pin(pins: [Pin; 3], used: usize, sought: Sought) -> Found
 
 // ---- what is printed
 
-fn print_verdict(verdict: Verdict, counts: Counts) {
-    let mut out = io::buffer();
-    match verdict {
-        Verdict::Accepted => {
-            let n = dump_text::accepted_line(&mut out, 0, counts);
-            program_output::put_out(&out, n);
-        }
-        Verdict::Refused(f) => {
-            let n = text_buffer::refused_line(&mut out, 0, f);
-            program_output::put_out(&out, n);
-        }
-    }
-}
-
 fn print_answer(a: Answer) {
-    let verdict = a.verdict;
-    print_verdict(verdict, a.counts);
+    let mut out = io::buffer();
+    let mut page = Page::new(&mut out);
+    match a.verdict {
+        Ok(()) => dump_text::accepted_line(&mut page, a.counts),
+        Err(f) => text_buffer::refused_line(&mut page, f),
+    }
+    program_output::put_out(&page);
 }
 
 fn print_pins(pins: [Pin; 3]) {
-    for i in 0..3 {
-        let mut out = io::buffer();
-        let n = dump_text::pin_line(&mut out, 0, pins[i]);
-        program_output::put_out(&out, n);
+    let mut out = io::buffer();
+    let mut page = Page::new(&mut out);
+    for pin in pins {
+        dump_text::pin_line(&mut page, pin);
     }
+    program_output::put_out(&page);
 }
 
 // 1 for a word past those of the rows that are used that holds what it held.
@@ -254,9 +244,8 @@ fn kept_at(word: u64, i: usize, used: usize) -> u64
 }
 
 fn words_kept(rows: &[u64], used: usize) -> u64 {
-    let words = rows.len();
     let mut kept: u64 = 0;
-    for i in 0..words {
+    for i in 0..rows.len() {
         kept += kept_at(rows[i], i, used);
     }
     kept
@@ -264,46 +253,45 @@ fn words_kept(rows: &[u64], used: usize) -> u64 {
 
 fn print_kept(rows: &[u64], used: usize) {
     let mut out = io::buffer();
-    let n = text_buffer::put_bytes(&mut out, 0, b"KEPT ");
-    let m = text_buffer::put_number(&mut out, n, words_kept(rows, used));
-    let k = text_buffer::put_byte(&mut out, m, b'\n');
-    program_output::put_out(&out, k);
+    let mut page = Page::new(&mut out);
+    page.put_bytes(b"KEPT ");
+    page.put_number(words_kept(rows, used));
+    page.put_byte(b'\n');
+    program_output::put_out(&page);
 }
 
 // A pin's place and its signal.
 fn print_place(k: usize, pin: Pin) {
     let mut out = io::buffer();
-    let n = text_buffer::put_bytes(&mut out, 0, b"FOUND ");
-    let m = text_buffer::put_number(&mut out, n, k as u64);
-    let s = text_buffer::put_byte(&mut out, m, b' ');
-    let e = text_buffer::put_name(&mut out, s, pin.signal);
-    let l = text_buffer::put_byte(&mut out, e, b'\n');
-    program_output::put_out(&out, l);
+    let mut page = Page::new(&mut out);
+    page.put_bytes(b"FOUND ");
+    page.put_number(k as u64);
+    page.put_byte(b' ');
+    page.put_name(pin.signal);
+    page.put_byte(b'\n');
+    program_output::put_out(&page);
 }
 
-fn print_found(pins: [Pin; 3], f: Found) {
+fn print_found(pins: [Pin; 3], f: Option<usize>) {
     match f {
-        Found::At(k) => {
+        Some(k) => {
             if k < 3 {
                 print_place(k, pins[k]);
             }
         }
-        Found::Nothing => {
-            program_output::put_out(b"FOUND NOTHING\n", 14);
+        None => {
+            io::write_all(1, b"FOUND NOTHING\n");
         }
     }
 }
 
 // The pin of that name, of the first component.
 fn print_pin_named(components: [Component; 1], pins: [Pin; 3], used: usize, name: &[u8]) {
-    let component = components[0];
-    let span = component.pins;
     let sought = Sought {
-        pins: span,
+        pins: components[0].pins,
         name: records::name_of(name),
     };
-    let f = find_pin(pins, used, sought);
-    print_found(pins, f);
+    print_found(pins, find_pin(pins, used, sought));
 }
 
 // The answer alone, were one pin lent.

@@ -1,50 +1,49 @@
--- A search from the top of a table of records: what is found by place i, or in what follows, is what the whole search finds.
-use Prim.Native.Nat.{ℕ, suc, ◌<◌, ◌≤◌}
+-- A search from the top of a table of records: what is found from place i on is what the whole search finds.
+use Rattle.std.specs.Prelude.{Option, Some, None}
+use Prim.Native.Nat.{ℕ, ◌+◌, ◌<◌, ◌≤◌}
 use mathlib.Core.Path.{◌≡◌, sym, ap, ◌∙◌}
-use mathlib.Core.List.{List, ◌∷◌}
-use mathlib.Core.Bool.{Bool, true, false, not, ◌&&◌}
+use mathlib.Core.Bool.{true, false}
+use mathlib.Core.List.{List, [], ◌∷◌}
 use native.Mathlib.Numerals.{add-one}
 use native.Mathlib.Omega.{arith}
-use lib.Dec.{T, ltb, ltb→lt, nltb→le}
-use lib.ListN.{length, take, drop, get_or, drop_of_length-le, length-take}
-use lib.Seq.{drop-cons, get_or-take}
-use Rattle.name_table.specs.declared.Found.{Found}
-use Rattle.name_table.specs.declared.Found.TheVariants.{At, Nothing}
-use Rattle.lent_pins.specs.Search.{or_else, first_of, is_seeking}
+use lib.ListN.{length, drop, get_or, drop_of_length-le}
+use lib.Seq.{drop-cons}
+use Rattle.laws.proofs.Tests.{cond_yes, cond_no, and_both, and_left, and_right}
+use Rattle.records.specs.declared.Pin.{Pin}
+use Rattle.questions.specs.Named.{same_name}
+use Rattle.questions.specs.Searched.{in_span}
+use Rattle.lent_pins.specs.Search.{or_else, first_of, try_pin}
+use Rattle.lent_pins.specs.declared.Sought.{Sought}
 
-both : (s t : Bool) → T (s && t) → T s × T t
-both true true h = (h, h)
-both true false h = absurd h
-both false t h = absurd h
+module _ {A : Type 0} (try : ℕ → A → Option ℕ) (xs : List A) where
+  abbrev pub Goes : ℕ → Type 0
+  Goes i = first_of try i (drop i xs) ≡ first_of try 0 xs
 
--- past the end of what is used or of what is there
-past : {A : Type 0} (xs : List A) (n i : ℕ) → T (not (ltb i n && ltb i (length xs))) → length (take n xs) ≤ i
-past xs n i h = split (ltb i n) (ltb i (length xs)) h (nltb→le i n) (nltb→le i (length xs))
-  where
-    split : (s t : Bool) → T (not (s && t)) → (T (not s) → n ≤ i) → (T (not t) → length xs ≤ i) → length (take n xs) ≤ i
-    split true true h a b = absurd h
-    split true false h a b = omega (arith, length-take n xs, b h)
-    split false t h a b = omega (arith, length-take n xs, a h)
-
-abbrev pub Goes : {A : Type 0} → (ℕ → A → Found) → List A → ℕ → ℕ → Found → Type 0
-Goes try xs n i f = or_else f (first_of try i (drop i (take n xs))) ≡ first_of try 0 (take n xs)
-
-pub seeking-below : (f : Found) (i n m : ℕ) → T (is_seeking f i n m) → i < m
-seeking-below (At k) i n m h = absurd h
-seeking-below Nothing i n m h = ltb→lt i m (both (ltb i n) (ltb i m) h).1
-
-module _ {A : Type 0} (try : ℕ → A → Found) (xs : List A) (n : ℕ) where
-  pub seeking-goes : (i : ℕ) (f : Found) (d : A) → Goes try xs n i f → T (is_seeking f i n (length xs)) → Goes try xs n (suc i) (try i (get_or xs i d))
+  here : (i : ℕ) (d : A) → i < length xs → first_of try i (drop i xs) ≡ or_else (try i (get_or xs i d)) (first_of try (i + 1) (drop (i + 1) xs))
   unfolding first_of
-  seeking-goes i (At k) d inv h = absurd h
-  seeking-goes i Nothing d inv h =
-      let used : i < n = ltb→lt i n (both (ltb i n) (ltb i (length xs)) h).0 in
-      let there : i < length xs = ltb→lt i (length xs) (both (ltb i n) (ltb i (length xs)) h).1 in
-      let l : drop i (take n xs) ≡ get_or xs i d ∷ drop (suc i) (take n xs) =
-      drop-cons (take n xs) i d (omega (arith, length-take n xs)) ∙ ap (λ (x : A). x ∷ drop (suc i) (take n xs)) (get_or-take n xs i d used) in
-      ap (λ (k : ℕ). or_else (try i (get_or xs i d)) (first_of try k (drop (suc i) (take n xs)))) (sym (add-one i)) ∙ sym (ap (first_of try i) l) ∙ inv
+  here i d h = ap (first_of try i) (drop-cons xs i d h ∙ ap (λ (k : ℕ). get_or xs i d ∷ drop k xs) (sym (add-one i)))
 
-  pub seeking-ends : (i : ℕ) (f : Found) → Goes try xs n i f → T (not (is_seeking f i n (length xs))) → f ≡ first_of try 0 (take n xs)
+  pub goes-found : (i : ℕ) (d : A) → i < length xs → Goes i → try i (get_or xs i d) ≡ Some i → Some i ≡ first_of try 0 xs
+  goes-found i d h inv t = sym (here i d h ∙ rw t) ∙ inv
+
+  pub goes-next : (i : ℕ) (d : A) → i < length xs → Goes i → try i (get_or xs i d) ≡ None → Goes (i + 1)
+  goes-next i d h inv t = sym (here i d h ∙ rw t) ∙ inv
+
+  pub goes-end : (i : ℕ) → length xs ≤ i → Goes i → None ≡ first_of try 0 xs
   unfolding first_of
-  seeking-ends i (At k) inv h = inv
-  seeking-ends i Nothing inv h = sym (ap (first_of try i) (drop_of_length-le (take n xs) (past xs n i h))) ∙ inv
+  goes-end i h inv = sym (ap (first_of try i) (drop_of_length-le xs h)) ∙ inv
+
+-- a pin that is looked at: sought, of another name, or of another component
+module _ (sought : Sought) (pins : List Pin) (i : ℕ) (there : i < length pins) (inv : Goes (try_pin sought) pins i) where
+  pub pin-found : (d : Pin) → in_span sought.pins i ≡ true → same_name (get_or pins i d).name sought.name ≡ true → Some i ≡ first_of (try_pin sought) 0 pins
+  unfolding try_pin
+  pin-found d a b = goes-found (try_pin sought) pins i d there inv (cond_yes _ _ (and_both _ _ a b))
+
+  pub pin-other : (d : Pin) → same_name (get_or pins i d).name sought.name ≡ false → Goes (try_pin sought) pins (i + 1)
+  unfolding try_pin
+  pin-other d b = goes-next (try_pin sought) pins i d there inv (cond_no _ _ (and_right (in_span sought.pins i) _ b))
+
+pub pin-elsewhere : (sought : Sought) (pins : List Pin) (i : ℕ) → i < length pins → Goes (try_pin sought) pins i → in_span sought.pins i ≡ false → Goes (try_pin sought) pins (i + 1)
+unfolding try_pin
+pin-elsewhere sought [] i there inv a = absurd (omega arith)
+pin-elsewhere sought (p ∷ pins) i there inv a = goes-next (try_pin sought) (p ∷ pins) i p there inv (cond_no _ _ (and_left _ _ a))

@@ -1,3 +1,2 @@
--- Laws of a search, and the search as the walks have it.
+-- Laws of a search.
 pub mod Laws
-pub mod Records

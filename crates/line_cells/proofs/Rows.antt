@@ -1,4 +1,5 @@
 -- A row as words: the leftmost fault counts, which is never 0; and the words say the row.
+use Rattle.std.specs.Prelude.{Result, Ok, Err}
 use Prim.Native.Nat.{ℕ, ◌+◌, ◌≤◌, ◌<◌}
 use mathlib.Core.Path.{◌≡◌, refl, sym, ap, ◌∙◌}
 use mathlib.Core.List.{List, [], ◌∷◌}
@@ -8,7 +9,7 @@ use lib.ListN.{length, drop}
 use borrow.Author.Tests.{ne_eqb}
 use Rattle.laws.specs.Bytes.{is_blank}
 use Rattle.laws.specs.Lists.{after}
-use Rattle.laws.specs.Said.{Result, Said, says, fault, read_on}
+use Rattle.laws.specs.Said.{Said, read_on}
 use Rattle.laws.proofs.Tests.{cond_no, cond-all}
 use Rattle.decimal.specs.Decimal.{number_of, cell_of}
 use Rattle.decimal.specs.Fine.{Fine, FineNumber, FineCell, FineRead}
@@ -40,7 +41,7 @@ use Rattle.line_cells.proofs.Laws.{kept, cells_told}
 pub row_other : (w : List ℕ) (p : ℕ) → (length (words w) ≡ 4 → ⊥) → rest_from 4 w ≡ drop p w → p ≤ length w → amiss_words 10 (p + 1) ≡ row_worded (told_in w (row_of w))
 unfolding row_of
 row_other w p h e k =
-    sym (ap (λ (x : Reads Row). row_worded (told_in w x)) (exactly-no 4 _ w h ∙ ap (λ (v : List ℕ). fault (flaw 10 v)) e) ∙ ap (λ (f : LineFault). amiss_words f.number f.column) (ten-at w p k))
+    sym (ap (λ (x : Reads Row). row_worded (told_in w x)) (exactly-no 4 _ w h ∙ ap (λ (v : List ℕ). Err (flaw 10 v)) e) ∙ ap (λ (f : LineFault). amiss_words f.number f.column) (ten-at w p k))
 
 pub amiss-told : (r : RowWords) {n : ℕ} (p : ℕ) → (n ≡ 0 → ⊥) → amiss_or n p r ≡ amiss_words n (p + 1)
 amiss-told r {n} p h = cond_no _ _ (ne_eqb n 0 h)
@@ -48,21 +49,21 @@ amiss-told r {n} p h = cond_no _ _ (ne_eqb n 0 h)
 pub amiss-none : (r : RowWords) {n : ℕ} (p : ℕ) → n ≡ 0 → amiss_or n p r ≡ r
 amiss-none r p e = rw e
 
-abbrev row_by : {F : Type 0} → Result F Decimal → Result F Triple → Result F Row
-row_by n t = read_on n (λ d. read_on t (λ c. says (record { number = d; cells = c })))
+abbrev row_by : {F : Type 0} → Result Decimal F → Result Triple F → Result Row F
+row_by n t = read_on n (λ d. read_on t (λ c. Ok (record { number = d; cells = c })))
 
 module _ (p q r u : ℕ) where
   worded : (n : Said Decimal) (a b c : Said Cell) → FineNumber n → FineRead a → FineRead b → FineRead c
       → words_from (number_word n) p (cell_word a) q (cell_word b) r (cell_word c) u
       ≡ row_worded (row_by (said_there p n) (typ_min_max kept (said_there q a) (said_there r b) (said_there u c)))
   unfolding words_from
-  worded (fault k) a b c f g h i = rw (number-told (fault k) f) (amiss-told _ p (λ z. omega (arith, f.0)))
-  worded (says d) (fault k) b c f g h i = rw (number-told (says d) f, cell-told (fault k) g) (amiss-told _ q (λ z. omega (arith, g.0)))
-  worded (says d) (says x) (fault k) c f g h i = rw (number-told (says d) f, cell-told (says x) g, cell-told (fault k) h) (amiss-told _ r (λ z. omega (arith, h.0)))
-  worded (says d) (says x) (says y) (fault k) f g h i =
-      rw (number-told (says d) f, cell-told (says x) g, cell-told (says y) h, cell-told (fault k) i) (amiss-told _ u (λ z. omega (arith, i.0)))
-  worded (says d) (says x) (says y) (says z) f g h i =
-      rw (number-told (says d) f, cell-told (says x) g, cell-told (says y) h, cell-told (says z) i) refl
+  worded (Err k) a b c f g h i = rw (number-told (Err k) f) (amiss-told _ p (λ z. omega (arith, f.0)))
+  worded (Ok d) (Err k) b c f g h i = rw (number-told (Ok d) f, cell-told (Err k) g) (amiss-told _ q (λ z. omega (arith, g.0)))
+  worded (Ok d) (Ok x) (Err k) c f g h i = rw (number-told (Ok d) f, cell-told (Ok x) g, cell-told (Err k) h) (amiss-told _ r (λ z. omega (arith, h.0)))
+  worded (Ok d) (Ok x) (Ok y) (Err k) f g h i =
+      rw (number-told (Ok d) f, cell-told (Ok x) g, cell-told (Ok y) h, cell-told (Err k) i) (amiss-told _ u (λ z. omega (arith, i.0)))
+  worded (Ok d) (Ok x) (Ok y) (Ok z) f g h i =
+      rw (number-told (Ok d) f, cell-told (Ok x) g, cell-told (Ok y) h, cell-told (Ok z) i) refl
 
 -- blanks before the cells mean nothing
 cells_same : (typ : List ℕ → Said Cell) (v u : List ℕ) → words v ≡ words u → ((n : ℕ) → rest_from n v ≡ rest_from n u) → cells_by typ v ≡ cells_by typ u
@@ -78,9 +79,9 @@ unfolding pin_cells
 pin-cells-blank v = rw (words-rest 0 v, cells-blank cell_of v) refl
 
 told-by : (w : List ℕ) (n : Reads Decimal) (t : Reads Triple) → told_in w (row_by n t) ≡ row_by (told_in w n) (told_in w t)
-told-by w (says d) (says t) = refl
-told-by w (says d) (fault f) = refl
-told-by w (fault f) t = refl
+told-by w (Ok d) (Ok t) = refl
+told-by w (Ok d) (Err f) = refl
+told-by w (Err f) t = refl
 
 -- of just four words
 module _ {w : List ℕ} {a b c d : Word} (first : WordAt w 0 a) (four : words w ≡ bytes_of w a ∷ bytes_of w b ∷ bytes_of w c ∷ bytes_of w d ∷ []) (t : ThreeAre w a.end b c d) where
@@ -90,7 +91,7 @@ module _ {w : List ℕ} {a b c d : Word} (first : WordAt w 0 a) (four : words w 
   row_told =
       ap (told_in w) (exactly-yes 4 _ w (ap length four))
       ∙ told-by w (word_by number_of 0 w) (cells_by cell_of (rest_from 1 w))
-      ∙ ap (λ (n : Result LineFault Decimal). row_by n (told_in w (cells_by cell_of (rest_from 1 w)))) (word-told w 0 a first number_of (number-columns (bytes_of w a)))
+      ∙ ap (λ (n : Result Decimal LineFault). row_by n (told_in w (cells_by cell_of (rest_from 1 w)))) (word-told w 0 a first number_of (number-columns (bytes_of w a)))
       ∙ ap (λ (x : Reads Triple). row_by (said_there a.start (number_of (bytes_of w a))) (told_in w x)) (ap (cells_by cell_of) (first.next 0) ∙ cells-blank cell_of (drop a.end w))
       ∙ ap (row_by (said_there a.start (number_of (bytes_of w a)))) (cells_told cell_of cell-columns t)
 
@@ -105,18 +106,18 @@ module _ {w : List ℕ} {a b c d : Word} (first : WordAt w 0 a) (four : words w 
 -- ---- what is read is fine
 
 abbrev CellsFine : Reads Triple → Type 0
-CellsFine (says t) = FineCell t.typ
-CellsFine (fault f) = Columned f.number
+CellsFine (Ok t) = FineCell t.typ
+CellsFine (Err f) = Columned f.number
 
 abbrev RowFine : Reads Row → Type 0
-RowFine (says r) = Fine r.number × FineCell r.cells.typ
-RowFine (fault f) = Columned f.number
+RowFine (Ok r) = Fine r.number × FineCell r.cells.typ
+RowFine (Err f) = Columned f.number
 
 three-fine : (p q r : List ℕ) (a b c : Said Cell) → FineRead a → FineRead b → FineRead c → CellsFine (typ_min_max kept (said_at p a) (said_at q b) (said_at r c))
-three-fine p q r (fault n) b c f g h = (omega (arith, f.0), f.1)
-three-fine p q r (says x) (fault n) c f g h = (omega (arith, g.0), g.1)
-three-fine p q r (says x) (says y) (fault n) f g h = (omega (arith, h.0), h.1)
-three-fine p q r (says x) (says y) (says z) f g h = f
+three-fine p q r (Err n) b c f g h = (omega (arith, f.0), f.1)
+three-fine p q r (Ok x) (Err n) c f g h = (omega (arith, g.0), g.1)
+three-fine p q r (Ok x) (Ok y) (Err n) f g h = (omega (arith, h.0), h.1)
+three-fine p q r (Ok x) (Ok y) (Ok z) f g h = f
 
 cells-fine : (v : List ℕ) → CellsFine (cells_by cell_of v)
 unfolding cells_by exactly word_by
@@ -126,9 +127,9 @@ cells-fine v =
     (λ h. (omega arith, omega arith))
 
 by-fine : (p : List ℕ) (n : Said Decimal) (t : Reads Triple) → FineNumber n → CellsFine t → RowFine (row_by (said_at p n) t)
-by-fine p (fault k) t f g = (omega (arith, f.0), f.1)
-by-fine p (says d) (fault k) f g = g
-by-fine p (says d) (says t) f g = (f, g)
+by-fine p (Err k) t f g = (omega (arith, f.0), f.1)
+by-fine p (Ok d) (Err k) f g = g
+by-fine p (Ok d) (Ok t) f g = (f, g)
 
 row_fine : (w : List ℕ) → RowFine (row_of w)
 unfolding row_of exactly word_by
@@ -142,23 +143,23 @@ row_fine w =
 -- x is the row that the text w says
 pub record RowThere (w : List ℕ) (x : RowWords) : Type 0 where
   pub row : Row
-  pub said : says row ≡ row_of w
-  pub words : x ≡ row_worded (says row)
+  pub said : Ok row ≡ row_of w
+  pub words : x ≡ row_worded (Ok row)
   pub number : Fine row.number
   pub typ : FineCell row.cells.typ
 
 module _ (w : List ℕ) {x : RowWords} (e : x ≡ row_worded (told_in w (row_of w))) where
   there : (y : Reads Row) → y ≡ row_of w → RowFine y → x ≡ row_worded (told_in w y) → x.fault ≡ 0 → RowThere w x
-  there (says r) q f d z = record { row = r; said = q; words = d; number = f.0; typ = f.1 }
-  there (fault g) q f d z = absurd (omega (arith, f.0, ap (λ (v : RowWords). v.fault) d))
+  there (Ok r) q f d z = record { row = r; said = q; words = d; number = f.0; typ = f.1 }
+  there (Err g) q f d z = absurd (omega (arith, f.0, ap (λ (v : RowWords). v.fault) d))
 
   pub row-there : x.fault ≡ 0 → RowThere w x
   row-there z = there (row_of w) refl (row_fine w) e z
 
-  amiss : (y : Reads Row) → RowFine y → x ≡ row_worded (told_in w y) → (x.fault ≡ 0 → ⊥) → (fault (record { number = x.fault; column = x.column }) ≡ told_in w y) × (x.fault < 256)
-  amiss (says r) f d z = absurd (z (ap (λ (v : RowWords). v.fault) d))
-  amiss (fault g) f d z =
-      (ap (λ (v : RowWords). fault (record { number = v.fault; column = v.column })) d, omega (arith, f.1, ap (λ (v : RowWords). v.fault) d))
+  amiss : (y : Reads Row) → RowFine y → x ≡ row_worded (told_in w y) → (x.fault ≡ 0 → ⊥) → (Err (record { number = x.fault; column = x.column }) ≡ told_in w y) × (x.fault < 256)
+  amiss (Ok r) f d z = absurd (z (ap (λ (v : RowWords). v.fault) d))
+  amiss (Err g) f d z =
+      (ap (λ (v : RowWords). Err (record { number = v.fault; column = v.column })) d, omega (arith, f.1, ap (λ (v : RowWords). v.fault) d))
 
-  pub row-amiss : (x.fault ≡ 0 → ⊥) → (fault (record { number = x.fault; column = x.column }) ≡ told_in w (row_of w)) × (x.fault < 256)
+  pub row-amiss : (x.fault ≡ 0 → ⊥) → (Err (record { number = x.fault; column = x.column }) ≡ told_in w (row_of w)) × (x.fault < 256)
   row-amiss z = amiss (row_of w) (row_fine w) e z

@@ -1,6 +1,5 @@
 -- A row as the words of its cells, or its fault, as the code answers it.
-use Rattle.std.specs.Prelude.{ℕ, ◌+◌, cond, eqb}
-use Rattle.laws.specs.Said.{Result, says, fault}
+use Rattle.std.specs.Prelude.{ℕ, ◌+◌, cond, eqb, Result, Ok, Err}
 use Rattle.decimal.specs.Decimal.{word_of}
 use Rattle.decimal.specs.Answers.{fault_at}
 use Rattle.decimal.specs.declared.Cell.TheVariants.{Number}
@@ -12,10 +11,10 @@ abbrev pub amiss_words : ℕ → ℕ → RowWords
 amiss_words n column = record { number = 0; typ = 0; min = 0; max = 0; fault = n; column = column }
 
 -- no row's fault is 0
-abbrev pub row_worded : Result LineFault Row → RowWords
-row_worded (says r) =
+abbrev pub row_worded : Result Row LineFault → RowWords
+row_worded (Ok r) =
     record { number = word_of (Number r.number); typ = word_of r.cells.typ; min = word_of r.cells.min; max = word_of r.cells.max; fault = 0; column = 0 }
-row_worded (fault f) = amiss_words f.number f.column
+row_worded (Err f) = amiss_words f.number f.column
 
 -- what four answers give, each as one word with the place where it begins: the leftmost fault counts
 abbrev pub amiss_or : ℕ → ℕ → RowWords → RowWords

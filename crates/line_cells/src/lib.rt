@@ -1,35 +1,26 @@
 // Numbers and cells of a line: three cells, a table's row, a ramp's slopes, and the heading of the pins.
 #![tactic(auto)]
 
-ghost use Rattle.std.specs.Prelude.{◌≡◌, ◌≤◌, ◌<◌, ◌+◌, ◌^◌, [], length, drop, cond, eqb};
-ghost use Rattle.laws.specs.Lists.{eqs};
-ghost use Rattle.laws.specs.Said.{says, fault, fault_in, or_else, read_on};
-ghost use Rattle.decimal.specs.Decimal.{number_of, given_cell, cell_of};
-ghost use Rattle.decimal.specs.Answers.{cell_read, number_says, cell_says, number_word, cell_word};
+ghost use Rattle.std.specs.Prelude.{◌≡◌, ◌≤◌, ◌<◌, ◌+◌, ◌^◌, ℕ, List, length, drop};
+ghost use Rattle.laws.specs.Said.{Said, or_else};
+ghost use Rattle.decimal.specs.Decimal.{cell_of};
+ghost use Rattle.decimal.specs.declared.Cell.{Cell};
 ghost use Rattle.decimal.specs.declared.Cell.TheVariants.{Missing};
 ghost use Rattle.records.specs.Stored.{no_cells};
-ghost use Rattle.records.specs.Flaws.{told_in, said_there, line_fault_in};
-ghost use Rattle.line_rules.specs.Fields.{typ_min_max, three_cells, cells_by, row_of, slope_of, slope_or_missing, ratio_of, is_upward, three_slopes, heading};
-ghost use Rattle.line_rules.specs.Answers.{triple_read, slope_read, ramp_read, triple_says, line_cell_says, slope_says, ramp_says};
+ghost use Rattle.records.specs.Flaws.{told_in, said_there};
+ghost use Rattle.line_rules.specs.Fields.{three_cells, cells_by, row_of, slope_of, slope_or_missing, ratio_of, is_upward, three_slopes, heading};
 ghost use Rattle.rules.specs.Component.{pin_cells};
-ghost use Rattle.line_cells.specs.Headings.{heading_read, long_from, heading_from, cell_names};
+ghost use Rattle.line_cells.specs.Headings.{NameRead};
 ghost use Rattle.line_cells.specs.Divisors.{divided};
-ghost use Rattle.line_cells.specs.Threes.{bytes_of, Within, ThreeFrom};
+ghost use Rattle.line_cells.specs.Threes.{ThreeFrom, ThreeTold, ReadsWords, three_by};
 ghost use Rattle.line_cells.specs.Rows.{amiss_words, words_from, row_worded};
 
-use decimal::{Cell, CellRead, NumberRead};
-use line_rules::{LineCell, RampCellRead, RampRead, TripleRead};
+use decimal::{Cell, Decimal};
 use records::{LineFault, RampCell, RampTriple, Triple};
 use words::Word;
 
-// Three words that are all from a place on; or where the fourth begins, or the line ends that has fewer.
-#[derive(Clone, Copy)]
-pub enum ThreeWords {
-    Three { a: Word, b: Word, c: Word },
-    Other(usize),
-}
-
-// A row as the words of its cells, with fault 0; or its fault and the column told.
+// A row as the words of its cells, with fault 0; or its fault and the column told. It is no Result of words: this one is answered in registers, which rows
+// are counted by (README, "Where the instructions go").
 #[derive(Clone, Copy)]
 pub struct RowWords {
     pub number: u64,
@@ -40,63 +31,10 @@ pub struct RowWords {
     pub column: u64,
 }
 
-// What stands behind [Pin]: the names of a short row, of a long one, or neither.
-#[derive(Clone, Copy)]
-pub enum HeadingRead {
-    Short,
-    Long,
-    NoHeading(LineFault),
-}
+// ---- three words
 
-// ---- a word of a line
-
-fn number_word_at(w: &[u8], r: Word) -> u64
-    requires { Within w.now r }
-    ensures { result ≡ number_word (number_of (bytes_of w.now r)) }
-{
-    let start = r.start;
-    let end = r.end;
-    decimal::number_word(&w[start..end])
-}
-
-fn cell_word_at(w: &[u8], r: Word) -> u64
-    requires { Within w.now r }
-    ensures { result ≡ cell_word (cell_of (bytes_of w.now r)) }
-{
-    let start = r.start;
-    let end = r.end;
-    decimal::cell_word(&w[start..end])
-}
-
-fn given_at(w: &[u8], r: Word) -> CellRead
-    requires { Within w.now r }
-    ensures { result ≡ cell_read (given_cell (bytes_of w.now r)) }
-{
-    let start = r.start;
-    let end = r.end;
-    decimal::given_cell(&w[start..end])
-}
-
-fn cell_at(w: &[u8], r: Word) -> CellRead
-    requires { Within w.now r }
-    ensures { result ≡ cell_read (cell_of (bytes_of w.now r)) }
-{
-    let start = r.start;
-    let end = r.end;
-    decimal::cell_of(&w[start..end])
-}
-
-fn named(w: &[u8], r: Word, name: &[u8]) -> bool
-    requires { Within w.now r }
-    ensures { result ≡ eqs (bytes_of w.now r) name.now }
-{
-    let start = r.start;
-    let end = r.end;
-    words::same(&w[start..end], name)
-}
-
-// The words from a place on, if there are just three.
-fn three_in(w: &[u8], at: usize) -> ThreeWords
+// Three words that are all from a place on; else where the fourth begins, or the line ends that has fewer.
+fn three_in(w: &[u8], at: usize) -> Result<(Word, Word, Word), usize>
     requires { at ≤ length w.now }
     ensures { ThreeFrom w.now at result }
 {
@@ -104,109 +42,97 @@ fn three_in(w: &[u8], at: usize) -> ThreeWords
     let b = words::word_at(w, a.end);
     let c = words::word_at(w, b.end);
     if w.len() <= c.start {
-        return ThreeWords::Other(c.start);
+        return Err(c.start);
     }
     let fourth = words::word_at(w, c.end);
     if fourth.start < w.len() {
-        return ThreeWords::Other(fourth.start);
+        return Err(fourth.start);
     }
-    ThreeWords::Three { a: a, b: b, c: c }
+    Ok((a, b, c))
 }
 
 // The same, of a part that is the whole line: who asks keeps the line itself in registers.
-pub fn three_words(w: &[u8], at: usize) -> ThreeWords
+pub fn three_words(w: &[u8], at: usize) -> Result<(Word, Word, Word), usize>
     requires { at ≤ length w.now }
     ensures { ThreeFrom w.now at result }
 {
     three_in(&w[0..], at)
 }
 
-// ---- three cells and a table's row: the leftmost fault counts. Each word comes with the place where it begins
-
-fn with_max(typ: Cell, min: Cell, c: CellRead, third: usize) -> TripleRead
-    requires { third < 2 ^ 63 }
-    ensures { result ≡ triple_read (read_on (said_there third (cell_says c)) (λ max. says (record { typ = typ; min = min; max = max }))) }
+// The same three; where there are others, that is told.
+fn just_three(w: &[u8], at: usize) -> Result<(Word, Word, Word), LineFault>
+    requires { at ≤ length w.now }
+    ensures { ThreeTold w.now at result }
 {
-    match c {
-        CellRead::Bad(fault) => TripleRead::Flawed(records::at_fault(fault, third)),
-        CellRead::Read(max) => TripleRead::Cells(Triple {
-            typ: typ,
-            min: min,
-            max: max,
-        }),
-    }
+    three_words(w, at).map_err(|place| records::at_fault(10, place))
 }
 
-fn with_min(typ: Cell, b: CellRead, second: usize, c: CellRead, third: usize) -> TripleRead
-    requires { (second < 2 ^ 63) × (third < 2 ^ 63) }
-    ensures { result ≡ triple_read (read_on (said_there second (cell_says b)) (λ min. read_on (said_there third (cell_says c)) (λ max. says (record { typ = typ; min = min; max = max })))) }
+// What a word says; a fault of it is told at the place where it begins.
+fn told_at<T: Copy>(said: Result<T, u8>, place: usize) -> Result<T, LineFault>
+    requires { place < 2 ^ 63 }
+    ensures { result ≡ said_there place said }
 {
-    match b {
-        CellRead::Bad(fault) => TripleRead::Flawed(records::at_fault(fault, second)),
-        CellRead::Read(min) => with_max(typ, min, c, third),
-    }
+    said.map_err(|fault| records::at_fault(fault, place))
 }
 
-fn cells_from(
-    a: CellRead,
-    first: usize,
-    b: CellRead,
-    second: usize,
-    c: CellRead,
-    third: usize,
-) -> TripleRead
-    requires { (first < 2 ^ 63) × ((second < 2 ^ 63) × (third < 2 ^ 63)) }
-    ensures { result ≡ triple_read (typ_min_max (λ typ min max. record { typ = typ; min = min; max = max }) (said_there first (cell_says a)) (said_there second (cell_says b)) (said_there third (cell_says c))) }
+// Three words and no more, from a place on: the first is read by one function and the others by another. The leftmost fault counts.
+fn three_by<T: Copy, F: Fn(&[u8]) -> Result<T, u8>, G: Fn(&[u8]) -> Result<T, u8>>(
+    w: &[u8],
+    at: usize,
+    first: F,
+    others: G,
+) -> Result<(T, T, T), LineFault>
+    requires at_in_bounds { at ≤ length w.now }
+    requires first_callable { F.IsAlwaysCallable first }
+    requires others_callable { G.IsAlwaysCallable others }
+    ensures { (p q : List ℕ → Said T) → ReadsWords F.Fn first w.now p → ReadsWords G.Fn others w.now q → result ≡ told_in w.now (three_by p q (drop at w.now)) }
 {
-    match a {
-        CellRead::Bad(fault) => TripleRead::Flawed(records::at_fault(fault, first)),
-        CellRead::Read(typ) => with_min(typ, b, second, c, third),
-    }
+    let (a, b, c) = just_three(w, at)?;
+    let typ = told_at(first(a.of(w)), a.start)?;
+    let min = told_at(others(b.of(w)), b.start)?;
+    let max = told_at(others(c.of(w)), c.start)?;
+    Ok((typ, min, max))
+}
+
+// ---- three cells and a table's row
+
+// Three words and no more, from a place on: three cells, of which the first is read by this function.
+fn cells_by<F: Fn(&[u8]) -> Result<Cell, u8>>(
+    w: &[u8],
+    at: usize,
+    read: F,
+) -> Result<Triple, LineFault>
+    requires at_in_bounds { at ≤ length w.now }
+    requires callable { F.IsAlwaysCallable read }
+    ensures { (p : List ℕ → Said Cell) → ReadsWords F.Fn read w.now p → result ≡ told_in w.now (cells_by p (drop at w.now)) }
+{
+    let (typ, min, max) = three_by(w, at, read, decimal::cell_of)?;
+    Ok(Triple { typ, min, max })
 }
 
 // Three words and no more, from a place on: a number and two cells.
-pub fn three_cells(w: &[u8], at: usize) -> TripleRead
+pub fn three_cells(w: &[u8], at: usize) -> Result<Triple, LineFault>
     requires { at ≤ length w.now }
-    ensures { result ≡ triple_read (told_in w.now (three_cells (drop at w.now))) }
+    ensures { result ≡ told_in w.now (three_cells (drop at w.now)) }
 {
-    match three_words(w, at) {
-        ThreeWords::Three { a, b, c } => cells_from(
-            given_at(w, a),
-            a.start,
-            cell_at(w, b),
-            b.start,
-            cell_at(w, c),
-            c.start,
-        ),
-        ThreeWords::Other(place) => TripleRead::Flawed(records::at_fault(10, place)),
-    }
+    cells_by(w, at, decimal::given_cell)
 }
 
 // Three words and no more, from a place on: three cells, of which typ may be missing too.
-pub fn any_cells(w: &[u8], at: usize) -> TripleRead
+pub fn any_cells(w: &[u8], at: usize) -> Result<Triple, LineFault>
     requires { at ≤ length w.now }
-    ensures { result ≡ triple_read (told_in w.now (cells_by cell_of (drop at w.now))) }
+    ensures { result ≡ told_in w.now (cells_by cell_of (drop at w.now)) }
 {
-    match three_words(w, at) {
-        ThreeWords::Three { a, b, c } => cells_from(
-            cell_at(w, a),
-            a.start,
-            cell_at(w, b),
-            b.start,
-            cell_at(w, c),
-            c.start,
-        ),
-        ThreeWords::Other(place) => TripleRead::Flawed(records::at_fault(10, place)),
-    }
+    cells_by(w, at, decimal::cell_of)
 }
 
 // A pin row's cells, from a place on: three words and no more, or nothing, and then they are missing.
-pub fn pin_cells(w: &[u8], at: usize) -> TripleRead
+pub fn pin_cells(w: &[u8], at: usize) -> Result<Triple, LineFault>
     requires { at ≤ length w.now }
-    ensures { result ≡ triple_read (told_in w.now (pin_cells (drop at w.now))) }
+    ensures { result ≡ told_in w.now (pin_cells (drop at w.now)) }
 {
     if w.len() <= words::skip_blanks(w, at) {
-        return TripleRead::Cells(records::no_cells());
+        return Ok(records::no_cells());
     }
     any_cells(w, at)
 }
@@ -220,8 +146,8 @@ pub fn amiss(fault: u64, column: u64) -> RowWords
         typ: 0,
         min: 0,
         max: 0,
-        fault: fault,
-        column: column,
+        fault,
+        column,
     }
 }
 
@@ -234,6 +160,7 @@ fn amiss_at(fault: u64, place: usize) -> RowWords
 }
 
 // A row of four answers, each with the place of its word: the leftmost fault counts.
+#[tactic(auto, unfolding(crate::specs::Rows::words_from))]
 fn row_from(
     number: u64,
     first: usize,
@@ -264,10 +191,10 @@ fn row_from(
         return amiss_at(of_max, fourth);
     }
     RowWords {
-        number: number,
-        typ: typ,
-        min: min,
-        max: max,
+        number,
+        typ,
+        min,
+        max,
         fault: 0,
         column: 0,
     }
@@ -289,60 +216,39 @@ pub fn row_words(w: &[u8]) -> RowWords
         return amiss_at(10, fifth.start);
     }
     row_from(
-        number_word_at(w, a),
+        decimal::number_word(a.of(w)),
         a.start,
-        cell_word_at(w, b),
+        decimal::cell_word(b.of(w)),
         b.start,
-        cell_word_at(w, c),
+        decimal::cell_word(c.of(w)),
         c.start,
-        cell_word_at(w, d),
+        decimal::cell_word(d.of(w)),
         d.start,
     )
 }
 
 // ---- a ramp's slopes
 
-// The first number has fault n: 11 of either counts before 12 of either.
-fn two_faults(n: u8, b: NumberRead) -> RampCellRead
-    ensures { result ≡ slope_read (fault (cond (eqb (fault_in (number_says b)) 11) 11 n)) }
+// Of two faults 11 counts before 12, else the first one.
+fn ratio_of(a: Result<Decimal, u8>, b: Result<Decimal, u8>) -> Result<RampCell, u8>
+    ensures { result ≡ ratio_of a b }
 {
-    match b {
-        NumberRead::Wrong(second) => {
-            if second == 11 {
-                return RampCellRead::Faulted(11);
-            }
-            RampCellRead::Faulted(n)
-        }
-        NumberRead::Value(_) => RampCellRead::Faulted(n),
-    }
-}
-
-fn ratio_of(a: NumberRead, b: NumberRead) -> RampCellRead
-    ensures { result ≡ slope_read (ratio_of (number_says a) (number_says b)) }
-{
-    match a {
-        NumberRead::Wrong(fault) => two_faults(fault, b),
-        NumberRead::Value(dividend) => match b {
-            NumberRead::Wrong(fault) => RampCellRead::Faulted(fault),
-            NumberRead::Value(divisor) => RampCellRead::Slope(RampCell::Ratio {
-                dividend: dividend,
-                divisor: divisor,
-            }),
-        },
-    }
+    let dividend = a.map_err(|fault| if matches!(b, Err(11)) { 11 } else { fault })?;
+    let divisor = b?;
+    Ok(RampCell::Ratio { dividend, divisor })
 }
 
 // A word of two numbers with one slash between.
-pub fn slope_of(w: &[u8]) -> RampCellRead
-    ensures { result ≡ slope_read (slope_of w.now) }
+pub fn slope_of(w: &[u8]) -> Result<RampCell, u8>
+    ensures { result ≡ slope_of w.now }
 {
     let slash = words::find(w, 0, b'/');
     if w.len() <= slash {
-        return RampCellRead::Faulted(11);
+        return Err(11);
     }
     let behind = slash + 1;
     if words::find(w, behind, b'/') < w.len() {
-        return RampCellRead::Faulted(11);
+        return Err(11);
     }
     ratio_of(
         decimal::number_of(&w[..slash]),
@@ -351,31 +257,14 @@ pub fn slope_of(w: &[u8]) -> RampCellRead
 }
 
 // The same, or NA.
-pub fn slope_or_missing(w: &[u8]) -> RampCellRead
-    ensures { result ≡ slope_read (slope_or_missing w.now) }
+#[tactic(auto, unfolding(line_rules::specs::Fields::slope_or_missing, decimal::specs::Decimal::is_missing))]
+pub fn slope_or_missing(w: &[u8]) -> Result<RampCell, u8>
+    ensures { result ≡ slope_or_missing w.now }
 {
     if words::same_capitals(w, b"NA") {
-        return RampCellRead::Slope(RampCell::Absent);
+        return Ok(RampCell::Absent);
     }
     slope_of(w)
-}
-
-fn slope_at(w: &[u8], r: Word) -> RampCellRead
-    requires { Within w.now r }
-    ensures { result ≡ slope_read (slope_of (bytes_of w.now r)) }
-{
-    let start = r.start;
-    let end = r.end;
-    slope_of(&w[start..end])
-}
-
-fn slope_or_missing_at(w: &[u8], r: Word) -> RampCellRead
-    requires { Within w.now r }
-    ensures { result ≡ slope_read (slope_or_missing (bytes_of w.now r)) }
-{
-    let start = r.start;
-    let end = r.end;
-    slope_or_missing(&w[start..end])
 }
 
 fn is_upward(c: RampCell) -> bool
@@ -388,184 +277,71 @@ fn is_upward(c: RampCell) -> bool
 }
 
 // A divisor that is not above zero is told after what is wrong with the words.
-fn upward(typ: RampCell, min: RampCell, max: RampCell) -> RampRead
-    ensures { result ≡ ramp_read (divided (record { typ = typ; min = min; max = max })) }
+#[tactic(auto, unfolding(crate::specs::Divisors::divided))]
+fn upward(t: RampTriple) -> Result<RampTriple, LineFault>
+    ensures { result ≡ divided t }
 {
-    if !is_upward(typ) {
-        return RampRead::Refused(records::bare_fault(13));
+    if is_upward(t.typ) && is_upward(t.min) && is_upward(t.max) {
+        return Ok(t);
     }
-    if !is_upward(min) {
-        return RampRead::Refused(records::bare_fault(13));
-    }
-    if !is_upward(max) {
-        return RampRead::Refused(records::bare_fault(13));
-    }
-    RampRead::Slopes(RampTriple {
-        typ: typ,
-        min: min,
-        max: max,
-    })
-}
-
-fn slopes_max(typ: RampCell, min: RampCell, c: RampCellRead, third: usize) -> RampRead
-    requires { third < 2 ^ 63 }
-    ensures { result ≡ ramp_read (read_on (said_there third (slope_says c)) (λ max. divided (record { typ = typ; min = min; max = max }))) }
-{
-    match c {
-        RampCellRead::Faulted(fault) => RampRead::Refused(records::at_fault(fault, third)),
-        RampCellRead::Slope(max) => upward(typ, min, max),
-    }
-}
-
-fn slopes_min(
-    typ: RampCell,
-    b: RampCellRead,
-    second: usize,
-    c: RampCellRead,
-    third: usize,
-) -> RampRead
-    requires { (second < 2 ^ 63) × (third < 2 ^ 63) }
-    ensures { result ≡ ramp_read (read_on (said_there second (slope_says b)) (λ min. read_on (said_there third (slope_says c)) (λ max. divided (record { typ = typ; min = min; max = max })))) }
-{
-    match b {
-        RampCellRead::Faulted(fault) => RampRead::Refused(records::at_fault(fault, second)),
-        RampCellRead::Slope(min) => slopes_max(typ, min, c, third),
-    }
-}
-
-fn slopes_typ(
-    a: RampCellRead,
-    first: usize,
-    b: RampCellRead,
-    second: usize,
-    c: RampCellRead,
-    third: usize,
-) -> RampRead
-    requires { (first < 2 ^ 63) × ((second < 2 ^ 63) × (third < 2 ^ 63)) }
-    ensures { result ≡ ramp_read (read_on (said_there first (slope_says a)) (λ typ. read_on (said_there second (slope_says b)) (λ min. read_on (said_there third (slope_says c)) (λ max. divided (record { typ = typ; min = min; max = max }))))) }
-{
-    match a {
-        RampCellRead::Faulted(fault) => RampRead::Refused(records::at_fault(fault, first)),
-        RampCellRead::Slope(typ) => slopes_min(typ, b, second, c, third),
-    }
+    Err(records::bare_fault(13))
 }
 
 // Three words and no more, from a place on: a slope and two that may be missing.
-pub fn three_slopes(w: &[u8], at: usize) -> RampRead
+pub fn three_slopes(w: &[u8], at: usize) -> Result<RampTriple, LineFault>
     requires { at ≤ length w.now }
-    ensures { result ≡ ramp_read (told_in w.now (three_slopes (drop at w.now))) }
+    ensures { result ≡ told_in w.now (three_slopes (drop at w.now)) }
 {
-    match three_words(w, at) {
-        ThreeWords::Three { a, b, c } => slopes_typ(
-            slope_at(w, a),
-            a.start,
-            slope_or_missing_at(w, b),
-            b.start,
-            slope_or_missing_at(w, c),
-            c.start,
-        ),
-        ThreeWords::Other(place) => RampRead::Refused(records::at_fault(10, place)),
-    }
-}
-
-// ---- the fault of what is read
-
-pub fn cell_fault(r: LineCell) -> LineFault
-    ensures { result ≡ line_fault_in (line_cell_says r) }
-{
-    match r {
-        LineCell::Stated(_) => records::bare_fault(0),
-        LineCell::Misstated(fault) => fault,
-    }
-}
-
-pub fn triple_fault(r: TripleRead) -> LineFault
-    ensures { result ≡ line_fault_in (triple_says r) }
-{
-    match r {
-        TripleRead::Cells(_) => records::bare_fault(0),
-        TripleRead::Flawed(fault) => fault,
-    }
-}
-
-pub fn ramp_fault(r: RampRead) -> LineFault
-    ensures { result ≡ line_fault_in (ramp_says r) }
-{
-    match r {
-        RampRead::Slopes(_) => records::bare_fault(0),
-        RampRead::Refused(fault) => fault,
-    }
+    let (typ, min, max) = three_by(w, at, slope_of, slope_or_missing)?;
+    upward(RampTriple { typ, min, max })
 }
 
 // ---- the heading of the pins
 
-// Behind the long heading's last name: nothing.
-fn end_of(w: &[u8], at: usize) -> HeadingRead
-    requires { at ≤ length w.now }
-    ensures { result ≡ heading_read (told_in w.now (long_from [] (drop at w.now))) }
+// Where the word ends that stands from a place on, if it is this name.
+fn behind_name(w: &[u8], at: usize, name: &[u8]) -> Result<usize, LineFault>
+    requires at_in_bounds { at ≤ length w.now }
+    requires is_name { 0 < length name.now }
+    ensures { NameRead w.now at name.now result }
 {
-    let more = words::word_at(w, at);
-    if more.start < w.len() {
-        return HeadingRead::NoHeading(records::at_fault(10, more.start));
+    let word = words::word_at(w, at);
+    if words::same(word.of(w), name) {
+        return Ok(word.end);
     }
-    HeadingRead::Long
+    Err(records::at_fault(10, word.start))
 }
 
-// Behind the first two names: nothing, or the names of three cells.
-fn rest_of(w: &[u8], at: usize) -> HeadingRead
+// What the words from a place on say, behind [Pin]: the short heading's two names, and nothing or the names of three cells.
+pub fn heading_of(w: &[u8], at: usize) -> Result<bool, LineFault>
     requires { at ≤ length w.now }
-    ensures { result ≡ heading_read (told_in w.now (heading_from [] cell_names (drop at w.now))) }
+    ensures { result ≡ told_in w.now (heading (drop at w.now)) }
 {
-    let a = words::word_at(w, at);
-    if w.len() <= a.start {
-        return HeadingRead::Short;
+    let signal = behind_name(w, at, b"signal_name")?;
+    let model = behind_name(w, signal, b"model_name")?;
+    let more = words::word_at(w, model);
+    if w.len() <= more.start {
+        return Ok(false);
     }
-    if !named(w, a, b"R_pin") {
-        return HeadingRead::NoHeading(records::at_fault(10, a.start));
+    let resistance = behind_name(w, model, b"R_pin")?;
+    let inductance = behind_name(w, resistance, b"L_pin")?;
+    let capacitance = behind_name(w, inductance, b"C_pin")?;
+    let surplus = words::word_at(w, capacitance);
+    if surplus.start < w.len() {
+        return Err(records::at_fault(10, surplus.start));
     }
-    let b = words::word_at(w, a.end);
-    if !named(w, b, b"L_pin") {
-        return HeadingRead::NoHeading(records::at_fault(10, b.start));
-    }
-    let c = words::word_at(w, b.end);
-    if !named(w, c, b"C_pin") {
-        return HeadingRead::NoHeading(records::at_fault(10, c.start));
-    }
-    end_of(w, c.end)
-}
-
-// What the words from a place on say, behind [Pin].
-pub fn heading_of(w: &[u8], at: usize) -> HeadingRead
-    requires { at ≤ length w.now }
-    ensures { result ≡ heading_read (told_in w.now (heading (drop at w.now))) }
-{
-    let a = words::word_at(w, at);
-    if !named(w, a, b"signal_name") {
-        return HeadingRead::NoHeading(records::at_fault(10, a.start));
-    }
-    let b = words::word_at(w, a.end);
-    if !named(w, b, b"model_name") {
-        return HeadingRead::NoHeading(records::at_fault(10, b.start));
-    }
-    rest_of(w, b.end)
+    Ok(true)
 }
 
 // ---- what a line that has passed its checks gives; missing stays missing
 
-pub fn cell_is(r: LineCell) -> Cell
-    ensures { result ≡ or_else Missing (line_cell_says r) }
+pub fn cell_is(r: Result<Cell, LineFault>) -> Cell
+    ensures { result ≡ or_else Missing r }
 {
-    match r {
-        LineCell::Stated(c) => c,
-        LineCell::Misstated(_) => Cell::Missing,
-    }
+    r.unwrap_or(Cell::Missing)
 }
 
-pub fn triple_is(r: TripleRead) -> Triple
-    ensures { result ≡ or_else no_cells (triple_says r) }
+pub fn triple_is(r: Result<Triple, LineFault>) -> Triple
+    ensures { result ≡ or_else no_cells r }
 {
-    match r {
-        TripleRead::Cells(t) => t,
-        TripleRead::Flawed(_) => records::no_cells(),
-    }
+    r.unwrap_or(records::no_cells())
 }

@@ -1,4 +1,5 @@
 -- Laws on a line's fault by its place, and on what must not be there.
+use Rattle.std.specs.Prelude.{Some}
 use Prim.Native.Nat.{ℕ, zero, suc, ◌≤◌}
 use Prim.Native.String.{String}
 use mathlib.Core.Path.{◌≡◌, refl, ap, ap₂, ◌∙◌}
@@ -12,7 +13,6 @@ use Rattle.laws.specs.Lists.{eqs, one_of}
 use Rattle.records.specs.Flaws.{Flaw}
 use Rattle.words.specs.Words.{words, grown, onto_word}
 use Rattle.name_table.specs.Names.{place_from}
-use Rattle.name_table.specs.declared.Found.TheVariants.{At}
 use Rattle.keywords.specs.declared.CurrentTable.{CurrentTable}
 use Rattle.keywords.specs.declared.CurrentTable.TheVariants.{Pulldown, Pullup, GndClamp, PowerClamp}
 use Rattle.keywords.specs.declared.ModelPart.TheVariants.{Current}
@@ -56,13 +56,13 @@ by_place_lem (suc (suc (suc (suc (suc (suc (suc (suc n)))))))) a b c d e = past-
 
 -- where a name stands among the first lines
 abbrev Stands : String → ℕ → Type 0
-Stands name k = place_from 0 (bytes name) (words (bytes model_lines)) ≡ At k
+Stands name k = place_from 0 (bytes name) (words (bytes model_lines)) ≡ Some k
 
 part-places : Stands "C_comp" 3 × Stands "C_comp_pullup" 4 × Stands "C_comp_pulldown" 5 × Stands "C_comp_power_clamp" 6 × Stands "C_comp_gnd_clamp" 7
 unfolding place_from words grown onto_word is_blank eqs
 part-places = (refl, refl, refl, refl, refl)
 
-module _ (n : ℕ) (w : List ℕ) (e : line_at model_lines w ≡ At n) where
+module _ (n : ℕ) (w : List ℕ) (e : line_at model_lines w ≡ Some n) where
   parts-named : one_of (name_of w) (words (bytes capacitances)) ≡ is_part n
   unfolding one_of words grown onto_word is_blank is_named
   parts-named =
@@ -85,7 +85,7 @@ module _ (n : ℕ) (w : List ℕ) (e : line_at model_lines w ≡ At n) where
 
 -- ---- a ramp's lines
 
-pub ramp-named : (n : ℕ) (w : List ℕ) → line_at ramp_lines w ≡ At n → ramp_at n w ≡ ramp_flaw w
+pub ramp-named : (n : ℕ) (w : List ℕ) → line_at ramp_lines w ≡ Some n → ramp_at n w ≡ ramp_flaw w
 unfolding ramp_at ramp_flaw place_from words grown onto_word is_blank eqs
 ramp-named n w e = rw (named-at ramp_lines "R_load" w n 2 e refl)
 

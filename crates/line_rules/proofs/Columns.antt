@@ -1,13 +1,13 @@
 -- Every fault of a word is 10, 11 or 12, so a column is told of it.
+use Rattle.std.specs.Prelude.{Ok, Err, Option, None, Some}
 use Prim.Native.Nat.{ℕ}
 use Prim.Native.Char.{code}
 use mathlib.Core.List.{List, [], ◌∷◌}
 use mathlib.Core.Bool.{Bool}
-use mathlib.Core.Option.{Option, none, some}
 use native.Mathlib.Omega.{arith}
 use lib.Dec.{eqb}
 use Rattle.laws.specs.Lists.{front, after, among, other}
-use Rattle.laws.specs.Said.{Said, says, fault, fault_in, or_fault}
+use Rattle.laws.specs.Said.{Said, fault_in, or_fault}
 use Rattle.laws.proofs.Tests.{cond-all}
 use Rattle.decimal.specs.Decimal.{number_of, given_cell, cell_of, is_missing}
 use Rattle.decimal.specs.Fine.{FineNumber, FineRead}
@@ -18,12 +18,12 @@ use Rattle.records.proofs.Columns.{Columned, Columns}
 use Rattle.line_rules.specs.Fields.{passing, ratio_of, slope_from, slope_of, slope_or_missing}
 
 fine-number : (r : Said Decimal) → FineNumber r → Columns r
-fine-number (says d) h = tt
-fine-number (fault n) h = (omega (arith, h.0), h.1)
+fine-number (Ok d) h = tt
+fine-number (Err n) h = (omega (arith, h.0), h.1)
 
 fine-cell : (r : Said Cell) → FineRead r → Columns r
-fine-cell (says c) h = tt
-fine-cell (fault n) h = (omega (arith, h.0), h.1)
+fine-cell (Ok c) h = tt
+fine-cell (Err n) h = (omega (arith, h.0), h.1)
 
 pub number-columns : (w : List ℕ) → Columns (number_of w)
 number-columns w = fine-number (number_of w) (number-fine w)
@@ -36,24 +36,24 @@ cell-columns w = fine-cell (cell_of w) (cell-fine w)
 
 pub passing-columns : (p : List ℕ → Bool) (w : List ℕ) → Columns (passing p w)
 unfolding passing
-passing-columns p w = cond-all Columns (p w) (says w) (fault 10) (λ h. tt) (λ h. (omega arith, omega arith))
+passing-columns p w = cond-all Columns (p w) (Ok w) (Err 10) (λ h. tt) (λ h. (omega arith, omega arith))
 
 pub or-columns : {A : Type 0} (o : Option A) → Columns (or_fault 10 o)
-or-columns none = (omega arith, omega arith)
-or-columns (some a) = tt
+or-columns None = (omega arith, omega arith)
+or-columns (Some a) = tt
 
 -- ---- a ramp's words
 
 ratio-columns : (a b : Said Decimal) → Columns a → Columns b → Columns (ratio_of a b)
-ratio-columns (says d) (says e) h k = tt
-ratio-columns (says d) (fault n) h k = k
-ratio-columns (fault n) b h k = cond-all Columned (eqb (fault_in b) 11) 11 n (λ e. (omega arith, omega arith)) (λ e. h)
+ratio-columns (Ok d) (Ok e) h k = tt
+ratio-columns (Ok d) (Err n) h k = k
+ratio-columns (Err n) b h k = cond-all Columned (eqb (fault_in b) 11) 11 n (λ e. (omega arith, omega arith)) (λ e. h)
 
 from-columns : (before behind : List ℕ) → Columns (slope_from before behind)
 unfolding slope_from
 from-columns before [] = (omega arith, omega arith)
 from-columns before (slash ∷ behind) =
-    cond-all Columns (among (code "/") behind) (fault 11) _ (λ h. (omega arith, omega arith))
+    cond-all Columns (among (code "/") behind) (Err 11) _ (λ h. (omega arith, omega arith))
     (λ h. ratio-columns (number_of before) (number_of behind) (number-columns before) (number-columns behind))
 
 pub slope-columns : (w : List ℕ) → Columns (slope_of w)

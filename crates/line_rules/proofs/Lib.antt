@@ -1,8 +1,8 @@
 -- What the definitions must keep, and what the code's answers say.
 pub mod Sanity
-pub mod Answers
 pub mod Places
 pub mod Says
 pub mod Columns
 pub mod Told
 pub mod Alike
+pub mod Fair

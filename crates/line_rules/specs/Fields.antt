@@ -1,17 +1,16 @@
 -- What stands on a line: names, cells, numbers behind `=`, rows and slopes. Each says its value, or has a fault of document 01's numbers; a word's
 -- fault is a number, a line's a number and where, said by the rest of the line from there on.
-use Rattle.std.specs.Prelude.{ℕ, List, [], ◌∷◌, map, Bool, true, false, cond, not, ◌&&◌, ◌||◌, length, drop, eqb, leb}
+use Rattle.std.specs.Prelude.{ℕ, List, [], ◌∷◌, map, Bool, true, false, cond, not, ◌&&◌, ◌||◌, length, drop, eqb, leb, Result, Ok, Err, Option}
 use Prim.Native.Char.{code}
 use Prim.Native.String.{String}
 use Rattle.laws.specs.Bytes.{bytes, is_blank, is_digit, is_small, capital}
 use Rattle.laws.specs.Lists.{front, after, begins, among, other, eqs, one_of}
-use Rattle.laws.specs.Said.{Result, Said, says, fault, fault_in, or_else, read_on, or_fault}
+use Rattle.laws.specs.Said.{Said, fault_in, or_else, read_on, or_fault}
 use Rattle.decimal.specs.Decimal.{number_of, given_cell, cell_of, is_missing, above_zero}
 use Rattle.decimal.specs.declared.Decimal.{Decimal}
 use Rattle.decimal.specs.declared.Cell.{Cell}
 use Rattle.words.specs.Words.{word, words, rest_from}
 use Rattle.name_table.specs.Names.{Naming, meaning, place_from}
-use Rattle.name_table.specs.declared.Found.{Found}
 use Rattle.records.specs.Flaws.{Flaw, Reads, sound, flaw, said_at}
 use Rattle.records.specs.declared.Triple.{Triple}
 use Rattle.records.specs.declared.Range.{Range}
@@ -67,11 +66,11 @@ word_by read n v = said_at (rest_from n v) (read (word n (words v)))
 
 -- just n words; another count is 10, told at the first that is too many, or behind the last where one is missing
 unfoldable pub exactly : {A : Type 0} → ℕ → Reads A → List ℕ → Reads A
-exactly n said v = cond (eqb (length (words v)) n) said (fault (flaw 10 (rest_from n v)))
+exactly n said v = cond (eqb (length (words v)) n) said (Err (flaw 10 (rest_from n v)))
 
 -- what was read, if nothing is left; what is left is at fault
 unfoldable pub ended : {A : Type 0} → A → List ℕ → Reads A
-ended a rest = cond (eqb (length rest) 0) (says a) (fault (flaw 10 rest))
+ended a rest = cond (eqb (length rest) 0) (Ok a) (Err (flaw 10 rest))
 
 -- the first word, read so, and none behind it: what is wrong with the word stands left of what is too many
 unfoldable pub alone : {A : Type 0} → (List ℕ → Said A) → List ℕ → Reads A
@@ -79,7 +78,7 @@ alone read v = read_on (word_by read 0 v) (λ a. ended a (rest_from 1 v))
 
 -- a word that passes the test; another is 10
 unfoldable pub passing : (List ℕ → Bool) → List ℕ → Said (List ℕ)
-passing p w = cond (p w) (says w) (fault 10)
+passing p w = cond (p w) (Ok w) (Err 10)
 
 -- what a word means in a table; one that is none of the table's is 10
 unfoldable pub word_in : {A : Type 0} → List (Naming A) → List ℕ → Said A
@@ -92,8 +91,8 @@ no_argument v = cond (eqb (length v) 0) sound (flaw 10 v)
 -- ---- cells and rows
 
 -- "typ min max": the leftmost fault counts
-abbrev pub typ_min_max : {F A B : Type 0} → (A → A → A → B) → Result F A → Result F A → Result F A → Result F B
-typ_min_max kept typ min max = read_on typ (λ a. read_on min (λ b. read_on max (λ c. says (kept a b c))))
+abbrev pub typ_min_max : {F A B : Type 0} → (A → A → A → B) → Result A F → Result A F → Result A F → Result B F
+typ_min_max kept typ min max = read_on typ (λ a. read_on min (λ b. read_on max (λ c. Ok (kept a b c))))
 
 -- three cells, of which typ is read by `typ`
 unfoldable pub cells_by : (List ℕ → Said Cell) → List ℕ → Reads Triple
@@ -106,25 +105,25 @@ three_cells v = cells_by given_cell v
 -- "A row is a number and three cells"; inside a table typ may be missing
 unfoldable pub row_of : List ℕ → Reads Row
 row_of w =
-    exactly 4 (read_on (word_by number_of 0 w) (λ d. read_on (cells_by cell_of (rest_from 1 w)) (λ c. says (record { number = d; cells = c })))) w
+    exactly 4 (read_on (word_by number_of 0 w) (λ d. read_on (cells_by cell_of (rest_from 1 w)) (λ c. Ok (record { number = d; cells = c })))) w
 
 -- ---- a ramp's cells: "each one word of two numbers with one `/` between (else 11), the second above zero, or NA for min and max"
 
 -- the word is the unit: 11 of either number before 12 of either
 abbrev pub ratio_of : Said Decimal → Said Decimal → Said RampCell
-ratio_of (says d) b = read_on b (λ e. says (Ratio d e))
-ratio_of (fault n) b = fault (cond (eqb (fault_in b) 11) 11 n)
+ratio_of (Ok d) b = read_on b (λ e. Ok (Ratio d e))
+ratio_of (Err n) b = Err (cond (eqb (fault_in b) 11) 11 n)
 
 unfoldable pub slope_from : List ℕ → List ℕ → Said RampCell
-slope_from before [] = fault 11
+slope_from before [] = Err 11
 slope_from before (slash ∷ behind) =
-    cond (among (code "/") behind) (fault 11) (ratio_of (number_of before) (number_of behind))
+    cond (among (code "/") behind) (Err 11) (ratio_of (number_of before) (number_of behind))
 
 unfoldable pub slope_of : List ℕ → Said RampCell
 slope_of w = slope_from (front (other (code "/")) w) (after (other (code "/")) w)
 
 unfoldable pub slope_or_missing : List ℕ → Said RampCell
-slope_or_missing w = cond (is_missing w) (says Absent) (slope_of w)
+slope_or_missing w = cond (is_missing w) (Ok Absent) (slope_of w)
 
 -- 13: a divisor that is not above zero, told after 11 and 12 of all words, and with no column
 abbrev pub is_upward : RampCell → Bool
@@ -132,7 +131,7 @@ is_upward (Ratio d e) = above_zero e
 is_upward Absent = true
 
 unfoldable pub upward : RampTriple → Reads RampTriple
-upward t = cond (is_upward t.typ && (is_upward t.min && is_upward t.max)) (says t) (fault (flaw 13 []))
+upward t = cond (is_upward t.typ && (is_upward t.min && is_upward t.max)) (Ok t) (Err (flaw 13 []))
 
 unfoldable pub three_slopes : List ℕ → Reads RampTriple
 three_slopes v =
@@ -147,7 +146,7 @@ unfoldable pub is_named : String → List ℕ → Bool
 is_named name w = eqs (name_of w) (bytes name)
 
 -- the place of a line's name among the names that may stand there, which a text lists with a blank between
-unfoldable pub line_at : String → List ℕ → Found
+unfoldable pub line_at : String → List ℕ → Option ℕ
 line_at table w = place_from 0 (name_of w) (words (bytes table))
 
 -- what follows the name
@@ -156,7 +155,7 @@ after_name w = drop (length (name_of w)) (after is_blank w)
 
 -- the name is a word, and others follow: "=" right behind it is at fault itself
 unfoldable pub behind_name : {A : Type 0} → (List ℕ → Reads A) → List ℕ → Reads A
-behind_name read w = cond (begins (code "=") (after_name w)) (fault (flaw 10 (after_name w))) (read (after_name w))
+behind_name read w = cond (begins (code "=") (after_name w)) (Err (flaw 10 (after_name w))) (read (after_name w))
 
 -- a name and a word of a table; a name and three cells; a name and three of a ramp's cells
 unfoldable pub word_line : {A : Type 0} → List (Naming A) → List ℕ → Reads A
@@ -167,14 +166,14 @@ cells_line w = behind_name three_cells w
 
 -- the same, where it may be absent as a whole
 unfoldable pub group_line : List ℕ → Reads Range
-group_line w = read_on (cells_line w) (λ c. says (record { given = true; cells = c }))
+group_line w = read_on (cells_line w) (λ c. Ok (record { given = true; cells = c }))
 
 unfoldable pub slopes_line : List ℕ → Reads RampTriple
 slopes_line w = behind_name three_slopes w
 
 -- "name, `=`, number, blanks free around it": behind `=` stands just one word; what stands where `=` must is at fault
 unfoldable pub behind_equals : List ℕ → Reads Cell
-behind_equals v = cond (begins (code "=") v) (exactly 1 (word_by given_cell 0 (drop 1 v)) (drop 1 v)) (fault (flaw 10 v))
+behind_equals v = cond (begins (code "=") v) (exactly 1 (word_by given_cell 0 (drop 1 v)) (drop 1 v)) (Err (flaw 10 v))
 
 unfoldable pub number_line : List ℕ → Reads Cell
 number_line w = behind_equals (after is_blank (after_name w))
@@ -207,5 +206,5 @@ differing (n ∷ ns) v = cond (eqs (word 0 (words v)) n) (differing ns (rest_fro
 -- whether it is the long one; else told is what differs from the long one
 unfoldable pub heading : List ℕ → Reads Bool
 heading v =
-    cond (same_words (words v) (words (bytes "signal_name model_name"))) (says false)
-    (cond (same_words (words v) long_heading) (says true) (fault (flaw 10 (differing long_heading v))))
+    cond (same_words (words v) (words (bytes "signal_name model_name"))) (Ok false)
+    (cond (same_words (words v) long_heading) (Ok true) (Err (flaw 10 (differing long_heading v))))

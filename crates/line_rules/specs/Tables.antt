@@ -1,5 +1,5 @@
 -- The names and words that document 01 lists, in its order. Letter case counts.
-use Rattle.std.specs.Prelude.{ℕ, List, [], ◌∷◌, get_or}
+use Rattle.std.specs.Prelude.{ℕ, List, [], ◌∷◌, get_or, Some, Option}
 use Prim.Native.String.{String}
 use Rattle.name_table.specs.Names.{Naming, naming}
 use Rattle.name_table.specs.Places.{names_of}
@@ -61,8 +61,8 @@ model_types =
 unfoldable pub type_name : ModelType → List ℕ
 type_name t = get_or (names_of model_types) (type_number t) []
 
-unfoldable pub polarities : List (Naming Polarity)
-polarities = naming "Inverting" Inverting ∷ naming "Non-Inverting" NonInverting ∷ []
+unfoldable pub polarities : List (Naming (Option Polarity))
+polarities = naming "Inverting" (Some Inverting) ∷ naming "Non-Inverting" (Some NonInverting) ∷ []
 
-unfoldable pub enables : List (Naming Enable)
-enables = naming "Active-High" ActiveHigh ∷ naming "Active-Low" ActiveLow ∷ []
+unfoldable pub enables : List (Naming (Option Enable))
+enables = naming "Active-High" (Some ActiveHigh) ∷ naming "Active-Low" (Some ActiveLow) ∷ []

@@ -3,14 +3,13 @@ use Prim.Native.Nat.{ℕ}
 use Prim.Native.Char.{code}
 use mathlib.Core.Path.{◌≡◌, refl, sym, ap, ◌∙◌}
 use mathlib.Core.List.{List, [], ◌∷◌, ◌++◌, append-nil, foldr}
-use mathlib.Core.Bool.{Bool, true, false, ◌||◌}
+use mathlib.Core.Bool.{Bool, true, false}
 use native.Mathlib.Omega.{arith}
 use lib.Dec.{eqb, leb}
 use borrow.Author.Tests.{ne_eqb, eqb-true, leb-true, not-true}
 use Rattle.laws.specs.Lists.{all, other}
 use Rattle.laws.proofs.Tests.{by-test, and_right}
 use Rattle.lines.specs.Lines.{Physical, is_return, onto_line, lines_of, is_allowed}
-use Rattle.lines.specs.Breaks.{is_printed}
 
 -- the bytes go in front of the first line
 abbrev pub onto_all : List ℕ → List Physical → List Physical
@@ -112,10 +111,6 @@ allowed-plain b h =
     (λ e.
     let t : eqb b 9 ≡ true = simp e at h in
     (ne_eqb b 10 (omega (arith, eqb-true b 9 t)), ne_eqb b 13 (omega (arith, eqb-true b 9 t))))
-
-pub printed-allowed : (b : ℕ) (t : Bool) → t ≡ is_printed b → t ≡ true → is_allowed b ≡ true
-unfolding is_allowed is_printed
-printed-allowed b t e h = ap (λ (u : Bool). u || eqb b 9) (sym e ∙ h)
 
 pub return-not : (b : ℕ) (r : List ℕ) → eqb b (code "\r") ≡ false → is_return b r ≡ false
 unfolding is_return

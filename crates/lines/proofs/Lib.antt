@@ -1,8 +1,9 @@
 -- Laws on lines, cited by the crates above too.
 
 pub mod Laws
-pub mod Blocks
+pub mod Stops
 pub mod Places
 pub mod Handed
 pub mod Numbers
+pub mod Counted
 pub mod Clean

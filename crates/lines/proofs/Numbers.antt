@@ -1,4 +1,6 @@
 -- Laws on how many lines are left: behind a byte there are no more than before it, and a line without fault is short and hands on the others.
+use Rattle.std.specs.Prelude.{Result, Ok, Err}
+use Rattle.records.specs.declared.Fault.{Fault}
 use Prim.Native.Nat.{ℕ, zero, suc, ◌+◌, ◌-◌, ◌≤◌}
 use mathlib.Core.Path.{◌≡◌, refl, sym, ap, ◌∙◌, subst}
 use mathlib.Core.List.{List, [], ◌∷◌}
@@ -14,8 +16,6 @@ use Rattle.laws.proofs.Fronts.{front-le}
 use Rattle.laws.proofs.Trims.{trim-le}
 use Rattle.lines.specs.Lines.{Physical, is_return, onto_line, lines_of, is_allowed, line_fault, fault_from, cut}
 use Rattle.lines.specs.Places.{line_at}
-use Rattle.lines.specs.declared.Bytes.{Bytes}
-use Rattle.lines.specs.declared.Bytes.TheVariants.{Clean, Faulty}
 
 -- ---- how many lines
 
@@ -46,13 +46,17 @@ line-within s at n m e f = rw (e, f) refl
 
 -- ---- lines without fault
 
+-- no fault
+abbrev clean : Result (Unit {0}) Fault
+clean = Ok tt
+
 -- a fault is no clean file
-pub faulty-not : {X : Type 0} (f : _) → Faulty f ≡ Clean → X
+pub faulty-not : {X : Type 0} (f : Fault) → Err f ≡ clean → X
 faulty-not f h = absurd (subst kept h tt)
   where
-    kept : Bytes → Type 0
-    kept Clean = ⊥
-    kept (Faulty g) = Unit {0}
+    kept : Result (Unit {0}) Fault → Type 0
+    kept (Ok tt) = ⊥
+    kept (Err g) = Unit {0}
 
 -- its bytes are allowed, it is short, and it is ended
 pub line-sound : (l : Physical) → line_fault l ≡ 0 → (all is_allowed l.bytes ≡ true) × (length l.bytes ≤ 120) × (l.ended ≡ true)
@@ -65,12 +69,12 @@ line-sound l h =
     (λ b. let z : ◌≡◌ {A = ℕ} 3 0 = simp (a, b) at h in absurd (omega arith)))
     (λ a. let z : ◌≡◌ {A = ℕ} 2 0 = simp a at h in absurd (omega arith))
 
-module _ (k : ℕ) (l : Physical) (ls : List Physical) (h : fault_from k (l ∷ ls) ≡ Clean) where
+module _ (k : ℕ) (l : Physical) (ls : List Physical) (h : fault_from k (l ∷ ls) ≡ Ok tt) where
   pub line_clean : line_fault l ≡ 0
   unfolding fault_from
   line_clean = by-test (eqb (line_fault l) 0) (λ e. eqb-true _ _ e) (λ e. faulty-not _ (sym (cond_no _ _ e) ∙ h))
 
-  pub others-clean : fault_from (k + 1) ls ≡ Clean
+  pub others-clean : fault_from (k + 1) ls ≡ Ok tt
   unfolding fault_from
   others-clean = by-test (eqb (line_fault l) 0) (λ e. sym (cond_yes _ _ e) ∙ h) (λ e. faulty-not _ (sym (cond_no _ _ e) ∙ h))
 

@@ -1,4 +1,5 @@
 -- What the places of a scan say of the lines: the first line ends where the scan stopped, and the others follow.
+use Rattle.std.specs.Prelude.{Err}
 use Prim.Native.Nat.{ℕ, zero, suc, ◌+◌, ◌-◌, ◌≤◌, ◌<◌, min}
 use Prim.Native.Char.{code}
 use mathlib.Core.Path.{◌≡◌, refl, sym, ap, ◌∙◌}
@@ -17,7 +18,6 @@ use Rattle.laws.proofs.Fronts.{front-all, all-fails, all_first, all-second, spli
 use Rattle.laws.proofs.Trims.{trim-take, trim-le}
 use Rattle.lines.specs.Lines.{Physical, is_return, onto_line, lines_of, is_allowed, line_fault, fault_from, cut}
 use Rattle.lines.specs.Breaks.{break_of}
-use Rattle.lines.specs.declared.Bytes.TheVariants.{Faulty}
 use Rattle.lines.proofs.Laws.{onto_all, onto-line, onto-none, lines-break, lines-byte, lines-allowed, lines-last, lines-crlf, lines-lf, onto-empty}
 
 -- ---- the faults of a line
@@ -51,11 +51,11 @@ unfolding fault_from
 fault-good k l ls h = cond_yes _ _ (eq-eqb (line_fault l) 0 h)
 
 fault-bad : (k n : ℕ) (l : Physical) (ls : List Physical) → line_fault l ≡ n → (n ≡ 0 → ⊥)
-    → fault_from k (l ∷ ls) ≡ Faulty (record { number = n; line = k; column = 0 })
+    → fault_from k (l ∷ ls) ≡ Err (record { number = n; line = k; column = 0 })
 unfolding fault_from
 fault-bad k n l ls h j =
     cond_no _ _ (ne_eqb (line_fault l) 0 (λ e. j (sym h ∙ e)))
-    ∙ ap (λ (m : ℕ). Faulty (record { number = m; line = k; column = 0 })) h
+    ∙ ap (λ (m : ℕ). Err (record { number = m; line = k; column = 0 })) h
 
 fault-2 : (f : List ℕ) (b : ℕ) (l : List ℕ) (e : Bool) → is_allowed b ≡ false → line_fault (record { bytes = f ++ b ∷ l; ended = e }) ≡ 2
 unfolding line_fault
@@ -75,7 +75,7 @@ fault-0 f h k = rw (h, le-leb (length f) 120 k)
 
 -- some line begins with the byte
 onto-cons : (k n b : ℕ) (f : List ℕ) (ls : List Physical) → is_allowed b ≡ false
-    → fault_from k (onto_all f (onto_line b ls)) ≡ Faulty (record { number = 2; line = k; column = 0 })
+    → fault_from k (onto_all f (onto_line b ls)) ≡ Err (record { number = 2; line = k; column = 0 })
 unfolding onto_line
 onto-cons k n b f [] h =
     ap (fault_from k) (onto-line f _ []) ∙ fault-bad k 2 _ _ (fault-2 f b [] false h) (omega arith)
@@ -100,7 +100,7 @@ module _ (s : List ℕ) (at end : ℕ) (stop : end ≡ at + length (front is_all
 
   -- a byte that is neither allowed nor part of a line's end
   pub forbidden : (k : ℕ) → end < length s → break_of (drop end s) ≡ 0
-      → fault_from k (lines_of (drop at s)) ≡ Faulty (record { number = 2; line = k; column = 0 })
+      → fault_from k (lines_of (drop at s)) ≡ Err (record { number = 2; line = k; column = 0 })
   forbidden k h e =
       let here = from_cons s end 0 h in
       let none = break-none (get_or s end 0) (drop (end + 1) s) (ap break_of (sym here) ∙ e) in
@@ -119,11 +119,11 @@ module _ (s : List ℕ) (at end : ℕ) (stop : end ≡ at + length (front is_all
     unfolding lines_of
     unended = lines-passed ∙ ap (λ (l : List ℕ). onto_all passed (lines_of l)) (drop_of_length-le s all_read) ∙ onto-last passed (omega (arith, passed_length))
 
-    pub long-unended : (k : ℕ) → 120 < end - at → fault_from k (lines_of (drop at s)) ≡ Faulty (record { number = 3; line = k; column = 0 })
+    pub long-unended : (k : ℕ) → 120 < end - at → fault_from k (lines_of (drop at s)) ≡ Err (record { number = 3; line = k; column = 0 })
     long-unended k h =
         ap (fault_from k) unended ∙ fault-bad k 3 _ _ (fault-3 passed false all-passed (omega (arith, passed_length))) (omega arith)
 
-    pub short-unended : (k : ℕ) → end - at ≤ 120 → fault_from k (lines_of (drop at s)) ≡ Faulty (record { number = 4; line = k; column = 0 })
+    pub short-unended : (k : ℕ) → end - at ≤ 120 → fault_from k (lines_of (drop at s)) ≡ Err (record { number = 4; line = k; column = 0 })
     short-unended k h =
         ap (fault_from k) unended ∙ fault-bad k 4 _ _ (fault-4 passed all-passed (omega (arith, passed_length))) (omega arith)
 
@@ -137,7 +137,7 @@ module _ (s : List ℕ) (at end : ℕ) (stop : end ≡ at + length (front is_all
         ∙ ap (λ (l : List ℕ). record { bytes = passed; ended = true } ∷ lines_of l) (drop-drop (break_of (drop end s)) end s)
         ∙ ap (λ (m : ℕ). record { bytes = passed; ended = true } ∷ lines_of (drop (end + m) s)) (sym breaks)
 
-    pub long-ended : (k : ℕ) → 120 < end - at → fault_from k (lines_of (drop at s)) ≡ Faulty (record { number = 3; line = k; column = 0 })
+    pub long-ended : (k : ℕ) → 120 < end - at → fault_from k (lines_of (drop at s)) ≡ Err (record { number = 3; line = k; column = 0 })
     long-ended k h =
         ap (fault_from k) ended ∙ fault-bad k 3 _ _ (fault-3 passed true all-passed (omega (arith, passed_length))) (omega arith)
 

@@ -1,5 +1,5 @@
--- How many bytes of a line's end begin a list; and the bytes that are allowed anywhere and are no tab.
-use Rattle.std.specs.Prelude.{ℕ, List, [], ◌∷◌, Bool, cond, ◌&&◌, eqb, leb}
+-- How many bytes of a line's end begin a list.
+use Rattle.std.specs.Prelude.{ℕ, List, [], ◌∷◌, cond, eqb}
 use Prim.Native.Char.{code}
 use Rattle.lines.specs.Lines.{is_return}
 
@@ -7,6 +7,3 @@ use Rattle.lines.specs.Lines.{is_return}
 unfoldable pub break_of : List ℕ → ℕ
 break_of [] = 0
 break_of (b ∷ bs) = cond (eqb b (code "\n")) 1 (cond (is_return b bs) 2 0)
-
-unfoldable pub is_printed : ℕ → Bool
-is_printed b = leb 0x20 b && leb b 0x7E

@@ -1,10 +1,9 @@
 -- Document 01, "Lines and words": lines, the bytes allowed in them, and cutting; and faults 1 to 4.
-use Rattle.std.specs.Prelude.{ℕ, ◌+◌, List, [], ◌∷◌, Bool, true, false, cond, ◌&&◌, ◌||◌, length, eqb, leb}
+use Rattle.std.specs.Prelude.{ℕ, ◌+◌, List, [], ◌∷◌, Bool, true, false, cond, ◌&&◌, ◌||◌, length, eqb, leb, Result, Ok, Err}
+use Rattle.records.specs.declared.Fault.{Fault}
 use Prim.Native.Char.{code}
 use Rattle.laws.specs.Bytes.{is_blank}
 use Rattle.laws.specs.Lists.{front, trim, all, other}
-use Rattle.lines.specs.declared.Bytes.{Bytes}
-use Rattle.lines.specs.declared.Bytes.TheVariants.{Clean, Faulty}
 
 -- the bytes of a line without its end, and whether an end follows
 pub record Physical : Type 0 where
@@ -41,14 +40,14 @@ line_fault l =
     cond (all is_allowed l.bytes) (cond (leb (length l.bytes) 120) (cond l.ended 0 4) 3) 2
 
 -- the first line with a fault; the lines are numbered from k on
-unfoldable pub fault_from : ℕ → List Physical → Bytes
-fault_from k [] = Clean
+unfoldable pub fault_from : ℕ → List Physical → Result (Unit {0}) Fault
+fault_from k [] = Ok tt
 fault_from k (l ∷ ls) =
-    cond (eqb (line_fault l) 0) (fault_from (k + 1) ls) (Faulty (record { number = line_fault l; line = k; column = 0 }))
+    cond (eqb (line_fault l) 0) (fault_from (k + 1) ls) (Err (record { number = line_fault l; line = k; column = 0 }))
 
 -- 1 over 65,536 bytes, told at line 0; then 2, 3, 4 over all lines
-unfoldable pub bytes_fault : List ℕ → Bytes
-bytes_fault s = cond (leb (length s) 65536) (fault_from 1 (lines_of s)) (Faulty (record { number = 1; line = 0; column = 0 }))
+unfoldable pub bytes_fault : List ℕ → Result (Unit {0}) Fault
+bytes_fault s = cond (leb (length s) 65536) (fault_from 1 (lines_of s)) (Err (record { number = 1; line = 0; column = 0 }))
 
 -- ---- cutting
 

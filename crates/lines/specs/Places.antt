@@ -1,28 +1,21 @@
 -- What the places that the code answers say of the lines.
-use Rattle.std.specs.Prelude.{ℕ, ◌+◌, ◌-◌, ◌≤◌, ◌<◌, min, ◌≡◌, List, [], ◌∷◌, Bool, length, drop}
+use Rattle.std.specs.Prelude.{ℕ, ◌+◌, ◌-◌, ◌≤◌, ◌<◌, min, ◌≡◌, List, [], ◌∷◌, length, drop, Result, Err, Ok}
+use Rattle.records.specs.declared.Fault.{Fault}
 use Prim.Native.Char.{code}
 use Rattle.laws.specs.Lists.{front, other, part}
 use Rattle.lines.specs.Lines.{Physical, lines_of, fault_from, cut}
-use Rattle.lines.specs.declared.Bytes.{Bytes}
-use Rattle.lines.specs.declared.Bytes.TheVariants.{Faulty}
 use Rattle.lines.specs.declared.Line.{Line}
 use Rattle.lines.specs.declared.CutLine.{CutLine}
 use Rattle.lines.specs.declared.LineReader.{LineReader}
-use Rattle.lines.specs.declared.LineCheck.{LineCheck}
-use Rattle.lines.specs.declared.LineCheck.TheVariants.{Next, Wrong}
-
--- the front from i on ends where the front from `at` on does
-abbrev pub GoesOn : (ℕ → Bool) → List ℕ → ℕ → ℕ → Type 0
-GoesOn p s at i = i + length (front p (drop i s)) ≡ at + length (front p (drop at s))
 
 -- what the faults from here on are, once the line here is looked at
-abbrev pub checked : List ℕ → ℕ → LineCheck → Bytes
-checked s k (Next n) = fault_from (k + 1) (lines_of (drop n s))
-checked s k (Wrong f) = Faulty (record { number = f; line = k; column = 0 })
+abbrev pub checked : List ℕ → ℕ → Result ℕ ℕ → Result (Unit {0}) Fault
+checked s k (Ok n) = fault_from (k + 1) (lines_of (drop n s))
+checked s k (Err f) = Err (record { number = f; line = k; column = 0 })
 
-abbrev pub Goes : List ℕ → ℕ → LineCheck → Type 0
-Goes s at (Next n) = (at < n) × (n ≤ length s)
-Goes s at (Wrong f) = Unit {0}
+abbrev pub Goes : List ℕ → ℕ → Result ℕ ℕ → Type 0
+Goes s at (Ok n) = (at < n) × (n ≤ length s)
+Goes s at (Err f) = Unit {0}
 
 -- the bytes of the first line, without its end; none where there is no line
 unfoldable pub first_bytes : List Physical → List ℕ

@@ -1,11 +1,11 @@
 // Lines of a file: the faults of their bytes, in one pass; the reader that hands out one line at a time; and what cutting leaves.
 #![tactic(auto)]
 
-ghost use Rattle.std.specs.Prelude.{◌≡◌, true, ℕ, ◌+◌, ◌≤◌, ◌<◌, min, length, drop};
+ghost use Rattle.std.specs.Prelude.{◌≡◌, true, false, slice_index, ℕ, ◌+◌, ◌≤◌, ◌<◌, min, length, drop};
 ghost use Rattle.laws.specs.Lists.{front, other};
 ghost use Rattle.lines.specs.Lines.{is_allowed, lines_of, fault_from, bytes_fault};
-ghost use Rattle.lines.specs.Places.{GoesOn, checked, Goes, line_from, cut_from, line_stop, text_stop, line_at, reader_behind};
-ghost use Rattle.lines.specs.Breaks.{break_of, is_printed};
+ghost use Rattle.lines.specs.Places.{checked, Goes, line_from, cut_from, line_stop, text_stop, line_at, reader_behind};
+ghost use Rattle.lines.specs.Breaks.{break_of};
 
 use records::Fault;
 
@@ -13,13 +13,6 @@ use records::Fault;
 const FILE: usize = 65536;
 
 const LINE: usize = 120;
-
-// What the bytes of a file say before anything else is looked at.
-#[derive(Clone, Copy)]
-pub enum Bytes {
-    Clean,
-    Faulty(Fault),
-}
 
 // A line from where it was asked for up to end, and where the next begins; all three are one place where no line is left.
 #[derive(Clone, Copy)]
@@ -42,78 +35,43 @@ pub struct LineReader<'a> {
     pub at: usize,
 }
 
-// A line without a fault, and where the next begins; or the fault's number.
-#[derive(Clone, Copy)]
-enum LineCheck {
-    Next(usize),
-    Wrong(u8),
-}
-
-// Hex 20 to 7E.
-fn printed(b: u8) -> bool
-    ensures { result ≡ is_printed b }
-{
-    match b {
-        0x20..=0x7E => true,
-        _ => false,
-    }
-}
-
+// Hex 20 to 7E, and tab.
+#[tactic(auto, unfolding(crate::specs::Lines::is_allowed))]
 fn allowed(b: u8) -> bool
     ensures { result ≡ is_allowed b }
 {
-    if printed(b) {
-        return true;
-    }
-    b == b'\t'
+    matches!(b, 0x20..=0x7E | b'\t')
 }
 
-// Whether the eight bytes from at on are printed. None of them ends the loop, so that a machine may look at all eight at once.
-fn eight_printed(s: &[u8], at: usize) -> bool
-    requires { at + 8 ≤ length s.now }
-    ensures { result ≡ true → GoesOn is_allowed s.now at (at + 8) }
+// Whether all of these bytes pass. None of them ends the loop, so that a machine may look at all at once.
+fn all_pass<F: Fn(u8) -> bool>(eight: &[u8; 8], passes: &F) -> bool
+    requires { F.IsAlwaysCallable passes.now }
+    ensures { result ≡ true → (k : ℕ) → k < 8 → F.post passes.now (slice_index eight.now k) true }
 {
     let mut all = true;
-    let mut k = 0;
-    while k < 8 {
-        if !printed(s[at + k]) {
-            all = false;
-        }
-        k += 1;
+    for b in eight {
+        all &= passes(*b);
     }
     all
 }
 
-// Past allowed bytes from at on: eight a turn, up to eight that are not all printed or to where fewer are left.
-fn skip_eights(s: &[u8], at: usize) -> usize
-    requires { at ≤ length s.now }
+// Where the bytes from at on that pass a test end, eight at once as long as eight are left that pass. With `words::skip` alone, lines checked and cut take 33.7
+// instructions a byte in place of 20.2.
+fn skip_eights<F: Fn(u8) -> bool>(s: &[u8], at: usize, passes: F) -> usize
+    requires at_in_bounds { at ≤ length s.now }
+    requires callable { F.IsAlwaysCallable passes }
     ensures lower_bound { (at ≤ result) × (result ≤ length s.now) }
-    ensures goes_on { GoesOn is_allowed s.now at result }
+    ensures passed { (k : ℕ) → at + k < result → F.post passes (slice_index s.now (at + k)) true }
+    ensures stopped { result < length s.now → F.post passes (slice_index s.now result) false }
 {
     let mut i = at;
-    while 8 <= s.len() - i {
-        if !eight_printed(s, i) {
-            return i;
+    while let Some(eight) = s[i..].first_chunk::<8>() {
+        if !all_pass(eight, &passes) {
+            break;
         }
         i += 8;
     }
-    i
-}
-
-// Past allowed bytes from at on, up to one that is not printed.
-fn skip_printed(s: &[u8], at: usize) -> usize
-    requires { at ≤ length s.now }
-    ensures lower_bound { (at ≤ result) × (result ≤ length s.now) }
-    ensures goes_on { GoesOn is_allowed s.now at result }
-{
-    let mut i = skip_eights(s, at);
-    while i < s.len() {
-        if !printed(s[i]) {
-            return i;
-        }
-        i += 1;
-    }
-    i
+    words::skip(s, i, passes)
 }
 
 // Where the allowed bytes from at on end.
@@ -122,14 +80,7 @@ fn skip_allowed(s: &[u8], at: usize) -> usize
     ensures value { result ≡ at + length (front is_allowed (drop at s.now)) }
     ensures lower_bound { (at ≤ result) × (result ≤ length s.now) }
 {
-    let mut i = skip_printed(s, at);
-    while i < s.len() {
-        if !allowed(s[i]) {
-            return i;
-        }
-        i = skip_printed(s, i + 1);
-    }
-    i
+    skip_eights(s, at, allowed)
 }
 
 // How many bytes of a line's end stand at a place: 1 for LF, 2 for CR LF, else 0.
@@ -153,7 +104,7 @@ fn line_break(s: &[u8], at: usize) -> usize
 }
 
 // Looks at the bytes of one line.
-fn line_check(s: &[u8], at: usize) -> LineCheck
+fn line_check(s: &[u8], at: usize) -> Result<usize, u8>
     requires { at < length s.now }
     ensures by_index { (k : ℕ) → fault_from k (lines_of (drop at s.now)) ≡ checked s.now k result }
     ensures goes { Goes s.now at result }
@@ -162,40 +113,41 @@ fn line_check(s: &[u8], at: usize) -> LineCheck
     let ending = line_break(s, end);
     if ending == 0 {
         if end < s.len() {
-            return LineCheck::Wrong(2);
+            return Err(2);
         }
         if LINE < end - at {
-            return LineCheck::Wrong(3);
+            return Err(3);
         }
-        return LineCheck::Wrong(4);
+        return Err(4);
     }
     if LINE < end - at {
-        return LineCheck::Wrong(3);
+        return Err(3);
     }
-    LineCheck::Next(end + ending)
+    Ok(end + ending)
 }
 
 // Faults 1 to 4: the first of them, in one pass over the bytes.
-pub fn check_bytes(s: &[u8]) -> Bytes
+pub fn check_bytes(s: &[u8]) -> Result<(), Fault>
     ensures { result ≡ bytes_fault s.now }
 {
     if FILE < s.len() {
-        return Bytes::Faulty(Fault {
+        return Err(Fault {
             number: 1,
             line: 0,
             column: 0,
         });
     }
+    // A turn is a line, and how long that is shows only once it is looked at.
     let mut at = 0;
     let mut line: u64 = 1;
     while at < s.len() {
         match line_check(s, at) {
-            LineCheck::Next(n) => {
+            Ok(n) => {
                 at = n;
                 line += 1;
             }
-            LineCheck::Wrong(number) => {
-                return Bytes::Faulty(Fault {
+            Err(number) => {
+                return Err(Fault {
                     number: number,
                     line: line,
                     column: 0,
@@ -203,7 +155,7 @@ pub fn check_bytes(s: &[u8]) -> Bytes
             }
         }
     }
-    Bytes::Clean
+    Ok(())
 }
 
 // The line at a place, whole. It stops at an LF or at the end of s.
@@ -270,19 +222,16 @@ pub fn line_at(src: &[u8], at: usize) -> Line
     reader.next()
 }
 
-// How many lines there are.
+// How many lines there are: one for each LF, and one that is not ended.
 fn count_lines(s: &[u8]) -> u64
     ensures value { result ≡ length (lines_of s.now) }
     ensures upper_bound { result ≤ length s.now }
 {
-    let mut at = 0;
-    let mut count: u64 = 0;
-    while at < s.len() {
-        let l = line_at(s, at);
-        at = l.next;
-        count += 1;
+    let ended = s.iter().filter(|b| **b == b'\n').count() as u64;
+    match s.last() {
+        Some(b) if *b != b'\n' => ended + 1,
+        _ => ended,
     }
-    count
 }
 
 // The number of the line that begins at a place.
@@ -296,66 +245,14 @@ pub fn line_number(src: &[u8], at: usize) -> u64
     past - count_lines(&src[at..])
 }
 
-// Whether b is none of the eight bytes from at on. None of them ends the loop, so that a machine may look at all eight at once.
-fn eight_without(s: &[u8], at: usize, b: u8) -> bool
-    requires { at + 8 ≤ length s.now }
-    ensures { result ≡ true → GoesOn (other b) s.now at (at + 8) }
-{
-    let mut without = true;
-    let mut k = 0;
-    while k < 8 {
-        if s[at + k] == b {
-            without = false;
-        }
-        k += 1;
-    }
-    without
-}
-
-// Where the text of a line stops, at the first LF or comment character from at on, or at the end of s: byte by byte.
-fn text_stop_slowly(s: &[u8], at: usize, comment: u8) -> usize
-    requires { at ≤ length s.now }
-    ensures value { result ≡ text_stop s.now at comment }
-    ensures lower_bound { (at ≤ result) × (result ≤ length s.now) }
-    ensures result_value { line_stop s.now result ≡ line_stop s.now at }
-{
-    let mut i = at;
-    while i < s.len() {
-        if s[i] == b'\n' {
-            return i;
-        }
-        if s[i] == comment {
-            return i;
-        }
-        i += 1;
-    }
-    i
-}
-
-// The same, eight bytes a turn as long as eight are left without either.
+// Where the text of a line stops, at the first LF or comment character from at on, or at the end of s.
 fn text_stop(s: &[u8], at: usize, comment: u8) -> usize
     requires { at ≤ length s.now }
     ensures value { result ≡ text_stop s.now at comment }
     ensures lower_bound { (at ≤ result) × (result ≤ length s.now) }
     ensures result_value { line_stop s.now result ≡ line_stop s.now at }
 {
-    let mut i = at;
-    while 8 <= s.len() - i {
-        if !eight_without(s, i, comment) {
-            return text_stop_slowly(s, i, comment);
-        }
-        if !eight_without(s, i, b'\n') {
-            return text_stop_slowly(s, i, comment);
-        }
-        i += 8;
-    }
-    text_stop_slowly(s, i, comment)
-}
-
-fn least(a: usize, b: usize) -> usize
-    ensures { result ≡ min a b }
-{
-    if a < b { a } else { b }
+    skip_eights(s, at, |b| b != b'\n' && b != comment)
 }
 
 // The line at a place, whole, and where it ends once it is cut at its comment, without trailing blanks: its bytes are looked at once.
@@ -365,7 +262,7 @@ pub fn cut_line(s: &[u8], at: usize, comment: u8) -> CutLine
 {
     let stop = text_stop(s, at, comment);
     let whole = line_to(s, at, words::find(s, stop, b'\n'));
-    let end = least(stop, whole.end);
+    let end = stop.min(whole.end);
     let left = words::trimmed(&s[at..end]);
     CutLine {
         whole: whole,

@@ -1,22 +1,18 @@
 -- Folds over the lines under a keyword: a loop over `next_line` that holds what the lines so far give, and the needs of every such loop.
 use Prim.Native.Nat.{ℕ, ◌+◌, ◌-◌, ◌≤◌, ◌<◌}
 use mathlib.Core.Path.{◌≡◌, refl, sym, ap, ◌∙◌, subst}
-use mathlib.Core.List.{List, [], ◌∷◌}
+use mathlib.Core.List.{List}
 use native.Mathlib.Omega.{arith}
 use lib.ListN.{length}
 use Rattle.laws.specs.Lists.{part}
 use Rattle.cut_lines.specs.Cursors.{rest, Placed}
 use Rattle.cut_lines.specs.declared.Cursor.{Cursor}
 use Rattle.rules.specs.Reading.{under}
+pub use Rattle.lines_under.specs.Steps.{Folds}
 use Rattle.lines_under.specs.Under.{LineIs, StopsAt, LineNextIs}
 use Rattle.lines_under.specs.declared.LineNext.{LineNext}
 use Rattle.lines_under.specs.declared.LineNext.TheVariants.{Line, NoLine}
 use Rattle.lines_under.proofs.Laws.{Along, along-start, along-line, along-end}
-
--- f x l is what the elements of l make of x, one after another: step is one more
-pub record Folds {X A : Type 0} (f : X → List A → X) (step : X → A → X) : Type 0 where
-  pub none : (x : X) → f x [] ≡ x
-  pub more : (x : X) (a : A) (l : List A) → f x (a ∷ l) ≡ f (step x a) l
 
 -- one more adds at most one to the size
 abbrev pub Small : {X A : Type 0} → (X → A → X) → (X → ℕ) → Type 0

@@ -1,9 +1,9 @@
 -- Folds over the keywords of a section: a loop over `next_key` that holds what the keywords so far give, and the needs of every such loop.
+use Rattle.std.specs.Prelude.{None, Some, Option}
 use Prim.Native.Nat.{ℕ}
 use mathlib.Core.Path.{◌≡◌, refl, sym, ap, ◌∙◌, subst}
 use mathlib.Core.List.{List, [], ◌∷◌}
 use mathlib.Core.Bool.{true, false}
-use mathlib.Core.Option.{none, some}
 use Rattle.laws.specs.Lists.{front, after, part}
 use Rattle.keywords.specs.declared.Keyword.{Keyword}
 use Rattle.cut_lines.specs.Texts.{Text}
@@ -12,21 +12,20 @@ use Rattle.cut_lines.specs.declared.Cursor.{Cursor}
 use Rattle.rules.specs.Reading.{under, argument_at, is_within}
 use Rattle.rules.specs.Keys.{key_at, is_end}
 use Rattle.lines_under.specs.Under.{is_keyless, StopsAt, KeyIs, KeyNextIs}
-use Rattle.lines_under.specs.declared.KeyNext.{KeyNext}
-use Rattle.lines_under.specs.declared.KeyNext.TheVariants.{Key, NoKey}
+use Rattle.lines_under.specs.declared.Key.{Key}
 use Rattle.lines_under.proofs.Laws.{keys-behind, keys-within, within-stop, within-go, under-within}
 
 -- f x ts is what the keywords of ts make of x, one after another: step is one more, with its argument and the lines under it
 pub record KeyFold {X : Type 0} (f : X → List Text → X) (step : X → Keyword → List ℕ → List (List ℕ) → X) : Type 0 where
   pub empty : (x : X) → f x [] ≡ x
-  pub skip : (x : X) (t : Text) (ts : List Text) → key_at t ≡ none → f x (t ∷ ts) ≡ f x ts
-  pub more : (x : X) (t : Text) (ts : List Text) (k : Keyword) → key_at t ≡ some k → f x (t ∷ ts) ≡ f (step x k (argument_at t) (under ts)) ts
+  pub skip : (x : X) (t : Text) (ts : List Text) → key_at t ≡ None → f x (t ∷ ts) ≡ f x ts
+  pub more : (x : X) (t : Text) (ts : List Text) (k : Keyword) → key_at t ≡ Some k → f x (t ∷ ts) ≡ f (step x k (argument_at t) (under ts)) ts
 
 -- r is the answer at d
-pub key-found : {s : List ℕ} {d : Cursor} {r : KeyNext} {k : Keyword} {a e : ℕ} {n : Cursor} → r ≡ Key k a e n → KeyNextIs s d r → KeyIs s d k a e n
+pub key-found : {s : List ℕ} {d : Cursor} {r : Option Key} {k : Key} → r ≡ Some k → KeyNextIs s d r → KeyIs s d k.keyword k.start k.end k.next
 key-found {s} {d} q h = subst (KeyNextIs s d) q h
 
-pub key-out : (s : List ℕ) (d : Cursor) {r : KeyNext} → r ≡ NoKey → KeyNextIs s d r → after is_keyless (rest s d) ≡ []
+pub key-out : (s : List ℕ) (d : Cursor) {r : Option Key} → r ≡ None → KeyNextIs s d r → after is_keyless (rest s d) ≡ []
 key-out s d q h = subst (KeyNextIs s d) q h
 
 -- where the lines under a keyword end, the same keywords follow
@@ -59,11 +58,11 @@ module _ {X : Type 0} {f : X → List Text → X} {step : X → Keyword → List
       here : f x (front is_within (rest s d)) ≡ f x (front is_within (h.text ∷ rest s m))
       here = keys-within (f x) (k.skip x) (rest s d) ∙ ap (λ (vs : List Text). f x (front is_within vs)) h.more
 
-      pub follows-end : is_end (some j) ≡ true → x ≡ f x₀ (front is_within (rest s c))
+      pub follows-end : is_end (Some j) ≡ true → x ≡ f x₀ (front is_within (rest s c))
       follows-end q = sym (g.same ∙ here ∙ ap (f x) (within-stop h.text (rest s m) j h.key q) ∙ k.empty x)
 
       -- y is x with this keyword
-      pub follows-key : {y : X} → is_end (some j) ≡ false → y ≡ step x j (part a e s) (under (rest s m)) → Follows k s c m x₀ y
+      pub follows-key : {y : X} → is_end (Some j) ≡ false → y ≡ step x j (part a e s) (under (rest s m)) → Follows k s c m x₀ y
       follows-key {y} q i =
           record {
             same =

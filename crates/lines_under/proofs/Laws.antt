@@ -1,9 +1,9 @@
 -- Laws on lines and keywords: a text more, by its kind; and what holds within a section.
+use Rattle.std.specs.Prelude.{Option, None, Some, Ok, Err, Result}
 use Prim.Native.Nat.{ℕ, ◌+◌, ◌≤◌}
 use mathlib.Core.Path.{◌≡◌, refl, sym, ap, ◌∙◌}
 use mathlib.Core.List.{List, [], ◌∷◌}
 use mathlib.Core.Bool.{Bool, true, false, cond, not}
-use mathlib.Core.Option.{Option, none, some}
 use native.Mathlib.Omega.{arith}
 use borrow.Author.Tests.{not-true}
 use Rattle.laws.specs.Lists.{front, after, part}
@@ -14,8 +14,8 @@ use Rattle.records.specs.declared.LineFault.{LineFault}
 use Rattle.keywords.specs.Carried.{key_of}
 use Rattle.keywords.specs.Answers.{keyword_says, key_read}
 use Rattle.keywords.specs.declared.Keyword.{Keyword}
-use Rattle.keywords.specs.declared.KeyRead.{KeyRead}
-use Rattle.keywords.specs.declared.KeyRead.TheVariants.{Known, Malformed}
+use Rattle.keywords.specs.declared.KeyFault.{KeyFault}
+use Rattle.keywords.specs.declared.KeyFault.TheVariants.{Malformed}
 use Rattle.cut_lines.specs.Texts.{Text, plain, change}
 use Rattle.cut_lines.specs.Cursors.{rest, Placed, TextIs, ChangeIs, OutIs}
 use Rattle.cut_lines.specs.declared.Cursor.{Cursor}
@@ -50,11 +50,11 @@ under-end e = (rw e, rw e)
 -- ---- the next keyword, by the first text
 
 module _ {ts us : List Text} (t : Text) (e : ts ≡ t ∷ us) where
-  pub key-skip : key_at t ≡ none → after is_keyless ts ≡ after is_keyless us
+  pub key-skip : key_at t ≡ None → after is_keyless ts ≡ after is_keyless us
   unfolding after
   key-skip h = rw (e, h)
 
-  pub key-stop : (k : Keyword) → key_at t ≡ some k → after is_keyless ts ≡ t ∷ us
+  pub key-stop : (k : Keyword) → key_at t ≡ Some k → after is_keyless ts ≡ t ∷ us
   unfolding after
   key-stop k h = rw (e, h)
 
@@ -63,19 +63,19 @@ unfolding after
 key-end e = rw e
 
 -- as the code reads it
-pub key-at : (k : ℕ) (w : List ℕ) (r : KeyRead) → text_read w ≡ r → key_at (plain k w) ≡ key_in (keyword_says r)
+pub key-at : (k : ℕ) (w : List ℕ) (r : Result (Keyword × ℕ) KeyFault) → text_read w ≡ r → key_at (plain k w) ≡ key_in (keyword_says r)
 unfolding text_read
 key-at k w r e =
-    ap (λ (x : Said Keyword). cond (is_bracketed w) (key_in x) none) (sym (key-said w))
-    ∙ sym (cond_map (λ (x : KeyRead). key_in (keyword_says x)) (is_bracketed w) (key_read w) Malformed)
-    ∙ ap (λ (x : KeyRead). key_in (keyword_says x)) e
+    ap (λ (x : Said Keyword). cond (is_bracketed w) (key_in x) None) (sym (key-said w))
+    ∙ sym (cond_map (λ (x : Result (Keyword × ℕ) KeyFault). key_in (keyword_says x)) (is_bracketed w) (key_read w) (Err Malformed))
+    ∙ ap (λ (x : Result (Keyword × ℕ) KeyFault). key_in (keyword_says x)) e
 
-pub key-known : (w : List ℕ) (k : Keyword) (at : ℕ) → text_read w ≡ Known k at → key_read w ≡ Known k at
+pub key-known : (w : List ℕ) (k : Keyword) (at : ℕ) → text_read w ≡ Ok (k, at) → key_read w ≡ Ok (k, at)
 unfolding text_read
 key-known w k at e =
     by-test (is_bracketed w)
     (λ h. sym (cond_yes _ _ h) ∙ e)
-    (λ h. let m : Malformed ≡ Known k at = sym (cond_no _ _ h) ∙ e in let z : ◌≡◌ {A = ℕ} 0 1 = cc in absurd (omega arith))
+    (λ h. let m : ◌≡◌ {A = Result (Keyword × ℕ) KeyFault} (Err Malformed) (Ok (k, at)) = sym (cond_no _ _ h) ∙ e in let z : ◌≡◌ {A = ℕ} 0 1 = cc in absurd (omega arith))
 
 -- ---- a reading of the lines under a keyword that has come from c to d
 
@@ -146,12 +146,12 @@ module _ {s : List ℕ} {c d : Cursor} (p : Sought s c d) where
   sought-change {k} {f} t =
       record { keys = p.keys ∙ key-skip (change k f) t.more refl; placed = t.goes.placed; rises = omega (arith, p.rises, t.goes.rises) }
 
-  pub sought-none : {k a e : ℕ} {n : Cursor} → TextIs s d k a e n → key_in (keyword_says (text_read (part a e s))) ≡ none → Sought s c n
+  pub sought-none : {k a e : ℕ} {n : Cursor} → TextIs s d k a e n → key_in (keyword_says (text_read (part a e s))) ≡ None → Sought s c n
   sought-none {k} {a} {e} t h =
       let none-at = key-at k (part a e s) (text_read (part a e s)) refl ∙ h in
       record { keys = p.keys ∙ key-skip (plain k (part a e s)) t.more none-at; placed = t.goes.placed; rises = omega (arith, p.rises, t.goes.rises) }
 
-  module _ {k a e : ℕ} {n : Cursor} (t : TextIs s d k a e n) {key : Keyword} {at : ℕ} (h : text_read (part a e s) ≡ Known key at) where
+  module _ {k a e : ℕ} {n : Cursor} (t : TextIs s d k a e n) {key : Keyword} {at : ℕ} (h : text_read (part a e s) ≡ Ok (key, at)) where
     pub sought-within : a + at ≤ e
     sought-within =
         omega (arith, (key-argument (part a e s) (key-known (part a e s) key at h)).within, part_length s a e t.fits, t.starts)
@@ -160,8 +160,8 @@ module _ {s : List ℕ} {c d : Cursor} (p : Sought s c d) where
     sought-found =
         record {
           text = plain k (part a e s);
-          more = p.keys ∙ key-stop (plain k (part a e s)) t.more key (key-at k (part a e s) (Known key at) h);
-          key = key-at k (part a e s) (Known key at) h;
+          more = p.keys ∙ key-stop (plain k (part a e s)) t.more key (key-at k (part a e s) (Ok (key, at)) h);
+          key = key-at k (part a e s) (Ok (key, at)) h;
           said = sym (key-argument (part a e s) (key-known (part a e s) key at h)).text ∙ part-from s a e at;
           placed = t.goes.placed;
           rises = omega (arith, p.rises, t.goes.rises);
@@ -172,17 +172,17 @@ module _ {s : List ℕ} {c d : Cursor} (p : Sought s c d) where
   pub sought-out : {k : ℕ} → OutIs s d k → after is_keyless (rest s c) ≡ []
   sought-out t = p.keys ∙ key-end t.more
 
-none_is : (k : Option Keyword) → not (is_some k) ≡ true → k ≡ none
-none_is none h = refl
-none_is (some k) h = let z : ◌≡◌ {A = ℕ} 0 1 = cc in absurd (omega arith)
+none_is : (k : Option Keyword) → not (is_some k) ≡ true → k ≡ None
+none_is None h = refl
+none_is (Some k) h = let z : ◌≡◌ {A = ℕ} 0 1 = cc in absurd (omega arith)
 
 -- ---- what has no keyword: every line, and it stands within its section
 
 line-keyless : (t : Text) → is_line t ≡ true → is_keyless t ≡ true
-line-keyless (plain k w) h = ap (λ (b : Bool). not (is_some (cond b (key_in (key_of w)) none))) (not-true (is_bracketed w) h)
+line-keyless (plain k w) h = ap (λ (b : Bool). not (is_some (cond b (key_in (key_of w)) None))) (not-true (is_bracketed w) h)
 line-keyless (change k f) h = refl
 
-keyless-none : (t : Text) → is_keyless t ≡ true → key_at t ≡ none
+keyless-none : (t : Text) → is_keyless t ≡ true → key_at t ≡ None
 keyless-none t h = none_is (key_at t) h
 
 keyless-within : (t : Text) → is_keyless t ≡ true → is_within t ≡ true
@@ -209,7 +209,7 @@ under-within (change k f ∷ ts) = rw (keyless-within (change k f) refl) (under-
 
 -- ---- what looks at keywords alone
 
-module _ {A : Type 0} (f : List Text → A) (skips : (t : Text) (ts : List Text) → key_at t ≡ none → f (t ∷ ts) ≡ f ts) where
+module _ {A : Type 0} (f : List Text → A) (skips : (t : Text) (ts : List Text) → key_at t ≡ None → f (t ∷ ts) ≡ f ts) where
   pub keys-only : (ts : List Text) → f ts ≡ f (after is_keyless ts)
   unfolding after
   keys-only [] = refl
@@ -218,21 +218,21 @@ module _ {A : Type 0} (f : List Text → A) (skips : (t : Text) (ts : List Text)
       (λ h. rw h (skips t ts (keyless-none t h) ∙ keys-only ts))
       (λ h. rw h)
 
-  front-skips : (t : Text) (ts : List Text) → key_at t ≡ none → f (front is_within (t ∷ ts)) ≡ f (front is_within ts)
+  front-skips : (t : Text) (ts : List Text) → key_at t ≡ None → f (front is_within (t ∷ ts)) ≡ f (front is_within ts)
   unfolding front
   front-skips t ts h = ap f (cond_yes _ _ (within-key t ∙ ap (λ (k : Option Keyword). not (is_end k)) h)) ∙ skips t (front is_within ts) h
 
 -- the same within a section
-pub keys-within : {A : Type 0} (f : List Text → A) → ((t : Text) (ts : List Text) → key_at t ≡ none → f (t ∷ ts) ≡ f ts)
+pub keys-within : {A : Type 0} (f : List Text → A) → ((t : Text) (ts : List Text) → key_at t ≡ None → f (t ∷ ts) ≡ f ts)
     → (ts : List Text) → f (front is_within ts) ≡ f (front is_within (after is_keyless ts))
 keys-within f skips = keys-only (λ (ts : List Text). f (front is_within ts)) (front-skips f skips)
 
 -- a keyword ends the section, or is in it
-module _ (t : Text) (ts : List Text) (k : Keyword) (e : key_at t ≡ some k) where
-  pub within-stop : is_end (some k) ≡ true → front is_within (t ∷ ts) ≡ []
+module _ (t : Text) (ts : List Text) (k : Keyword) (e : key_at t ≡ Some k) where
+  pub within-stop : is_end (Some k) ≡ true → front is_within (t ∷ ts) ≡ []
   unfolding front
   within-stop h = cond_no _ _ (within-key t ∙ ap (λ (o : Option Keyword). not (is_end o)) e ∙ ap not h)
 
-  pub within-go : is_end (some k) ≡ false → front is_within (t ∷ ts) ≡ t ∷ front is_within ts
+  pub within-go : is_end (Some k) ≡ false → front is_within (t ∷ ts) ≡ t ∷ front is_within ts
   unfolding front
   within-go h = cond_yes _ _ (within-key t ∙ ap (λ (o : Option Keyword). not (is_end o)) e ∙ ap not h)

@@ -1,11 +1,10 @@
 -- The lines under a keyword and the keywords that follow, by the cursors that the code answers.
-use Rattle.std.specs.Prelude.{ℕ, ◌+◌, ◌≤◌, ◌<◌, ◌≡◌, List, [], ◌∷◌, Bool, true, false, cond, not, length}
-use Rattle.std.proofs.Math.Option.{Option, none, some}
+use Rattle.std.specs.Prelude.{ℕ, ◌+◌, ◌≤◌, ◌<◌, ◌≡◌, List, [], ◌∷◌, Bool, true, false, cond, not, length, Option, None, Some, Err, Result}
 use Rattle.laws.specs.Lists.{after, part}
 use Rattle.keywords.specs.Answers.{key_read}
 use Rattle.keywords.specs.declared.Keyword.{Keyword}
-use Rattle.keywords.specs.declared.KeyRead.{KeyRead}
-use Rattle.keywords.specs.declared.KeyRead.TheVariants.{Malformed}
+use Rattle.keywords.specs.declared.KeyFault.{KeyFault}
+use Rattle.keywords.specs.declared.KeyFault.TheVariants.{Malformed}
 use Rattle.cut_lines.specs.Texts.{Text, plain, change}
 use Rattle.cut_lines.specs.Cursors.{rest, Placed}
 use Rattle.cut_lines.specs.declared.Cursor.{Cursor}
@@ -14,8 +13,7 @@ use Rattle.rules.specs.Reading.{under, argument_at}
 use Rattle.rules.specs.Keys.{key_at}
 use Rattle.lines_under.specs.declared.LineNext.{LineNext}
 use Rattle.lines_under.specs.declared.LineNext.TheVariants.{Line, NoLine}
-use Rattle.lines_under.specs.declared.KeyNext.{KeyNext}
-use Rattle.lines_under.specs.declared.KeyNext.TheVariants.{Key, NoKey}
+use Rattle.lines_under.specs.declared.Key.{Key}
 use Rattle.lines_under.specs.declared.Lines.{Lines}
 
 -- ---- lines
@@ -56,12 +54,12 @@ pub record LinesAre (s : List ℕ) (c : Cursor) (r : Lines) : Type 0 where
 -- ---- keywords
 
 -- what a text is as a keyword line; one that is none counts as badly formed
-unfoldable pub text_read : List ℕ → KeyRead
-text_read w = cond (is_bracketed w) (key_read w) Malformed
+unfoldable pub text_read : List ℕ → Result (Keyword × ℕ) KeyFault
+text_read w = cond (is_bracketed w) (key_read w) (Err Malformed)
 
 abbrev pub is_some : Option Keyword → Bool
-is_some none = false
-is_some (some k) = true
+is_some None = false
+is_some (Some k) = true
 
 abbrev pub is_keyless : Text → Bool
 is_keyless t = not (is_some (key_at t))
@@ -69,13 +67,13 @@ is_keyless t = not (is_some (key_at t))
 pub record KeyIs (s : List ℕ) (c : Cursor) (k : Keyword) (a e : ℕ) (n : Cursor) : Type 0 where
   pub text : Text
   pub more : after is_keyless (rest s c) ≡ text ∷ rest s n
-  pub key : key_at text ≡ some k
+  pub key : key_at text ≡ Some k
   pub said : argument_at text ≡ part a e s
   pub placed : Placed s n
   pub rises : c.at < n.at
   pub starts : a ≤ e
   pub fits : e ≤ length s
 
-abbrev pub KeyNextIs : List ℕ → Cursor → KeyNext → Type 0
-KeyNextIs s c (Key k a e n) = KeyIs s c k a e n
-KeyNextIs s c NoKey = after is_keyless (rest s c) ≡ []
+abbrev pub KeyNextIs : List ℕ → Cursor → Option Key → Type 0
+KeyNextIs s c (Some k) = KeyIs s c k.keyword k.start k.end k.next
+KeyNextIs s c None = after is_keyless (rest s c) ≡ []

@@ -1,16 +1,18 @@
 // What stands under a keyword: the lines up to the next keyword line, one after another; and the keywords, one after another.
 #![tactic(auto)]
 
-ghost use Rattle.std.specs.Prelude.{◌≡◌};
-ghost use Rattle.std.proofs.Math.Option.{some};
-ghost use Rattle.cut_lines.specs.Cursors.{Placed};
+ghost use Rattle.std.specs.Prelude.{◌≡◌, ℕ, List};
+ghost use Rattle.cut_lines.specs.Cursors.{rest, Placed};
 ghost use Rattle.rules.specs.Keys.{is_end};
-ghost use Rattle.lines_under.specs.Under.{text_read, LineNextIs, KeyNextIs, LinesAre};
+ghost use Rattle.rules.specs.Reading.{under};
+ghost use Rattle.lines_under.specs.Under.{text_read, LineNextIs, KeyNextIs, LinesAre, StopsAt};
+ghost use Rattle.lines_under.specs.Steps.{Folds, StepsBy};
 
 use cut_lines::{Cursor, Next};
-use keywords::{KeyRead, Keyword};
+use keywords::{KeyFault, Keyword};
 
-// The next line under a keyword, from start up to end; or that there is none, and where the next keyword line stands.
+// The next line under a keyword, from start up to end; or that there is none, and where the next keyword line stands. The reading goes on at next in both
+// cases: with an Option of the line beside it, a loop would have to take next apart in each.
 #[derive(Clone, Copy)]
 pub enum LineNext {
     Line {
@@ -25,14 +27,11 @@ pub enum LineNext {
 
 // The next keyword that is carried, with its argument from start up to end.
 #[derive(Clone, Copy)]
-pub enum KeyNext {
-    Key {
-        keyword: Keyword,
-        start: usize,
-        end: usize,
-        next: Cursor,
-    },
-    NoKey,
+pub struct Key {
+    pub keyword: Keyword,
+    pub start: usize,
+    pub end: usize,
+    pub next: Cursor,
 }
 
 // How many lines stand under a keyword, and where the next keyword line stands.
@@ -42,7 +41,7 @@ pub struct Lines {
     pub next: Cursor,
 }
 
-// A [Comment Char] line is passed over: it closes nothing.
+// A [Comment Char] line is passed over: it closes nothing. Of a text's three cases only that one goes on: a while let over it would read the text behind it twice.
 pub fn next_line(src: &[u8], c: Cursor) -> LineNext
     requires { Placed src.now c }
     ensures { LineNextIs src.now c result }
@@ -59,11 +58,7 @@ pub fn next_line(src: &[u8], c: Cursor) -> LineNext
                 if named_lines::bracketed(&src[start..end]) {
                     return LineNext::NoLine { next: d };
                 }
-                return LineNext::Line {
-                    start: start,
-                    end: end,
-                    next: next,
-                };
+                return LineNext::Line { start, end, next };
             }
             Next::Change { line, fault, next } => d = next,
             Next::Out { line } => return LineNext::NoLine { next: d },
@@ -71,7 +66,33 @@ pub fn next_line(src: &[u8], c: Cursor) -> LineNext
     }
 }
 
-// Counts the lines under a keyword.
+// What the lines under a keyword make of x, one after another, and where the next keyword line stands: that is why a loop matches both cases of next_line, and
+// why an iterator of the lines would not do.
+pub fn fold_lines<X: Copy, F: Fn(X, &[u8]) -> X>(
+    src: &[u8],
+    c: Cursor,
+    x: X,
+    step: F,
+) -> (X, Cursor)
+    requires placed { Placed src.now c }
+    requires callable { F.IsAlwaysCallable step }
+    ensures folded { (f : X → List (List ℕ) → X) (g : X → List ℕ → X) → Folds f g → StepsBy F.Fn step g → result.0 ≡ f x (under (rest src.now c)) }
+    ensures stops { StopsAt src.now c result.1 }
+{
+    let mut x = x;
+    let mut d = c;
+    loop {
+        match next_line(src, d) {
+            LineNext::Line { start, end, next } => {
+                x = step(x, &src[start..end]);
+                d = next;
+            }
+            LineNext::NoLine { next } => return (x, next),
+        }
+    }
+}
+
+// Counts the lines under a keyword. No fold_lines: its step may always be called, and of any number one more need not fit.
 pub fn count_lines(src: &[u8], c: Cursor) -> Lines
     requires { Placed src.now c }
     ensures { LinesAre src.now c result }
@@ -85,27 +106,25 @@ pub fn count_lines(src: &[u8], c: Cursor) -> Lines
                 count += 1;
             }
             LineNext::NoLine { next } => {
-                return Lines {
-                    count: count,
-                    next: next,
-                };
+                return Lines { count, next };
             }
         }
     }
 }
 
 // What a text is as a keyword line; one that is none counts as badly formed.
-fn key_in(w: &[u8]) -> KeyRead
+#[tactic(auto, unfolding(crate::specs::Under::text_read))]
+fn key_in(w: &[u8]) -> Result<(Keyword, usize), KeyFault>
     ensures { result ≡ text_read w.now }
 {
     if !named_lines::bracketed(w) {
-        return KeyRead::Malformed;
+        return Err(KeyFault::Malformed);
     }
     keywords::key_of(w)
 }
 
-// Texts without a keyword that is carried are passed over.
-pub fn next_key(src: &[u8], c: Cursor) -> KeyNext
+// Texts without a keyword that is carried are passed over. Two of a text's three cases go on, so this is no while let.
+pub fn next_key(src: &[u8], c: Cursor) -> Option<Key>
     requires { Placed src.now c }
     ensures { KeyNextIs src.now c result }
 {
@@ -119,36 +138,27 @@ pub fn next_key(src: &[u8], c: Cursor) -> KeyNext
                 next,
             } => {
                 match key_in(&src[start..end]) {
-                    KeyRead::Known { keyword, argument } => {
+                    Ok((keyword, argument)) => {
                         let from = start + argument;
-                        return KeyNext::Key {
-                            keyword: keyword,
+                        return Some(Key {
+                            keyword,
                             start: from,
-                            end: end,
-                            next: next,
-                        };
+                            end,
+                            next,
+                        });
                     }
-                    KeyRead::Gap => d = next,
-                    KeyRead::Slip => d = next,
-                    KeyRead::Malformed => d = next,
+                    Err(_) => d = next,
                 }
             }
             Next::Change { line, fault, next } => d = next,
-            Next::Out { line } => return KeyNext::NoKey,
+            Next::Out { line } => return None,
         }
     }
 }
 
 // The keyword ends the section above it: it opens one, or is [End].
 pub fn ends(k: Keyword) -> bool
-    ensures { result ≡ is_end (some k) }
+    ensures { result ≡ is_end (Some k) }
 {
-    match k {
-        Keyword::Opens(_) => true,
-        Keyword::End => true,
-        Keyword::IbisVer => false,
-        Keyword::InHeader(_) => false,
-        Keyword::InComponent(_) => false,
-        Keyword::InModel(_) => false,
-    }
+    matches!(k, Keyword::Opens(_) | Keyword::End)
 }

@@ -8,7 +8,6 @@ mod listing; // listing.rt: the counts and the pins of an accepted file
 fn main() {
     let mut src = program_output::file_buffer();
     let n = io::read_full(0, &mut src);
-    let mut out = io::large_buffer();
     let mut pins = [0u64; PIN_TABLE];
     let mut selectors = [0u64; SELECTOR_TABLE];
     let mut choices = [0u64; CHOICE_TABLE];
@@ -20,5 +19,5 @@ fn main() {
         &mut choices,
         &mut models,
     );
-    listing::print_answer(&mut out, answer, &pins, &selectors, &choices, &models);
+    listing::print_answer(answer, &pins, &selectors, &choices, &models);
 }

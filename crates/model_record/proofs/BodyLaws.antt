@@ -1,10 +1,10 @@
 -- The keywords of a model as a fold over the keywords, and the whole record: a table more, if the keyword opens one, and the first of its kind counts.
+use Rattle.std.specs.Prelude.{None, Some}
 use Prim.Native.Nat.{ℕ, ◌+◌}
 use Prim.Native.String.{String}
 use mathlib.Core.Path.{◌≡◌, refl, sym, ap, ◌∙◌}
 use mathlib.Core.List.{List, [], ◌∷◌, ◌++◌, flat_map}
 use mathlib.Core.Bool.{Bool, true, false, cond}
-use mathlib.Core.Option.{none, some}
 use native.Mathlib.Omega.{arith}
 use lib.ListN.{length, length-append}
 use Rattle.laws.specs.Bytes.{bytes, is_blank}
@@ -89,7 +89,7 @@ module _ (key : String) where
 
 -- ---- a keyword more
 
-body-skip : (b : Body) (t : Text) (ts : List Text) → key_at t ≡ none → body_on b (t ∷ ts) ≡ body_on b ts
+body-skip : (b : Body) (t : Text) (ts : List Text) → key_at t ≡ None → body_on b (t ∷ ts) ≡ body_on b ts
 unfolding body_on
 body-skip b t ts e =
     rw (
@@ -123,7 +123,7 @@ body-by : (b : Body) (w : List ℕ) (ls : List (List ℕ)) (ts : List Text) (k :
 unfolding body_on one_of eqs words grown onto_word is_blank
 body-by b w ls ts = each-keyword _ refl refl refl refl refl refl refl refl refl refl refl refl refl refl refl refl refl refl refl refl refl refl refl refl
 
-body_more : (b : Body) (t : Text) (ts : List Text) (k : Keyword) → key_at t ≡ some k → body_on b (t ∷ ts) ≡ body_on (body_step b k (argument_at t) (under ts)) ts
+body_more : (b : Body) (t : Text) (ts : List Text) (k : Keyword) → key_at t ≡ Some k → body_on b (t ∷ ts) ≡ body_on (body_step b k (argument_at t) (under ts)) ts
 unfolding body_on
 body_more b t ts k e =
     let is = opens_table k in

@@ -1,4 +1,5 @@
 -- The first lines as a fold over the lines; a line without a place, and one at a place, which changes its own part; and what a line's word says, by what the code answers.
+use Rattle.std.specs.Prelude.{Result, Ok, Err, Some, None}
 use Prim.Native.Nat.{ℕ, ◌≤◌, ◌<◌}
 use mathlib.Core.Path.{◌≡◌, refl, sym, ap, ◌∙◌}
 use mathlib.Core.List.{List}
@@ -9,17 +10,13 @@ use borrow.Author.Tests.{eq-eqb, ne_eqb}
 use Rattle.laws.specs.Bytes.{is_blank}
 use Rattle.laws.specs.Lists.{eqs}
 use Rattle.laws.proofs.Tests.{cond_yes}
-use Rattle.laws.specs.Said.{Result, says, fault, or_else, read_on}
+use Rattle.laws.specs.Said.{or_else, read_on}
 use Rattle.words.specs.Words.{words, grown, onto_word}
 use Rattle.name_table.specs.Names.{place_from}
-use Rattle.name_table.specs.declared.Found.TheVariants.{At, Nothing}
 use Rattle.line_rules.specs.Fields.{line_at, word_line, cells_line, group_line, number_line, line_says}
-use Rattle.line_rules.specs.Answers.{triple_read, triple_says}
-use Rattle.line_rules.specs.declared.TripleRead.{TripleRead}
 use Rattle.line_rules.specs.Tables.{model_lines, model_types, polarities, enables}
 use Rattle.rules.specs.Reading.{split_says}
 use Rattle.line_rules.proofs.Places.{takes-place, takes-nothing}
-use Rattle.line_rules.proofs.Answers.{triple-said}
 use Rattle.line_rules.proofs.Says.{Says}
 use Rattle.records.specs.Flaws.{Reads, told_in}
 use Rattle.records.proofs.Columns.{told-else, told-on}
@@ -39,21 +36,21 @@ first-fold = record { none = λ f. refl; more = λ f w ws. refl }
 
 -- ---- the capacitance by structure
 
-abbrev pub present : {F : Type 0} → Triple → Result F Range
-present c = says (record { given = true; cells = c })
+abbrev pub present : {F : Type 0} → Triple → Result Range F
+present c = Ok (record { given = true; cells = c })
 
 -- what the code answers of a line's cells says them
-pub cells-said : (w : List ℕ) (before : Triple) (r : TripleRead) → r ≡ triple_read (told_in w (cells_line w)) → or_else before (triple_says r) ≡ or_else before (cells_line w)
-cells-said w before r e = ap (or_else before) (triple-said r (told_in w (cells_line w)) e) ∙ told-else w before (cells_line w)
+pub cells-said : (w : List ℕ) (before : Triple) (r : Result Triple LineFault) → r ≡ told_in w (cells_line w) → or_else before r ≡ or_else before (cells_line w)
+cells-said w before r e = ap (or_else before) e ∙ told-else w before (cells_line w)
 
-pub group-said : (w : List ℕ) (before : Range) (r : TripleRead) → r ≡ triple_read (told_in w (cells_line w)) → or_else before (read_on (triple_says r) present) ≡ or_else before (group_line w)
+pub group-said : (w : List ℕ) (before : Range) (r : Result Triple LineFault) → r ≡ told_in w (cells_line w) → or_else before (read_on r present) ≡ or_else before (group_line w)
 unfolding group_line
 group-said w before r e =
-    ap (λ (x : Result LineFault Triple). or_else before (read_on x present)) (triple-said r (told_in w (cells_line w)) e)
+    ap (λ (x : Result Triple LineFault). or_else before (read_on x present)) e
     ∙ ap (or_else before) (sym (told-on w (cells_line w) present))
     ∙ told-else w before (group_line w)
 
-split-place : (s : Split) (w : List ℕ) (n : ℕ) → line_at model_lines w ≡ At n → split_line s w ≡ split_at n s w
+split-place : (s : Split) (w : List ℕ) (n : ℕ) → line_at model_lines w ≡ Some n → split_line s w ≡ split_at n s w
 unfolding place_from words grown onto_word is_blank eqs
 split-place s w n e =
     rw (
@@ -63,7 +60,7 @@ split-place s w n e =
       takes-place "C_comp_gnd_clamp" group_line s.ground w model_lines n 7 e refl,
     )
 
-split-nothing : (s : Split) (w : List ℕ) → line_at model_lines w ≡ Nothing → split_line s w ≡ s
+split-nothing : (s : Split) (w : List ℕ) → line_at model_lines w ≡ None → split_line s w ≡ s
 unfolding place_from words grown onto_word is_blank eqs
 split-nothing s w e =
     rw (
@@ -75,7 +72,7 @@ split-nothing s w e =
 
 -- ---- a line without a place
 
-first-nothing : (f : FirstLines) (w : List ℕ) → line_at model_lines w ≡ Nothing → f ≡ first_line f w
+first-nothing : (f : FirstLines) (w : List ℕ) → line_at model_lines w ≡ None → f ≡ first_line f w
 unfolding place_from words grown onto_word is_blank eqs
 first-nothing f w e =
     rw (
@@ -98,10 +95,10 @@ module _ (m : Marks) (t : Triple) (s : Split) (l : Levels) (w : List ℕ) where
   abbrev held : FirstLines
   held = lines_over m t s l
 
-  pub line-nothing : line_at model_lines w ≡ Nothing → held ≡ first_line held w
+  pub line-nothing : line_at model_lines w ≡ None → held ≡ first_line held w
   line-nothing e = first-nothing held w e
 
-  module _ (n : ℕ) (e : line_at model_lines w ≡ At n) where
+  module _ (n : ℕ) (e : line_at model_lines w ≡ Some n) where
     by_place : first_line held w ≡ lines_over (marks_at n m w) (comp_at n t w) (split_at n s w) (levels_at n l w)
     unfolding place_from words grown onto_word is_blank eqs
     by_place =
@@ -172,12 +169,12 @@ module _ (m : Marks) (t : Triple) (s : Split) (l : Levels) (w : List ℕ) where
 
 module _ {A : Type 0} (absent before : A) (x : Reads A) (given : Says (λ (a : A). a ≡ absent → ⊥) x) {read : A} (e : read ≡ or_else absent x) where
   word-given : (v : A) (y : Reads A) → v ≡ or_else absent y → (v ≡ absent → ⊥) → v ≡ or_else before y
-  word-given v (says a) q there = q
-  word-given v (fault f) q there = absurd (there q)
+  word-given v (Ok a) q there = q
+  word-given v (Err f) q there = absurd (there q)
 
   word-missed : (y : Reads A) → Says (λ (a : A). a ≡ absent → ⊥) y → absent ≡ or_else absent y → before ≡ or_else before y
-  word-missed (says a) there q = absurd (there (sym q))
-  word-missed (fault f) there q = refl
+  word-missed (Ok a) there q = absurd (there (sym q))
+  word-missed (Err f) there q = refl
 
   pub word_some : {v : A} → read ≡ v → (v ≡ absent → ⊥) → v ≡ or_else before x
   word_some {v} q there = word-given v x (sym q ∙ e) there

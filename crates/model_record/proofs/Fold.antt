@@ -1,8 +1,8 @@
 -- A model's keywords as one fold: what they say of the model, what they add to the table of waveforms as g says of a record, and the words of its rows.
+use Rattle.std.specs.Prelude.{None, Some}
 use Prim.Native.Nat.{ℕ}
 use mathlib.Core.Path.{◌≡◌, refl, sym, ap, ◌∙◌}
 use mathlib.Core.List.{List, [], ◌∷◌, ◌++◌, append_assoc, append-nil, flat_map}
-use mathlib.Core.Option.{none, some}
 use Rattle.laws.specs.Bytes.{bytes, is_blank}
 use Rattle.laws.specs.Lists.{eqs, one_of}
 use Rattle.words.specs.Words.{words, grown, onto_word}
@@ -49,7 +49,7 @@ module _ {A : Type 0} (g : Waveform → List A) where
   unfolding waveforms_laid flat_map edge_of one_of eqs words grown onto_word is_blank
   waves-key b w ls more = each-keyword _ refl refl refl refl refl refl refl refl refl refl refl refl refl refl refl refl refl refl refl refl refl refl refl refl
 
-  fill_more : (x : Filling A) (t : Text) (ts : List Text) (k : Keyword) → key_at t ≡ some k → fill_on x (t ∷ ts) ≡ fill_on (fill_step x k (argument_at t) (under ts)) ts
+  fill_more : (x : Filling A) (t : Text) (ts : List Text) (k : Keyword) → key_at t ≡ Some k → fill_on x (t ∷ ts) ≡ fill_on (fill_step x k (argument_at t) (under ts)) ts
   fill_more x t ts k e =
       let row = x.body.row in
       let ls = under ts in
@@ -60,7 +60,7 @@ module _ {A : Type 0} (g : Waveform → List A) where
       in
       λ i. record { body = body-fold.more x.body t ts k e i; waves = waves i; rows = model-fold.more x.rows t ts k e i }
 
-  fill-skip : (x : Filling A) (t : Text) (ts : List Text) → key_at t ≡ none → fill_on x (t ∷ ts) ≡ fill_on x ts
+  fill-skip : (x : Filling A) (t : Text) (ts : List Text) → key_at t ≡ None → fill_on x (t ∷ ts) ≡ fill_on x ts
   fill-skip x t ts e =
       λ i.
       record {

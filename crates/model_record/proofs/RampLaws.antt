@@ -1,4 +1,5 @@
 -- A ramp's lines as a fold over the lines; a line without a place; and a line at a place, which changes its own part.
+use Rattle.std.specs.Prelude.{Some, None, Result}
 use Prim.Native.Nat.{ℕ, ◌≤◌, ◌<◌}
 use mathlib.Core.Path.{◌≡◌, refl, sym, ap, ◌∙◌}
 use mathlib.Core.List.{List, []}
@@ -13,18 +14,15 @@ use Rattle.laws.specs.Bytes.{is_blank}
 use Rattle.laws.specs.Lists.{eqs}
 use Rattle.words.specs.Words.{words, grown, onto_word}
 use Rattle.name_table.specs.Names.{place_from}
-use Rattle.name_table.specs.declared.Found.TheVariants.{At, Nothing}
 use Rattle.line_rules.specs.Fields.{line_at, slopes_line, number_line, line_says}
 use Rattle.line_rules.specs.Tables.{ramp_lines}
-use Rattle.line_rules.specs.Answers.{ramp_read, ramp_says}
-use Rattle.line_rules.specs.declared.RampRead.{RampRead}
 use Rattle.line_rules.proofs.Places.{takes-place, takes-nothing}
-use Rattle.line_rules.proofs.Answers.{ramp-said}
 use Rattle.rules.specs.Reading.{number_said, ramp_in}
 use Rattle.records.specs.Flaws.{told_in}
 use Rattle.records.proofs.Columns.{told-else}
 use Rattle.records.specs.declared.RampTable.{RampTable}
 use Rattle.records.specs.declared.RampTriple.{RampTriple}
+use Rattle.records.specs.declared.LineFault.{LineFault}
 use Rattle.lines_under.proofs.Folds.{Folds}
 use Rattle.model_record.specs.Ramps.{ramp_over, bare_ramp, ramp_line, ramp_on}
 
@@ -37,10 +35,10 @@ unfolding ramp_on number_said
 ramp-is ls = refl
 
 -- what the code answers of a line's slopes says them
-pub slopes-said : (w : List ℕ) (before : RampTriple) (r : RampRead) → r ≡ ramp_read (told_in w (slopes_line w)) → or_else before (ramp_says r) ≡ or_else before (slopes_line w)
-slopes-said w before r e = ap (or_else before) (ramp-said r (told_in w (slopes_line w)) e) ∙ told-else w before (slopes_line w)
+pub slopes-said : (w : List ℕ) (before : RampTriple) (r : Result RampTriple LineFault) → r ≡ told_in w (slopes_line w) → or_else before r ≡ or_else before (slopes_line w)
+slopes-said w before r e = ap (or_else before) e ∙ told-else w before (slopes_line w)
 
-ramp-nothing : (r : RampTable) (w : List ℕ) → line_at ramp_lines w ≡ Nothing → r ≡ ramp_line r w
+ramp-nothing : (r : RampTable) (w : List ℕ) → line_at ramp_lines w ≡ None → r ≡ ramp_line r w
 unfolding place_from words grown onto_word is_blank eqs
 ramp-nothing r w e =
     rw (
@@ -55,10 +53,10 @@ module _ (r f : RampTriple) (l : Cell) (w : List ℕ) where
   abbrev held : RampTable
   held = ramp_over r f l
 
-  pub line-nothing : line_at ramp_lines w ≡ Nothing → held ≡ ramp_line held w
+  pub line-nothing : line_at ramp_lines w ≡ None → held ≡ ramp_line held w
   line-nothing e = ramp-nothing held w e
 
-  module _ (n : ℕ) (e : line_at ramp_lines w ≡ At n) where
+  module _ (n : ℕ) (e : line_at ramp_lines w ≡ Some n) where
     abbrev slopes_at : ℕ → RampTriple → RampTriple
     slopes_at place before = cond (eqb n place) (or_else before (slopes_line w)) before
 

@@ -1,8 +1,8 @@
 -- A keyword more: what it gives, where to read on, and the bounds; and what stands under it: nothing, a current table's rows, or a waveform with its rows.
+use Rattle.std.specs.Prelude.{Some}
 use Prim.Native.Nat.{ℕ, ◌+◌, ◌/◌, ◌^◌, ◌≤◌, ◌<◌}
 use mathlib.Core.Path.{◌≡◌, refl, sym, ap, ◌∙◌, subst}
 use mathlib.Core.List.{List, []}
-use mathlib.Core.Bool.{true}
 use native.Mathlib.Omega.{arith}
 use lib.ListN.{length}
 use Rattle.laws.specs.Lists.{after}
@@ -115,7 +115,7 @@ module _ {s : List ℕ} {c : Cursor} {before behind : List ℕ} {r : Filled} (f 
         })
 
     pub wave-takes : (e : Edge) (b' : Body) → b' ≡ part_on b (Waveform Rising) no_cells no_ramp (r.words / 4) → (x : laid_waveform.Waveform) → x ≡ waveform_in b.row e (under (rest s c))
-        → TakesKey s b (InModel (Waveform e)) w c before behind (record { body = b'; next = r.next; words = r.words; found = true; waveform = x })
+        → TakesKey s b (InModel (Waveform e)) w c before behind (record { body = b'; next = r.next; words = r.words; waveform = Some x })
     wave-takes e b' i x j =
         record {
           taken = wave-taken e b' (i ∙ ap (part_on b (Waveform e) cells ramp) rows_are);

@@ -1,13 +1,14 @@
 -- The keywords up to a waveform: those so far made a body and added no waveform, and their rows lie over the row store as it was.
+use Rattle.std.specs.Prelude.{Option, Some, None, is_some}
+use Rattle.std.specs.Option.{option_to_list}
 use Prim.Native.Nat.{ℕ, ◌+◌, ◌-◌, ◌≤◌}
 use mathlib.Core.Path.{◌≡◌, refl, sym, ap, ◌∙◌, subst}
 use mathlib.Core.List.{List, [], ◌∷◌, ◌++◌, flat_map}
 use mathlib.Core.Bool.{true, false}
-use mathlib.Core.Option.{some}
 use lib.ListN.{length}
 use borrow.Rule.Slice.PartMut.{put_mid, mid_of}
 use Rattle.laws.specs.Lists.{front, after, part}
-use Rattle.laws.proofs.Tests.{cond_yes, cond_no}
+use Rattle.laws.proofs.Tests.{cond_yes, impossible}
 use Rattle.keywords.specs.declared.Keyword.{Keyword}
 use Rattle.cut_lines.specs.Texts.{Text}
 use Rattle.cut_lines.specs.Cursors.{rest, Placed}
@@ -39,6 +40,10 @@ bare b = record { body = b; waves = []; rows = [] }
 
 abbrev section_at : List ℕ → Cursor → List Text
 section_at s c = front is_within (rest s c)
+
+none-listed : (w : Option Waveform) → is_some w ≡ false → option_to_list w ≡ []
+none-listed None f = refl
+none-listed (Some x) f = impossible (cc)
 
 pub record Walks (s : List ℕ) (c d : Cursor) (b₀ b : Body) (store₀ store : List ℕ) (m : ℕ) : Type 0 where
   pub placed : Placed s d
@@ -85,10 +90,10 @@ module _ {s : List ℕ} {c d : Cursor} {b₀ b : Body} {store₀ store : List �
   walks-out e q = subst (TakesKeys s b₀ c store₀ store) (sym e) (whole (follows-out (fill-fold alone) p.follows q))
 
   module _ {k : Keyword} {a e : ℕ} {o : Cursor} (l : KeyIs s d k a e o) where
-    pub walks-end : {r : Taken} → r ≡ without_waveform b d m → is_end (some k) ≡ true → TakesKeys s b₀ c store₀ store r
+    pub walks-end : {r : Taken} → r ≡ without_waveform b d m → is_end (Some k) ≡ true → TakesKeys s b₀ c store₀ store r
     walks-end i q = subst (TakesKeys s b₀ c store₀ store) (sym i) (whole (follows-end (fill-fold alone) p.follows l q))
 
-    module _ (q : is_end (some k) ≡ false) (h : length (model_words (section_at s c)) ≤ length store₀) where
+    module _ (q : is_end (Some k) ≡ false) (h : length (model_words (section_at s c)) ≤ length store₀) where
       abbrev rows : List ℕ
       rows = stored (key_rows k (under (rest s o)))
 
@@ -117,18 +122,18 @@ module _ {s : List ℕ} {c d : Cursor} {b₀ b : Body} {store₀ store : List �
         pub behind-length : length (put_mid m (length store - m) store low') ≡ length store₀
         behind-length = lies-length lies-behind h (model_words (section_at s o)) rows_all
 
-        pub walks-key : r.found ≡ false → Walks s c r.next b₀ r.body store₀ (put_mid m (length store - m) store low') (m + r.words)
+        pub walks-key : is_some r.waveform ≡ false → Walks s c r.next b₀ r.body store₀ (put_mid m (length store - m) store low') (m + r.words)
         walks-key f =
             record {
               placed = t.taken.placed;
               fits = t.taken.fits;
               rowed = p.rowed ++ rows;
-              follows = subst (λ (w : List Waveform). Follows (fill-fold alone) s c r.next (bare b₀) (holds w)) (cond_no _ _ f) behind;
+              follows = subst (λ (w : List Waveform). Follows (fill-fold alone) s c r.next (bare b₀) (holds w)) (none-listed r.waveform f) behind;
               lies = lies-behind;
             }
 
-        pub walks-found : r.found ≡ true
-            → TakesKeys s b₀ c store₀ (put_mid m (length store - m) store low') (record { body = r.body; next = r.next; words = m + r.words; found = true; waveform = r.waveform })
+        pub walks-found : is_some r.waveform ≡ true
+            → TakesKeys s b₀ c store₀ (put_mid m (length store - m) store low') (record { body = r.body; next = r.next; words = m + r.words; waveform = r.waveform })
         walks-found f =
-            taken-all (record { body = r.body; next = r.next; words = m + r.words; found = true; waveform = r.waveform }) t.taken.placed t.taken.fits (p.rowed ++ rows) lies-behind
-            (behind.same ∙ ap (λ (w : List Waveform). fill_on alone (holds w) (section_at s r.next)) (cond_yes _ _ f))
+            taken-all (record { body = r.body; next = r.next; words = m + r.words; waveform = r.waveform }) t.taken.placed t.taken.fits (p.rowed ++ rows) lies-behind
+            (behind.same ∙ ap (fill_on alone (holds (waveform_of r))) (sym (cond_yes (section_at s r.next) [] f)))

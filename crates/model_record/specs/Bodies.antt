@@ -1,8 +1,7 @@
 -- What the keywords of a model give, one after another.
-use Rattle.std.specs.Prelude.{ℕ, ◌+◌, ◌^◌, ◌≤◌, ◌<◌, ◌≡◌, true, false, cond, length, eqb}
+use Rattle.std.specs.Prelude.{ℕ, ◌+◌, ◌^◌, ◌≤◌, ◌<◌, ◌≡◌, true, false, cond, length, eqb, Some}
 use Prim.Native.String.{String}
 use mathlib.Core.List.{List, [], ◌∷◌, flat_map}
-use Rattle.std.proofs.Math.Option.{some}
 use Rattle.laws.specs.Bytes.{bytes}
 use Rattle.laws.specs.Lists.{after, eqs}
 use Rattle.laws.specs.Said.{or_else}
@@ -20,7 +19,7 @@ use Rattle.rules.specs.Keys.{by_keyword}
 use Rattle.layout.specs.Laid.{rows_of, waveforms_laid}
 use Rattle.records.specs.Stored.{no_cells}
 use Rattle.records.specs.declared.Edge.TheVariants.{Rising}
-use Rattle.records.specs.declared.Name.{Name}
+use Rattle.records.specs.Texts.{Name}
 use Rattle.records.specs.declared.RampTable.{RampTable}
 use Rattle.records.specs.declared.Table.{Table}
 use Rattle.records.specs.declared.Triple.{Triple}
@@ -71,7 +70,7 @@ part_on b p cells ramp n =
 -- a keyword of another section changes nothing; w is its argument and ls are the lines under it
 abbrev pub body_step : Body → Keyword → List ℕ → List (List ℕ) → Body
 body_step b k w ls =
-    by_keyword b (λ p. b) (λ o. b) (λ p. b) (λ p. part_on b p (or_else no_cells (three_cells w)) (ramp_in w ls) (length (rows_in ls))) b (some k)
+    by_keyword b (λ p. b) (λ o. b) (λ p. b) (λ p. part_on b p (or_else no_cells (three_cells w)) (ramp_in w ls) (length (rows_in ls))) b (Some k)
 
 -- what tables make of the one of a kind; n is the next row's place
 unfoldable pub table_on : Table → List TableIs → ℕ → String → Table

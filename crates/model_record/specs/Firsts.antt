@@ -1,5 +1,5 @@
 -- A model's first lines, one after another.
-use Rattle.std.specs.Prelude.{ℕ, ◌≡◌, List, cond, eqb}
+use Rattle.std.specs.Prelude.{ℕ, ◌≡◌, List, cond, eqb, None}
 use Rattle.laws.specs.Said.{or_else}
 use Rattle.decimal.specs.declared.Cell.{Cell}
 use Rattle.decimal.specs.declared.Cell.TheVariants.{Missing}
@@ -12,8 +12,6 @@ use Rattle.rules.specs.Reading.{no_split, split_says, under}
 use Rattle.records.specs.Stored.{no_cells}
 use Rattle.records.specs.declared.ModelType.{ModelType}
 use Rattle.records.specs.declared.ModelType.TheVariants.{Terminator}
-use Rattle.records.specs.declared.Polarity.TheVariants.{NoPolarity}
-use Rattle.records.specs.declared.Enable.TheVariants.{NoEnable}
 use Rattle.records.specs.declared.Range.{Range}
 use Rattle.records.specs.declared.Split.{Split}
 use Rattle.records.specs.declared.Triple.{Triple}
@@ -31,7 +29,7 @@ lines_over m comp split l = record { marks = m; comp = comp; split = split; leve
 
 -- before the first line
 abbrev pub bare_marks : Marks
-bare_marks = record { kind = Terminator; polarity = NoPolarity; enable = NoEnable }
+bare_marks = record { kind = Terminator; polarity = None; enable = None }
 
 abbrev pub bare_levels : Levels
 bare_levels = record { vinl = Missing; vinh = Missing; vmeas = Missing; cref = Missing; rref = Missing; vref = Missing }

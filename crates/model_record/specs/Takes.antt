@@ -1,6 +1,6 @@
 -- Keywords taken with what stands under them: the rows are written into the row store, and a waveform is handed out.
-use Rattle.std.specs.Prelude.{ℕ, ◌≡◌, List, [], ◌∷◌, ◌++◌, false, cond}
-use Rattle.std.proofs.Math.Option.{some}
+use Rattle.std.specs.Prelude.{ℕ, ◌≡◌, List, [], ◌∷◌, ◌++◌, cond, Some, None, is_some}
+use Rattle.std.specs.Option.{option_to_list}
 use Rattle.laws.specs.Lists.{front}
 use Rattle.keywords.specs.declared.Keyword.{Keyword}
 use Rattle.keywords.specs.declared.ModelPart.{ModelPart}
@@ -12,11 +12,9 @@ use Rattle.rules.specs.Reading.{under, is_within, tables_in, waveform_in}
 use Rattle.rules.specs.Keys.{by_keyword}
 use Rattle.layout.specs.Laid.{waveforms_laid}
 use Rattle.records.specs.Stored.{stored}
-use Rattle.records.specs.declared.Edge.TheVariants.{Rising}
 use Rattle.records.specs.declared.Waveform as laid_waveform
 use Rattle.table_rows.specs.Rows.{Lies}
 use Rattle.table_rows.specs.Parts.{model_words, key_rows}
-use Rattle.table_rows.specs.Waveforms.{bare_waveform}
 use Rattle.model_record.specs.Bodies.{body_on, BodyFits, KeyTaken}
 use Rattle.model_record.specs.declared.Body.{Body}
 use Rattle.model_record.specs.declared.Taken.{Taken}
@@ -31,7 +29,7 @@ part_waveform g Ramp row ls = []
 part_waveform g (Waveform e) row ls = g (waveform_in row e ls)
 
 abbrev pub key_waveform : {A : Type 0} → (laid_waveform.Waveform → List A) → Keyword → ℕ → List (List ℕ) → List A
-key_waveform g k row ls = by_keyword [] (λ p. []) (λ o. []) (λ p. []) (λ p. part_waveform g p row ls) [] (some k)
+key_waveform g k row ls = by_keyword [] (λ p. []) (λ o. []) (λ p. []) (λ p. part_waveform g p row ls) [] (Some k)
 
 -- the record alone
 abbrev pub alone : laid_waveform.Waveform → List laid_waveform.Waveform
@@ -40,11 +38,11 @@ alone x = x ∷ []
 -- ---- what was taken
 
 abbrev pub without_waveform : Body → Cursor → ℕ → Taken
-without_waveform b n words = record { body = b; next = n; words = words; found = false; waveform = bare_waveform Rising 0 }
+without_waveform b n words = record { body = b; next = n; words = words; waveform = None }
 
 -- the waveform that was read last, if it was one
 abbrev pub waveform_of : Taken → List laid_waveform.Waveform
-waveform_of r = cond r.found (r.waveform ∷ []) []
+waveform_of r = option_to_list r.waveform
 
 -- a keyword, w being its argument, with its rows and its waveform
 pub record TakesKey (s : List ℕ) (b : Body) (k : Keyword) (w : List ℕ) (c : Cursor) (before behind : List ℕ) (r : Taken) : Type 0 where
@@ -54,7 +52,7 @@ pub record TakesKey (s : List ℕ) (b : Body) (k : Keyword) (w : List ℕ) (c : 
 
 -- the texts that are left of the section: none, if no waveform was read last
 abbrev pub left_of : List ℕ → Taken → List Text
-left_of s r = cond r.found (front is_within (rest s r.next)) []
+left_of s r = cond (is_some r.waveform) (front is_within (rest s r.next)) []
 
 -- the keywords from c on: with what is left of the section they say what all say
 pub record TakesKeys (s : List ℕ) (b : Body) (c : Cursor) (before behind : List ℕ) (r : Taken) : Type 0 where

@@ -21,7 +21,7 @@ use crate::{Body, Taken};
 use cut_lines::Cursor;
 use decimal::Cell;
 use keywords::{CurrentTable, Keyword, ModelPart};
-use lines_under::KeyNext;
+use lines_under::Key;
 use records::{Edge, RampTable, Range, Span, Table, Triple};
 
 fn no_table() -> Table
@@ -161,8 +161,7 @@ pub fn no_waveform(body: Body, next: Cursor, words: usize) -> Taken
         body: body,
         next: next,
         words: words,
-        found: false,
-        waveform: table_rows::bare_waveform(Edge::Rising, 0),
+        waveform: None,
     }
 }
 
@@ -192,8 +191,7 @@ fn take_waveform(rows: &mut [u64], src: &[u8], c: Cursor, b: Body, edge: Edge) -
         body: with_waveform(b, words / 4),
         next: next,
         words: words,
-        found: true,
-        waveform: waveform,
+        waveform: Some(waveform),
     }
 }
 
@@ -250,12 +248,14 @@ pub fn take_keys(rows: &mut [u64], src: &[u8], c: Cursor, b: Body) -> Taken
     let mut words: usize = 0;
     loop {
         match lines_under::next_key(src, d) {
-            KeyNext::Key {
-                keyword,
-                start,
-                end,
-                next,
-            } => {
+            Some(
+                Key {
+                    keyword,
+                    start,
+                    end,
+                    next,
+                },
+            ) => {
                 if lines_under::ends(keyword) {
                     return no_waveform(body, d, words);
                 }
@@ -270,18 +270,14 @@ pub fn take_keys(rows: &mut [u64], src: &[u8], c: Cursor, b: Body) -> Taken
                 body = taken.body;
                 d = taken.next;
                 words += taken.words;
-                if taken.found {
-                    let waveform = taken.waveform;
+                if taken.waveform.is_some() {
                     return Taken {
-                        body: body,
-                        next: d,
                         words: words,
-                        found: true,
-                        waveform: waveform,
+                        ..taken
                     };
                 }
             }
-            KeyNext::NoKey => {
+            None => {
                 return no_waveform(body, d, words);
             }
         }

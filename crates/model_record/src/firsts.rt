@@ -10,37 +10,33 @@ ghost use Rattle.model_record.specs.Firsts.{bare_marks, bare_levels, bare_lines,
 use crate::{FirstLines, FirstRead, Levels, Marks};
 use cut_lines::Cursor;
 use decimal::Cell;
-use line_rules::TripleRead;
 use lines_under::LineNext;
-use name_table::Found;
 use named_lines::fields::{number_after, type_after};
 use records::{Enable, ModelType, Polarity, Range, Split, Triple};
 
 // ---- one field after the line at place n
 
-fn polarity_after(n: usize, w: &[u8], before: Polarity) -> Polarity
+fn polarity_after(n: usize, w: &[u8], before: Option<Polarity>) -> Option<Polarity>
     ensures { result ≡ cond (eqb n 1) (or_else before (word_line polarities w.now)) before }
 {
     if n != 1 {
         return before;
     }
     match named_lines::polarity_of(w) {
-        Polarity::NoPolarity => before,
-        Polarity::Inverting => Polarity::Inverting,
-        Polarity::NonInverting => Polarity::NonInverting,
+        None => before,
+        Some(polarity) => Some(polarity),
     }
 }
 
-fn enable_after(n: usize, w: &[u8], before: Enable) -> Enable
+fn enable_after(n: usize, w: &[u8], before: Option<Enable>) -> Option<Enable>
     ensures { result ≡ cond (eqb n 2) (or_else before (word_line enables w.now)) before }
 {
     if n != 2 {
         return before;
     }
     match named_lines::enable_of(w) {
-        Enable::NoEnable => before,
-        Enable::ActiveHigh => Enable::ActiveHigh,
-        Enable::ActiveLow => Enable::ActiveLow,
+        None => before,
+        Some(enable) => Some(enable),
     }
 }
 
@@ -52,11 +48,11 @@ fn group_after(place: usize, n: usize, w: &[u8], before: Range) -> Range
         return before;
     }
     match line_faults::cells_line(w) {
-        TripleRead::Cells(cells) => Range {
+        Ok(cells) => Range {
             given: true,
             cells: cells,
         },
-        TripleRead::Flawed(_) => before,
+        Err(_) => before,
     }
 }
 
@@ -65,8 +61,8 @@ fn comp_after(w: &[u8], before: Triple) -> Triple
     ensures { result ≡ or_else before (cells_line w.now) }
 {
     match line_faults::cells_line(w) {
-        TripleRead::Cells(cells) => cells,
-        TripleRead::Flawed(_) => before,
+        Ok(cells) => cells,
+        Err(_) => before,
     }
 }
 
@@ -120,8 +116,8 @@ fn no_marks() -> Marks
 {
     Marks {
         kind: ModelType::Terminator,
-        polarity: Polarity::NoPolarity,
-        enable: Enable::NoEnable,
+        polarity: None,
+        enable: None,
     }
 }
 
@@ -181,7 +177,7 @@ pub fn first_lines(src: &[u8], c: Cursor) -> FirstRead
         match lines_under::next_line(src, d) {
             LineNext::Line { start, end, next } => {
                 d = next;
-                if let Found::At(n) = named_lines::model_line(&src[start..end]) {
+                if let Some(n) = named_lines::model_line(&src[start..end]) {
                     match n {
                         0 | 1 | 2 => marks = marks_after(n, &src[start..end], marks),
                         3 => comp = comp_after(&src[start..end], comp),

@@ -14,8 +14,8 @@ pub mod record; // record.rt: the whole record
 #[derive(Clone, Copy)]
 pub struct Marks {
     pub kind: ModelType,
-    pub polarity: Polarity,
-    pub enable: Enable,
+    pub polarity: Option<Polarity>,
+    pub enable: Option<Enable>,
 }
 
 // and with a number.
@@ -66,13 +66,12 @@ pub struct Body {
     pub row: usize,
 }
 
-// What the keywords say with one more, or with all up to a waveform: how many words their rows took, where to read on, and whether the last is a
-// waveform; then this is its record.
+// What the keywords say with one more, or with all up to a waveform: how many words their rows took, where to read on, and the record of the last if it
+// is a waveform.
 #[derive(Clone, Copy)]
 pub struct Taken {
     pub body: Body,
     pub next: Cursor,
     pub words: usize,
-    pub found: bool,
-    pub waveform: Waveform,
+    pub waveform: Option<Waveform>,
 }

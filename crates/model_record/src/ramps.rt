@@ -9,9 +9,7 @@ ghost use Rattle.model_record.specs.Ramps.{RampReadIs};
 use crate::RampLinesRead;
 use cut_lines::Cursor;
 use decimal::Cell;
-use line_rules::RampRead;
 use lines_under::LineNext;
-use name_table::Found;
 use named_lines::fields::number_after;
 use records::{RampCell, RampTable, RampTriple};
 
@@ -30,8 +28,8 @@ fn slopes_after(w: &[u8], before: RampTriple) -> RampTriple
     ensures { result ≡ or_else before (slopes_line w.now) }
 {
     match line_faults::slopes_line(w) {
-        RampRead::Slopes(slopes) => slopes,
-        RampRead::Refused(_) => before,
+        Ok(slopes) => slopes,
+        Err(_) => before,
     }
 }
 
@@ -48,7 +46,7 @@ pub fn ramp_lines(src: &[u8], c: Cursor) -> RampLinesRead
         match lines_under::next_line(src, d) {
             LineNext::Line { start, end, next } => {
                 d = next;
-                if let Found::At(n) = named_lines::ramp_line(&src[start..end]) {
+                if let Some(n) = named_lines::ramp_line(&src[start..end]) {
                     match n {
                         0 => rise = slopes_after(&src[start..end], rise),
                         1 => fall = slopes_after(&src[start..end], fall),

@@ -1,9 +1,6 @@
 // The steps of [Model]: its first lines, its keywords, the rows and lines of its lists, and what is checked where they close.
 #![tactic(auto)]
 
-use records::LineFault;
-use rules::RowsSeen;
-
 pub mod state; // state.rt: a model's state, new and with one thing changed
 pub mod rows; // rows.rt: the rows of a table
 pub mod body; // body.rt: a line that is no keyword line
@@ -13,10 +10,3 @@ pub use body::model_line;
 pub use parts::{model_done, model_part, model_shut};
 pub use rows::{head_after, one_more, rising, row_step, table_fault};
 pub use state::{new_model, with_list};
-
-// The rows with one more, or the line's fault.
-#[derive(Clone, Copy)]
-pub enum RowStep {
-    Next(RowsSeen),
-    NoRow(LineFault),
-}

@@ -1,6 +1,7 @@
 // The keywords of a model, and what is checked where a list, a table or the model closes.
 ghost use Rattle.std.specs.Prelude.{◌≡◌};
 ghost use Rattle.keywords.specs.Answers.{ArgumentFrom};
+ghost use Rattle.records.specs.Flaws.{bare, checked};
 ghost use Rattle.rules.specs.Going.{unless};
 ghost use Rattle.rules.specs.Model.{model_place, model_opens, single_part, waveform_part, model_part, table_fault, closed, model_shut, model_done};
 ghost use Rattle.model_steps.specs.Closes.{both_given, is_whole, is_crossed};
@@ -9,6 +10,7 @@ use crate::rows::{no_rows, table_fault};
 use crate::state::{quiet, with_list};
 use given::Given;
 use keywords::{CurrentTable, ModelPart};
+use records::{LineFault, at_line};
 use rules::{Event, ModelList, ModelState, RowsSeen, Stage, Went, types};
 
 // ---- keywords
@@ -40,19 +42,18 @@ fn model_opens(k: u64, p: ModelPart) -> ModelList
     ensures { result ≡ model_opens k p }
 {
     match p {
-        ModelPart::VoltageRange => ModelList::ModelShut,
-        ModelPart::TemperatureRange => ModelList::ModelShut,
+        ModelPart::VoltageRange | ModelPart::TemperatureRange => ModelList::ModelShut,
         ModelPart::Current(_) => ModelList::CurrentRows {
             line: k,
             rows: no_rows(),
         },
         ModelPart::Ramp => ModelList::RampLines {
             line: k,
-            given: given::none_given(),
+            given: Given::none(),
         },
         ModelPart::Waveform(_) => ModelList::WaveformRows {
             line: k,
-            given: given::none_given(),
+            given: Given::none(),
             rows: no_rows(),
         },
     }
@@ -63,18 +64,10 @@ fn single_part(m: ModelState, k: u64, w: &[u8], at: usize, p: ModelPart) -> Went
     requires { ArgumentFrom w.now at }
     ensures { result ≡ single_part m k w.now p }
 {
-    let place = model_place(p);
-    let parts = m.parts;
-    if given::is_given(parts, place) {
-        return rules::stopped(8, k);
-    }
-    let fault = line_faults::model_fault(w, at, p);
-    if fault.number != 0 {
-        return rules::stopped_at(fault, k);
-    }
-    let mut next = with_list(m, model_opens(k, p));
-    next.parts = given::also(parts, place);
-    quiet(next)
+    let own = line_faults::model_fault(w, at, p);
+    let parts = rules::once(m.parts, model_place(p), k, own)?;
+    let list = model_opens(k, p);
+    quiet(ModelState { parts, list, ..m })
 }
 
 // The most waveforms of a model.
@@ -84,16 +77,16 @@ fn waveform_part(m: ModelState, k: u64, w: &[u8], at: usize, p: ModelPart) -> We
     requires { ArgumentFrom w.now at }
     ensures { result ≡ waveform_part m k w.now p }
 {
-    let fault = line_faults::model_fault(w, at, p);
-    if fault.number != 0 {
-        return rules::stopped_at(fault, k);
-    }
+    at_line(line_faults::model_fault(w, at, p), k)?;
     if MOST_WAVEFORMS <= m.waveforms {
         return rules::stopped(17, k);
     }
-    let mut next = with_list(m, model_opens(k, p));
-    next.waveforms = m.waveforms + 1;
-    Went::On(Stage::InModel(next), Event::WaveformOpened)
+    let next = ModelState {
+        waveforms: m.waveforms + 1,
+        list: model_opens(k, p),
+        ..m
+    };
+    Ok((Stage::InModel(next), Event::WaveformOpened))
 }
 
 // A keyword of the model at line k, whose argument begins at a place.
@@ -113,10 +106,7 @@ pub fn model_part(m: ModelState, k: u64, w: &[u8], at: usize, p: ModelPart) -> W
 fn both_given(given: Given) -> bool
     ensures { result ≡ both_given given }
 {
-    if !given::is_given(given, 0) {
-        return false;
-    }
-    given::is_given(given, 1)
+    given.is_given(0) && given.is_given(1)
 }
 
 // The most rows of a current table, and of a waveform.
@@ -134,10 +124,7 @@ fn closed(m: ModelState) -> Went
 fn close_table(m: ModelState, most: u64, k: u64, rows: RowsSeen) -> Went
     ensures { result ≡ unless (table_fault most rows) k (closed m) }
 {
-    let fault = table_fault(most, rows);
-    if fault != 0 {
-        return rules::stopped(fault, k);
-    }
+    at_line(table_fault(most, rows), k)?;
     closed(m)
 }
 
@@ -145,10 +132,8 @@ fn close_table(m: ModelState, most: u64, k: u64, rows: RowsSeen) -> Went
 pub fn model_shut(m: ModelState) -> Went
     ensures { result ≡ model_shut m m.list }
 {
-    let list = m.list;
-    match list {
-        ModelList::ModelFirst => closed(m),
-        ModelList::ModelShut => closed(m),
+    match m.list {
+        ModelList::ModelFirst | ModelList::ModelShut => closed(m),
         ModelList::CurrentRows { line, rows } => close_table(m, MOST_ROWS, line, rows),
         ModelList::RampLines { line, given } => {
             if !both_given(given) {
@@ -171,46 +156,29 @@ pub fn model_shut(m: ModelState) -> Went
 fn is_whole(m: ModelState) -> bool
     ensures { result ≡ is_whole m }
 {
-    let first = m.first;
-    let parts = m.parts;
-    if !given::is_given(first, 0) {
-        return false;
-    }
-    if !given::is_given(first, 3) {
-        return false;
-    }
-    if !given::is_given(parts, 0) {
-        return false;
-    }
-    let kind = m.kind;
-    if !types::is_driven(kind) {
-        return true;
-    }
-    given::is_given(parts, 6)
+    m.first.is_given(0)
+        && m.first.is_given(3)
+        && m.parts.is_given(0)
+        && (!types::is_driven(m.kind) || m.parts.is_given(6))
 }
 
 // An input's thresholds are not in order.
 fn is_crossed(m: ModelState) -> bool
     ensures { result ≡ is_crossed m }
 {
-    let kind = m.kind;
-    if !types::is_input(kind) {
-        return false;
-    }
-    let vinl = m.vinl;
-    let vinh = m.vinh;
-    let t = types::thresholds(kind, vinl, vinh);
-    let low = t.vinl;
-    let high = t.vinh;
-    !types::is_below(low, high)
+    let t = types::thresholds(m.kind, m.vinl, m.vinh);
+    types::is_input(m.kind) && !types::is_below(t.vinl, t.vinh)
 }
 
-// The fault of a whole model, 0 for none.
-pub fn model_done(m: ModelState) -> u8
-    ensures { result ≡ model_done m }
+// What a model lacks, or what is wrong with a whole one.
+pub fn model_done(m: ModelState) -> Result<(), LineFault>
+    ensures { result ≡ checked (bare (model_done m)) }
 {
     if !is_whole(m) {
-        return 9;
+        return Err(records::bare_fault(9));
     }
-    if is_crossed(m) { 20 } else { 0 }
+    if is_crossed(m) {
+        return Err(records::bare_fault(20));
+    }
+    Ok(())
 }

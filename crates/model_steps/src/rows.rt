@@ -1,11 +1,10 @@
 // The rows of a table: one more, and what is wrong with all of them.
 ghost use Rattle.std.specs.Prelude.{◌≡◌, cond, ◌+◌, min, eqb};
-ghost use Rattle.records.specs.Flaws.{told_in};
+ghost use Rattle.records.specs.Flaws.{bare, checked, told_in};
 ghost use Rattle.line_rules.specs.Fields.{row_of};
 ghost use Rattle.rules.specs.Model.{no_rows, with_row, table_fault};
-ghost use Rattle.model_steps.specs.Rows.{rises_over, row_step};
+ghost use Rattle.model_steps.specs.Rows.{rises_over, row_step, rows_fit};
 
-use crate::RowStep;
 use decimal::Decimal;
 use records::LineFault;
 use rules::RowsSeen;
@@ -29,10 +28,7 @@ pub(crate) fn no_rows() -> RowsSeen
 pub fn rising(count: u64, last: Decimal, d: Decimal) -> bool
     ensures { result ≡ rises_over count last d }
 {
-    if count == 0 {
-        return true;
-    }
-    decimal::less(last, d)
+    count == 0 || decimal::less(last, d)
 }
 
 // Rows are counted up to one more than any table may have.
@@ -51,10 +47,7 @@ pub fn one_more(count: u64) -> u64
 pub fn head_after(count: u64, head: bool, typ: bool) -> bool
     ensures { result ≡ cond (eqb count 0) typ head }
 {
-    if count == 0 {
-        return typ;
-    }
-    head
+    if count == 0 { typ } else { head }
 }
 
 fn with_row(r: RowsSeen, d: Decimal, typ: bool) -> RowsSeen
@@ -69,12 +62,12 @@ fn with_row(r: RowsSeen, d: Decimal, typ: bool) -> RowsSeen
 }
 
 // A line of the table that is open.
-pub fn row_step(r: RowsSeen, w: &[u8]) -> RowStep
+pub fn row_step(r: RowsSeen, w: &[u8]) -> Result<RowsSeen, LineFault>
     ensures { result ≡ row_step r (told_in w.now (row_of w.now)) }
 {
     let row = line_cells::row_words(w);
     if row.fault != 0 {
-        return RowStep::NoRow(LineFault {
+        return Err(LineFault {
             number: row.fault as u8,
             column: row.column,
         });
@@ -82,23 +75,24 @@ pub fn row_step(r: RowsSeen, w: &[u8]) -> RowStep
     let number = decimal::decimal_in(row.number);
     let last = r.last;
     if !rising(r.count, last, number) {
-        return RowStep::NoRow(records::bare_fault(13));
+        return Err(records::bare_fault(13));
     }
-    RowStep::Next(with_row(r, number, decimal::holds_number(row.typ)))
+    Ok(with_row(r, number, decimal::holds_number(row.typ)))
+}
+
+// So many rows at most, and the first and the last typ are numbers.
+fn rows_fit(most: u64, r: RowsSeen) -> bool
+    ensures { result ≡ rows_fit most r }
+{
+    2 <= r.count && r.count <= most && r.head && r.tail
 }
 
 // The fault of a whole table of at most so many rows, 0 for none.
-pub fn table_fault(most: u64, r: RowsSeen) -> u8
-    ensures { result ≡ table_fault most r }
+pub fn table_fault(most: u64, r: RowsSeen) -> Result<(), LineFault>
+    ensures { result ≡ checked (bare (table_fault most r)) }
 {
-    if r.count < 2 {
-        return 13;
+    if !rows_fit(most, r) {
+        return Err(records::bare_fault(13));
     }
-    if most < r.count {
-        return 13;
-    }
-    if !r.head {
-        return 13;
-    }
-    if r.tail { 0 } else { 13 }
+    Ok(())
 }

@@ -5,6 +5,7 @@ ghost use Rattle.rules.specs.Model.{new_model, with_model_list};
 ghost use Rattle.rules.specs.declared.Stage.TheVariants.{InModel};
 
 use decimal::Cell;
+use given::Given;
 use records::ModelType;
 use rules::{Event, ModelList, ModelState, Stage, Went};
 
@@ -12,7 +13,7 @@ use rules::{Event, ModelList, ModelState, Stage, Went};
 pub fn new_model(k: u64) -> ModelState
     ensures { result ≡ new_model k }
 {
-    let none = given::none_given();
+    let none = Given::none();
     ModelState {
         line: k,
         first: none,
@@ -29,26 +30,12 @@ pub fn new_model(k: u64) -> ModelState
 pub fn with_list(m: ModelState, list: ModelList) -> ModelState
     ensures { result ≡ with_model_list m list }
 {
-    let first = m.first;
-    let kind = m.kind;
-    let vinl = m.vinl;
-    let vinh = m.vinh;
-    let parts = m.parts;
-    ModelState {
-        line: m.line,
-        first: first,
-        kind: kind,
-        vinl: vinl,
-        vinh: vinh,
-        parts: parts,
-        waveforms: m.waveforms,
-        list: list,
-    }
+    ModelState { list, ..m }
 }
 
 // On with the model, and nothing to tell.
 pub(crate) fn quiet(m: ModelState) -> Went
     ensures { result ≡ quietly (InModel m) }
 {
-    Went::On(Stage::InModel(m), Event::Quiet)
+    Ok((Stage::InModel(m), Event::Quiet))
 }

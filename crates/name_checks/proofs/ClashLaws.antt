@@ -1,9 +1,9 @@
 -- Names used twice: an earlier name taken in front of the rest, keys that equal names share where they are compared, and a clash that stays.
+use Rattle.std.specs.Prelude.{Option, None, Some}
 use Prim.Native.Nat.{ℕ, zero, suc, ◌+◌, ◌-◌, ◌*◌, ◌%◌, ◌≤◌, ◌<◌}
 use mathlib.Core.Path.{◌≡◌, refl, sym, ap, ◌∙◌}
 use mathlib.Core.List.{List, [], ◌∷◌}
 use mathlib.Core.Bool.{Bool, true, false, cond, ◌&&◌, ◌||◌}
-use mathlib.Core.Option.{Option, none, some}
 use native.Mathlib.Omega.{arith}
 use native.Mathlib.Numerals.{add-one}
 use lib.ListN.{length, drop, get_or, replicate, drop_of_length-le, length-replicate}
@@ -20,20 +20,13 @@ use Rattle.records.specs.declared.Kind.TheVariants.{OfComponent, OfPin, OfSelect
 use Rattle.notes.specs.Noted.{or_used, clash}
 use Rattle.note_words.specs.Store.{noted_line, name_at, note_at, notes_to}
 use Rattle.note_words.proofs.Laws.{note-name, note-line}
-use Rattle.name_checks.specs.declared.Clash.TheVariants.{At, NoClash}
 use Rattle.name_checks.specs.declared.Meeting.{Meeting}
 use Rattle.name_checks.specs.declared.Meeting.TheVariants.{Equal, Differing, Beyond}
-use Rattle.name_checks.specs.Lookup.{place_at, part_said, entry_at, entries_to, model_or_selector, rivals, enclosed, meeting, meeting_at, section_behind, section_to, start_of, key_from, key_at, seen_words, is_seen, with_seen, clash_of}
+use Rattle.name_checks.specs.Lookup.{place_at, part_said, entry_at, entries_to, model_or_selector, rivals, enclosed, meeting, meeting_at, met, meets_to, section_behind, section_to, start_of, key_from, key_at, seen_words, is_seen, with_seen}
 use Rattle.name_checks.proofs.NoteLaws.{note-kind, name-said}
 use Rattle.name_checks.proofs.SeenLaws.{seen-long, seen-own, seen-stays}
 
 -- ---- a name among earlier ones, the nearest of them taken first
-
--- what a meeting says, u being what the names before say
-abbrev pub met : Meeting → Bool → Bool
-met Equal u = true
-met Differing u = u
-met Beyond u = false
 
 -- all earlier ones that pass count
 met-open : (p b u : Bool) → ((p && b) || u) ≡ met (cond p (cond b Equal Differing) Differing) u
@@ -84,26 +77,29 @@ module _ (s xs : List ℕ) (i : ℕ) where
       used-cons (note_at s xs i).kind (note_at s xs i).name (entry_at s xs j) (entries_to s xs j)
       ∙ rw (note-kind s xs i) rw (note-kind s xs j) rw (note-name s xs i) rw (note-name s xs j) refl
 
-  -- of its kind k, and its name at w
-  module _ (k : ℕ) (w : Word) (kind : k ≡ place_at xs i) (said : w ≡ part_said xs i 1) where
-    pub used_turn : (j : ℕ) (m v : Meeting) → 0 < j → m ≡ meeting k (place_at xs (j - 1)) (eqs (part w.start w.end s) (name_at s xs (j - 1))) → m ≡ v → used_at j ≡ met v (used_at (j - 1))
-    unfolding meeting_at
-    used_turn j m v h g t =
-        let e : j ≡ suc (j - 1) = omega (arith, h) in
-        let same : m ≡ meeting_at s xs i (j - 1) = g ∙ rw kind rw (name-said s xs w i said) refl in
-        ap used_at e ∙ used-suc (j - 1) ∙ ap (λ (x : Meeting). met x (used_at (j - 1))) (sym same ∙ t)
-
-    pub key-own : (section key : ℕ) → section ≡ section_to xs i → key ≡ key_from (start_of k section) (part w.start w.end s) → key ≡ key_at s xs i
-    key-own section key h g = g ∙ rw kind rw h rw (name-said s xs w i said) refl
-
   pub used-zero : used_at 0 ≡ false
   unfolding notes_to
   used-zero = used-none (note_at s xs i).kind (note_at s xs i).name
 
-  pub used-end : (j : ℕ) → j ≤ 0 → used_at j ≡ used_at i → used_at i ≡ false
-  used-end j h e =
-      let z : j ≡ 0 = omega (arith, h) in
-      sym e ∙ ap used_at z ∙ used-zero
+  -- of its kind k, and its name at w
+  module _ (k : ℕ) (w : Word) (kind : k ≡ place_at xs i) (said : w ≡ part_said xs i 1) where
+    pub used-meets : (j : ℕ) → used_at j ≡ meets_to s xs k (part w.start w.end s) j
+    unfolding meets_to meeting_at
+    used-meets zero = used-zero
+    used-meets (suc j) =
+        let same : meeting_at s xs i j ≡ meeting k (place_at xs j) (eqs (part w.start w.end s) (name_at s xs j)) = sym (rw kind rw (name-said s xs w i said) refl) in
+        used-suc j ∙ ap (λ (x : Meeting). met x (used_at j)) same ∙ ap (met _) (used-meets j)
+
+    pub key-own : (section key : ℕ) → section ≡ section_to xs i → key ≡ key_from (start_of k section) (part w.start w.end s) → key ≡ key_at s xs i
+    key-own section key h g = g ∙ rw kind rw h rw (name-said s xs w i said) refl
+
+-- a name among the first ones, by the nearest of them
+pub meets_turn : (s xs : List ℕ) (k : ℕ) (name : List ℕ) (j : ℕ) (m v : Meeting) → 0 < j → m ≡ meeting k (place_at xs (j - 1)) (eqs name (name_at s xs (j - 1))) → m ≡ v
+    → meets_to s xs k name j ≡ met v (meets_to s xs k name (j - 1))
+unfolding meets_to
+meets_turn s xs k name j m v h e t =
+    let q : j ≡ suc (j - 1) = omega (arith, h) in
+    ap (meets_to s xs k name) q ∙ ap (λ (x : Meeting). met x (meets_to s xs k name (j - 1))) (sym e ∙ t)
 
 -- ---- a meeting by its tests
 
@@ -236,14 +232,14 @@ module _ (s xs seen : List ℕ) (i key : ℕ) (own : key ≡ key_at s xs i) (h :
 -- ---- the first name that is used twice
 
 module _ (s xs : List ℕ) where
-  clash-suc : (i : ℕ) → clash (entries_to s xs i) ≡ none → clash (entries_to s xs (suc i)) ≡ or_used (entry_at s xs i) (used_at s xs i i) none
+  clash-suc : (i : ℕ) → clash (entries_to s xs i) ≡ None → clash (entries_to s xs (suc i)) ≡ or_used (entry_at s xs i) (used_at s xs i i) None
   unfolding notes_to clash
   clash-suc i h = rw h refl
 
-  pub clash-next : (i : ℕ) → clash (entries_to s xs i) ≡ none → used_at s xs i i ≡ false → clash (entries_to s xs (i + 1)) ≡ none
+  pub clash-next : (i : ℕ) → clash (entries_to s xs i) ≡ None → used_at s xs i i ≡ false → clash (entries_to s xs (i + 1)) ≡ None
   clash-next i h u = rw (add-one i) (clash-suc i h ∙ rw u refl)
 
-  clash-stays : (i n k : ℕ) → i ≤ n → clash (entries_to s xs i) ≡ some k → clash (entries_to s xs n) ≡ some k
+  clash-stays : (i n k : ℕ) → i ≤ n → clash (entries_to s xs i) ≡ Some k → clash (entries_to s xs n) ≡ Some k
   unfolding notes_to clash
   clash-stays i zero k h e =
       let z : i ≡ 0 = omega (arith, h) in
@@ -254,24 +250,19 @@ module _ (s xs : List ℕ) where
       let z : i ≡ suc n = omega (arith, h, g) in
       sym (ap (λ (m : ℕ). clash (entries_to s xs m)) z) ∙ e)
 
-  pub clash-here : (i n : ℕ) → i < n → clash (entries_to s xs i) ≡ none → used_at s xs i i ≡ true → clash (entries_to s xs n) ≡ some (noted_line s xs i)
-  clash-here i n g h u = clash-stays (suc i) n (noted_line s xs i) g (clash-suc i h ∙ rw u (ap some (note-line s xs i)))
+  pub clash-here : (i n : ℕ) → i < n → clash (entries_to s xs i) ≡ None → used_at s xs i i ≡ true → clash (entries_to s xs n) ≡ Some (noted_line s xs i)
+  clash-here i n g h u = clash-stays (suc i) n (noted_line s xs i) g (clash-suc i h ∙ rw u (ap Some (note-line s xs i)))
 
-  pub clash-none : clash (entries_to s xs 0) ≡ none
+  pub clash-none : clash (entries_to s xs 0) ≡ None
   unfolding notes_to clash
   clash-none = refl
 
-  pub clash-end : (i n : ℕ) → i ≤ n → n ≤ i → clash (entries_to s xs i) ≡ none → none ≡ clash (entries_to s xs n)
-  clash-end i n h g e =
-      let z : i ≡ n = omega (arith, h, g) in
-      sym e ∙ ap (λ (m : ℕ). clash (entries_to s xs m)) z
-
 -- ---- what is answered says the clash
 
-pub found-clash : (o : Option ℕ) (k : ℕ) → At k ≡ clash_of o → o ≡ some k
-found-clash (some l) k h = cc
-found-clash none k h = impossible (cc)
+pub found-clash : (o : Option ℕ) (k : ℕ) → Some k ≡ o → o ≡ Some k
+found-clash (Some l) k h = cc
+found-clash None k h = impossible cc
 
-pub no-clash : (o : Option ℕ) → NoClash ≡ clash_of o → o ≡ none
-no-clash (some l) h = impossible (cc)
-no-clash none h = refl
+pub no-clash : (o : Option ℕ) → None ≡ o → o ≡ None
+no-clash (Some l) h = impossible cc
+no-clash None h = refl

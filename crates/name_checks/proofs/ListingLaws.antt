@@ -1,9 +1,9 @@
 -- Models and selectors by their keys: their keys were seen, so that what names one has had its key seen; and a name that is named is the one that is searched for.
-use Prim.Native.Nat.{ℕ, zero, suc, ◌+◌, ◌%◌, ◌≤◌, ◌<◌}
+use Rattle.std.specs.Prelude.{None, Option, Some}
+use Prim.Native.Nat.{ℕ, zero, suc, ◌+◌, ◌%◌, ◌<◌}
 use mathlib.Core.Path.{◌≡◌, refl, sym, ap, ◌∙◌, subst}
 use mathlib.Core.List.{List}
 use mathlib.Core.Bool.{true, false, ◌&&◌}
-use mathlib.Core.Option.{none}
 use native.Mathlib.Omega.{arith}
 use native.Mathlib.Numerals.{add-one}
 use lib.ListN.{length, set, replicate, length-replicate}
@@ -12,8 +12,6 @@ use borrow.Author.Tests.{eqb-true, eqb-false, ltb-true}
 use Rattle.laws.specs.Lists.{eqs}
 use Rattle.laws.proofs.Tests.{by-test, by_order, cond_yes, cond_no, and_first, and_second, never}
 use Rattle.laws.proofs.Same.{eqs-eq}
-use Rattle.name_table.specs.declared.Found.{Found}
-use Rattle.name_table.specs.declared.Found.TheVariants.{At, Nothing}
 use Rattle.notes.specs.Noted.{clash}
 use Rattle.note_words.specs.Store.{name_at}
 use Rattle.name_checks.specs.Lookup.{place_at, model_at, entries_to, model_or_selector, seen_words, is_seen, with_seen, reaches, reaches_at, target_to, target_key, with_key, slot_count, with_slot, after, keys_to, Listed}
@@ -30,11 +28,6 @@ module _ (step : List ℕ → ℕ → List ℕ) (t : List ℕ) where
   pub after_turn : (i : ℕ) (u v : List ℕ) → u ≡ after step t i → v ≡ step u i → v ≡ after step t (i + 1)
   unfolding after
   after_turn i u v h e = rw (add-one i) (e ∙ ap (λ (x : List ℕ). step x i) h)
-
-  pub after-end : (i n : ℕ) (u : List ℕ) → i ≤ n → n ≤ i → u ≡ after step t i → u ≡ after step t n
-  after-end i n u h g e =
-      let z : i ≡ n = omega (arith, h, g) in
-      e ∙ ap (after step t) z
 
 -- ---- a step, by the kind
 
@@ -100,24 +93,24 @@ module _ (s xs : List ℕ) (i n : ℕ) where
       let e : model_at s xs i ≡ name_at s xs j = eqs-eq (model_at s xs i) (name_at s xs j) (and_second R E t) in
       never (is_seen seen (target_key (model_at s xs i))) (ap (λ (w : List ℕ). is_seen seen (target_key w)) e ∙ h j g (reaches_some (place_at xs i) (place_at xs j) (and_first R E t))) u
 
-  unseen-by : (seen : List ℕ) → Listed s xs n seen → is_seen seen (target_key (model_at s xs i)) ≡ false → (t : Found) → target_to s xs i n ≡ t → Nothing ≡ t
-  unseen-by seen h u (At j) e =
+  unseen-by : (seen : List ℕ) → Listed s xs n seen → is_seen seen (target_key (model_at s xs i)) ≡ false → (t : Option ℕ) → target_to s xs i n ≡ t → None ≡ t
+  unseen-by seen h u (Some j) e =
       let r = target_found s xs i n j e in
       absurd (unseen-unreached seen h u j r.0 r.1)
-  unseen-by seen h u Nothing e = refl
+  unseen-by seen h u None e = refl
 
-  pub unseen-nothing : (seen : List ℕ) → Listed s xs n seen → (key : ℕ) → key ≡ target_key (model_at s xs i) → is_seen seen key ≡ false → Nothing ≡ target_to s xs i n
+  pub unseen-nothing : (seen : List ℕ) → Listed s xs n seen → (key : ℕ) → key ≡ target_key (model_at s xs i) → is_seen seen key ≡ false → None ≡ target_to s xs i n
   unseen-nothing seen h key own u = unseen-by seen h (ap (is_seen seen) (sym own) ∙ u) (target_to s xs i n) refl
 
-  hit-by : clash (entries_to s xs n) ≡ none → (j : ℕ) → j < n → reaches_at s xs i j ≡ true → (t : Found) → target_to s xs i n ≡ t → At j ≡ t
-  hit-by unique j g h (At k) e =
+  hit-by : clash (entries_to s xs n) ≡ None → (j : ℕ) → j < n → reaches_at s xs i j ≡ true → (t : Option ℕ) → target_to s xs i n ≡ t → Some j ≡ t
+  hit-by unique j g h (Some k) e =
       let r = target_found s xs i n k e in
       by-test (eqb j k)
-      (λ q. ap At (eqb-true j k q))
+      (λ q. ap Some (eqb-true j k q))
       (λ q. absurd (never (reaches_at s xs i j) h (one-target s xs n unique i j k g r.0 (eqb-false j k q) r.1)))
-  hit-by unique j g h Nothing e = absurd (never (reaches_at s xs i j) h (target-missed s xs i n j e g))
+  hit-by unique j g h None e = absurd (never (reaches_at s xs i j) h (target-missed s xs i n j e g))
 
   -- where no name is used twice, one that is named is the one that is searched for
-  pub hit-target : clash (entries_to s xs n) ≡ none → (j : ℕ) → (ltb j n && reaches_at s xs i j) ≡ true → At j ≡ target_to s xs i n
+  pub hit-target : clash (entries_to s xs n) ≡ None → (j : ℕ) → (ltb j n && reaches_at s xs i j) ≡ true → Some j ≡ target_to s xs i n
   hit-target unique j h =
       hit-by unique j (ltb-true j n (and_first (ltb j n) (reaches_at s xs i j) h)) (and_second (ltb j n) (reaches_at s xs i j) h) (target_to s xs i n) refl

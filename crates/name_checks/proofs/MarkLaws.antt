@@ -1,9 +1,9 @@
 -- The marks that pins and selector rows leave on what they name, what is not marked, and the last checks by both.
+use Rattle.std.specs.Prelude.{None, Option, Some, Result, Ok, Err}
 use Prim.Native.Nat.{ℕ, zero, suc, ◌+◌, ◌-◌, ◌≤◌, ◌<◌}
 use mathlib.Core.Path.{◌≡◌, refl, sym, ap, ◌∙◌}
 use mathlib.Core.List.{List, [], ◌∷◌, ◌++◌, reverse, reverse-cons}
 use mathlib.Core.Bool.{Bool, true, false, cond, ◌&&◌, ◌||◌}
-use mathlib.Core.Option.{none}
 use native.Mathlib.Omega.{arith}
 use lib.ListN.{length, get_or, set, length-set, replicate, length-replicate, get_or-replicate}
 use lib.Seq.{get_or-set_same, get_or-set_other}
@@ -12,8 +12,6 @@ use borrow.Author.Tests.{ne_eqb, lt-ltb, le-ltb, eqb-true, eqb-false}
 use Rattle.laws.specs.Lists.{eqs}
 use Rattle.laws.proofs.Tests.{by-test, cond_yes, cond_no, cond_map, never, impossible}
 use Rattle.laws.proofs.Same.{eqs-refl, eqs-eq}
-use Rattle.name_table.specs.declared.Found.{Found}
-use Rattle.name_table.specs.declared.Found.TheVariants.{At, Nothing}
 use Rattle.rules.specs.Outline.{Entry, place, is, lists, is_listed, first_failing}
 use Rattle.rules.specs.Whole.{Outcome, refused, last_checks}
 use Rattle.rules.specs.Last.{found, listed_in}
@@ -25,11 +23,13 @@ use Rattle.lines.proofs.Numbers.{lines-fewer}
 use Rattle.notes.specs.Noted.{clash}
 use Rattle.note_words.specs.Store.{names_held, most_names, noted_line, note_at, notes_to}
 use Rattle.note_words.proofs.Laws.{note-line}
-use Rattle.name_checks.specs.declared.Last.{Last}
-use Rattle.name_checks.specs.declared.Last.TheVariants.{Fine, Faulty}
 use Rattle.name_checks.specs.Lookup.{place_at, entry_at, entries_to, entries_from, model_or_selector, enclosed, reaches, reaches_at, target_to, told_of, told_at, missing, is_marked, Clear, with_mark, marked, Marks, Marked, unmarked, unmarked_from, last_is, Concludes}
 use Rattle.name_checks.proofs.NoteLaws.{note-kind}
 use Rattle.name_checks.proofs.TargetLaws.{hits_at, target_found, target-missed, found-told, one-target}
+
+-- no fault
+abbrev fine : Result (Unit {0}) Fault
+fine = Ok tt
 
 -- ---- entries in file order
 
@@ -93,12 +93,6 @@ module _ (xs marks : List ℕ) (n : ℕ) where
       let e : n - n ≡ 0 = omega arith in
       rw e refl
 
-  pub unmarked-all : (j : ℕ) → j ≤ 0 → unmarked_from xs marks j (n - j) ≡ unmarked_from xs marks 0 n
-  unmarked-all j h =
-      let e : j ≡ 0 = omega (arith, h) in
-      let f : n - 0 ≡ n = omega arith in
-      rw e rw f refl
-
 -- ---- no marks
 
 pub none-marked : (n : ℕ) → n ≤ names_held → Clear (replicate most_names 0) n
@@ -153,14 +147,14 @@ marked-none f OfSelector = refl
 marked-none f OfChoice = refl
 marked-none f OfModel = refl
 
-mark-length : (marks : List ℕ) (t : Found) → length (with_mark marks t) ≡ length marks
-mark-length marks (At k) = length-set marks k 1
-mark-length marks Nothing = refl
+mark-length : (marks : List ℕ) (t : Option ℕ) → length (with_mark marks t) ≡ length marks
+mark-length marks (Some k) = length-set marks k 1
+mark-length marks None = refl
 
-module _ (s xs : List ℕ) (n : ℕ) (unique : clash (entries_to s xs n) ≡ none) where
-  mark-each : (i : ℕ) (ys : List ℕ) (t : Found) → n ≤ length ys → target_to s xs i n ≡ t
+module _ (s xs : List ℕ) (n : ℕ) (unique : clash (entries_to s xs n) ≡ None) where
+  mark-each : (i : ℕ) (ys : List ℕ) (t : Option ℕ) → n ≤ length ys → target_to s xs i n ≡ t
       → (j : ℕ) → j < n → is_marked (with_mark ys t) j ≡ (reaches_at s xs i j || is_marked ys j)
-  mark-each i ys (At k) long e j h =
+  mark-each i ys (Some k) long e j h =
       let r = target_found s xs i n k e in
       by-test (eqb j k)
       (λ q.
@@ -171,7 +165,7 @@ module _ (s xs : List ℕ) (n : ℕ) (unique : clash (entries_to s xs n) ≡ non
       let z : j ≡ k → ⊥ = eqb-false j k q in
       let g : get_or (set ys k 1) j 0 ≡ get_or ys j 0 = get_or-set_other ys k j 1 0 (λ y. z (omega (arith, y))) in
       rw g rw (one-target s xs n unique i j k h (omega (arith, r.0)) z r.1) refl)
-  mark-each i ys Nothing long e j h = rw (target-missed s xs i n j e h) refl
+  mark-each i ys None long e j h = rw (target-missed s xs i n j e h) refl
 
   mark-turn : (i : ℕ) (es : List Entry) (ys : List ℕ) → n ≤ length ys → Marks s xs es n ys → Marks s xs (entry_at s xs i ∷ es) n (with_mark ys (target_to s xs i n))
   mark-turn i es ys long m j h =
@@ -185,13 +179,13 @@ unfolding line_at
 line-some s at e = omega (arith, e, lines-fewer s at)
 
 module _ (s xs : List ℕ) (number n i : ℕ) where
-  told_none : n ≤ i → told_at s xs number n i ≡ Fine
+  told_none : n ≤ i → told_at s xs number n i ≡ Ok tt
   told_none h = cond_no _ _ (le-ltb i n h)
 
   told_here : i < n → told_at s xs number n i ≡ told_of number (note_at s xs i).line
   told_here h = cond_yes _ _ (lt-ltb i n h) ∙ ap (told_of number) (sym (note-line s xs i))
 
-  told-faulty : i < n → told_at s xs number n i ≡ Faulty (record { number = number; line = noted_line s xs i; column = 0 })
+  told-faulty : i < n → told_at s xs number n i ≡ Err (record { number = number; line = noted_line s xs i; column = 0 })
   unfolding told_of
   told-faulty h = cond_yes _ _ (lt-ltb i n h) ∙ cond_no _ _ (ne_eqb (noted_line s xs i) 0 (line-some s _))
 
@@ -211,7 +205,7 @@ marking-none s xs marks n h =
       says = rw (from-none s xs n) (λ j g. rw (h.1 j g) (marked-none (entry_at s xs j) (note_at s xs j).kind));
     }
 
-pub marking-turn : (s xs : List ℕ) (n i first : ℕ) (ys : List ℕ) → clash (entries_to s xs n) ≡ none → Marking s xs n i first ys
+pub marking-turn : (s xs : List ℕ) (n i first : ℕ) (ys : List ℕ) → clash (entries_to s xs n) ≡ None → Marking s xs n i first ys
     → 0 < i → i ≤ n → (r : ℕ) (zs : List ℕ) → r ≡ missing s xs (i - 1) first (target_to s xs (i - 1) n) → zs ≡ with_mark ys (target_to s xs (i - 1) n)
     → Marking s xs n (i - 1) r zs
 unfolding first_failing
@@ -223,20 +217,13 @@ marking-turn s xs n i first ys unique m h g r zs e f =
       told =
           ap (λ (j : ℕ). told_at s xs 15 n j) (e ∙ sym (found-told s xs k n first))
           ∙ cond_map (λ (j : ℕ). told_at s xs 15 n j) is first k
-          ∙ ap (λ (l : Last). cond is l (told_at s xs 15 n k)) m.told
+          ∙ ap (λ (l : Result (Unit {0}) Fault). cond is l (told_at s xs 15 n k)) m.told
           ∙ ap (cond is (told_of 15 others)) (told_here s xs 15 n k (omega (arith, h, g)))
           ∙ sym (cond_map (told_of 15) is others (note_at s xs k).line)
           ∙ ap (λ (es : List Entry). told_of 15 (first_failing (found (entries_from s xs 0 n)) es)) (sym (from-turn s xs i n h g));
       room = omega (arith, ap length f, mark-length ys (target_to s xs k n), m.room);
       says = rw f rw (from-turn s xs i n h g) (mark-turn s xs n unique k (entries_from s xs i (n - i)) ys m.room m.says);
     }
-
-pub marking-end : (s xs : List ℕ) (n i first : ℕ) (ys : List ℕ) → Marking s xs n i first ys → i ≤ 0 → Marked s xs ys n first
-marking-end s xs n i first ys m h =
-    let z : i ≡ 0 = omega (arith, h) in
-    let d : n - 0 ≡ n = omega arith in
-    let e : entries_from s xs i (n - i) ≡ entries_from s xs 0 n = rw z rw d refl in
-    record { first = m.told ∙ ap (λ (es : List Entry). told_of 15 (first_failing (found (entries_from s xs 0 n)) es)) e; says = rw (← e) m.says }
 
 -- ---- what nobody lists
 
@@ -263,7 +250,7 @@ module _ (s xs ys : List ℕ) (n : ℕ) (es : List Entry) (marks : Marks s xs es
       let others : ℕ = first_failing (listed_in es) (entries_from s xs (j + 1) m) in
       ap (λ (u : ℕ). told_at s xs 16 n u) (unlisted-told j (unmarked_from xs ys (j + 1) m) (omega (arith, h)))
       ∙ cond_map (λ (u : ℕ). told_at s xs 16 n u) is (unmarked_from xs ys (j + 1) m) j
-      ∙ ap (λ (l : Last). cond is l (told_at s xs 16 n j)) (unlisted-from (j + 1) m (omega (arith, h)))
+      ∙ ap (λ (l : Result (Unit {0}) Fault). cond is l (told_at s xs 16 n j)) (unlisted-from (j + 1) m (omega (arith, h)))
       ∙ ap (cond is (told_of 16 others)) (told_here s xs 16 n j (omega (arith, h)))
       ∙ sym (cond_map (told_of 16) is others (note_at s xs j).line)
 
@@ -274,22 +261,22 @@ module _ (a b : ℕ) (d : Outcome) where
   abbrev concluding : Outcome
   concluding = cond (eqb a 0) (cond (eqb b 0) d (refused 16 b 0)) (refused 15 a 0)
 
-  first-told : (f : Fault) → told_of 15 a ≡ Faulty f → concluding ≡ last_is d (Faulty f)
+  first-told : (f : Fault) → told_of 15 a ≡ Err f → concluding ≡ last_is d (Err f)
   unfolding told_of
   first-told f h =
       by-test (eqb a 0)
-      (λ t. let z : Fine ≡ Faulty f = sym (cond_yes _ _ t) ∙ h in impossible (cc))
-      (λ t. let z : Faulty (record { number = 15; line = a; column = 0 }) ≡ Faulty f = sym (cond_no _ _ t) ∙ h in rw t (ap (last_is d) z))
+      (λ t. let z : fine ≡ Err f = sym (cond_yes _ _ t) ∙ h in impossible cc)
+      (λ t. let z : Err (record { number = 15; line = a; column = 0 }) ≡ Err f = sym (cond_no _ _ t) ∙ h in rw t (ap (last_is d) z))
 
-  second-told : told_of 15 a ≡ Fine → concluding ≡ last_is d (told_of 16 b)
+  second-told : told_of 15 a ≡ Ok tt → concluding ≡ last_is d (told_of 16 b)
   unfolding told_of
   second-told h =
       by-test (eqb a 0)
       (λ t. rw t (by-test (eqb b 0) (λ u. rw u refl) (λ u. rw u refl)))
-      (λ t. let z : Faulty (record { number = 15; line = a; column = 0 }) ≡ Fine = sym (cond_no _ _ t) ∙ h in impossible (cc))
+      (λ t. let z : Err (record { number = 15; line = a; column = 0 }) ≡ fine = sym (cond_no _ _ t) ∙ h in impossible cc)
 
 module _ (s xs ys : List ℕ) (n r : ℕ) (m : Marked s xs ys n r) where
-  pub concludes-missing : r < n → (v : Last) → v ≡ Faulty (record { number = 15; line = noted_line s xs r; column = 0 }) → Concludes (entries_to s xs n) v
+  pub concludes-missing : r < n → (v : Result (Unit {0}) Fault) → v ≡ Err (record { number = 15; line = noted_line s xs r; column = 0 }) → Concludes (entries_to s xs n) v
   unfolding last_checks
   concludes-missing h v q d =
       rw (file-order s xs n)
@@ -297,15 +284,15 @@ module _ (s xs ys : List ℕ) (n r : ℕ) (m : Marked s xs ys n r) where
       ∙ ap (last_is d) (sym q))
 
   module _ (u : ℕ) (e : u ≡ unmarked_from xs ys 0 n) (h : n ≤ r) where
-    listed-told : (v : Last) → told_at s xs 16 n u ≡ v → Concludes (entries_to s xs n) v
+    listed-told : (v : Result (Unit {0}) Fault) → told_at s xs 16 n u ≡ v → Concludes (entries_to s xs n) v
     unfolding last_checks
     listed-told v q d =
         rw (file-order s xs n)
         (second-told _ _ d (sym m.first ∙ told_none s xs 15 n r h)
         ∙ ap (last_is d) (sym (ap (λ (w : ℕ). told_at s xs 16 n w) e ∙ unlisted-from s xs ys n (entries_from s xs 0 n) m.says 0 n (omega arith)) ∙ q))
 
-    pub concludes-unlisted : u < n → (v : Last) → v ≡ Faulty (record { number = 16; line = noted_line s xs u; column = 0 }) → Concludes (entries_to s xs n) v
+    pub concludes-unlisted : u < n → (v : Result (Unit {0}) Fault) → v ≡ Err (record { number = 16; line = noted_line s xs u; column = 0 }) → Concludes (entries_to s xs n) v
     concludes-unlisted g v q = listed-told v (told-faulty s xs 16 n u g ∙ sym q)
 
-    pub concludes-fine : n ≤ u → Concludes (entries_to s xs n) Fine
-    concludes-fine g = listed-told Fine (told_none s xs 16 n u g)
+    pub concludes-fine : n ≤ u → Concludes (entries_to s xs n) (Ok tt)
+    concludes-fine g = listed-told (Ok tt) (told_none s xs 16 n u g)

@@ -67,9 +67,6 @@ module _ (s : List ℕ) (w v x y : Word) (p : Within s w.start w.end x) (q : Wit
       (eqs-apart (part x.start x.end s) (part y.start y.end s)
       (λ e. h (sym (part_length s x.start x.end p.inside) ∙ e ∙ part_length s y.start y.end q.inside)))
 
-  pub within_same : eqs (part x.start x.end s) (part y.start y.end s) ≡ eqs (part w.start w.end s) (part v.start v.end s)
-  within_same = rw p.same rw q.same refl
-
 -- the part that a note says, by word j
 said : (s xs : List ℕ) (w : Word) (i j : ℕ) → w ≡ part_said xs i j → part w.start w.end s ≡ part (part_start xs (noted_at xs i) j) (part_end xs (noted_at xs i) j) s
 said s xs w i j q = ap (λ (z : Word). part z.start z.end s) q

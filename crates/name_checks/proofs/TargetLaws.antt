@@ -1,17 +1,15 @@
 -- What a pin or a selector row names: by its words and as the rules say it; and that it names one entry at most.
+use Rattle.std.specs.Prelude.{Option, None, Some}
 use Prim.Native.Nat.{ℕ, zero, suc, ◌+◌, ◌-◌, ◌≤◌, ◌<◌}
 use mathlib.Core.Path.{◌≡◌, refl, sym, ap, ◌∙◌, subst}
 use mathlib.Core.List.{List}
 use mathlib.Core.Bool.{Bool, true, false, cond, not, ◌&&◌, ◌||◌}
-use mathlib.Core.Option.{Option, none, some}
 use native.Mathlib.Omega.{arith}
 use lib.Dec.{eqb}
 use borrow.Author.Tests.{ne_eqb}
 use Rattle.laws.specs.Lists.{eqs}
 use Rattle.laws.proofs.Tests.{by-test, by_order, cond_yes, cond_no, and_left, and_first, and_second, and_both, never, or-none, or_left, or_right, impossible}
 use Rattle.laws.proofs.Same.{eqs-refl, eqs-eq}
-use Rattle.name_table.specs.declared.Found.{Found}
-use Rattle.name_table.specs.declared.Found.TheVariants.{At, Nothing}
 use Rattle.line_rules.specs.Fields.{needs_no_model}
 use Rattle.rules.specs.Outline.{Entry, place, is, is_model_or_selector, named, is_used, is_found}
 use Rattle.rules.specs.Last.{found}
@@ -28,11 +26,11 @@ use Rattle.name_checks.proofs.ClashLaws.{either_is, used_at}
 
 row-names : (s xs : List ℕ) (i : ℕ) (k : Kind) → enclosed (place k) ≡ true → (note_of s xs (noted_at xs i) k).names ≡ model_at s xs i
 unfolding enclosed
-row-names s xs i OfComponent h = impossible (cc)
+row-names s xs i OfComponent h = impossible cc
 row-names s xs i OfPin h = refl
-row-names s xs i OfSelector h = impossible (cc)
+row-names s xs i OfSelector h = impossible cc
 row-names s xs i OfChoice h = refl
-row-names s xs i OfModel h = impossible (cc)
+row-names s xs i OfModel h = impossible cc
 
 pub note-names : (s xs : List ℕ) (i : ℕ) → enclosed (place_at xs i) ≡ true → (note_at s xs i).names ≡ model_at s xs i
 unfolding note_at place_at
@@ -48,7 +46,7 @@ pub reaches_some : (k l : ℕ) → reaches k l ≡ true → model_or_selector l 
 unfolding reaches model_or_selector
 reaches_some k l h =
     by-test (eqb l 4) (λ t. rw t refl)
-    (λ t. by-test (eqb l 2) (λ u. rw t rw u refl) (λ u. let z : false ≡ true = simp (t, u) at h in impossible (cc)))
+    (λ t. by-test (eqb l 2) (λ u. rw t rw u refl) (λ u. let z : false ≡ true = simp (t, u) at h in impossible cc))
 
 -- the entry e names f
 abbrev pub hits : Entry → Entry → Bool
@@ -64,20 +62,20 @@ hits_at s xs i j =
 
 -- ---- the search for what is named
 
-abbrev is_at : Found → Bool
-is_at (At j) = true
-is_at Nothing = false
+abbrev is_at : Option ℕ → Bool
+is_at (Some j) = true
+is_at None = false
 
 module _ (s xs : List ℕ) (i : ℕ) where
-  target-here : (j : ℕ) → reaches_at s xs i j ≡ true → At j ≡ target_to s xs i (suc j)
+  target-here : (j : ℕ) → reaches_at s xs i j ≡ true → Some j ≡ target_to s xs i (suc j)
   unfolding target_to
-  target-here j t = sym (cond_yes (At j) (target_to s xs i j) t)
+  target-here j t = sym (cond_yes (Some j) (target_to s xs i j) t)
 
   target-sooner : (j : ℕ) → reaches_at s xs i j ≡ false → target_to s xs i j ≡ target_to s xs i (suc j)
   unfolding target_to
-  target-sooner j t = sym (cond_no (At j) (target_to s xs i j) t)
+  target-sooner j t = sym (cond_no (Some j) (target_to s xs i j) t)
 
-  pub turn-here : (j : ℕ) → 0 < j → reaches_at s xs i (j - 1) ≡ true → At (j - 1) ≡ target_to s xs i j
+  pub turn-here : (j : ℕ) → 0 < j → reaches_at s xs i (j - 1) ≡ true → Some (j - 1) ≡ target_to s xs i j
   turn-here j h t =
       let e : suc (j - 1) ≡ j = omega (arith, h) in
       target-here (j - 1) t ∙ ap (target_to s xs i) e
@@ -87,31 +85,31 @@ module _ (s xs : List ℕ) (i : ℕ) where
       let e : suc (j - 1) ≡ j = omega (arith, h) in
       target-sooner (j - 1) t ∙ ap (target_to s xs i) e
 
-  pub target_none : (j : ℕ) → j ≤ 0 → Nothing ≡ target_to s xs i j
+  pub target_none : (j : ℕ) → j ≤ 0 → None ≡ target_to s xs i j
   unfolding target_to
   target_none j h =
       let e : j ≡ 0 = omega (arith, h) in
       rw e refl
 
-  pub target_found : (n j : ℕ) → target_to s xs i n ≡ At j → (j < n) × (reaches_at s xs i j ≡ true)
+  pub target_found : (n j : ℕ) → target_to s xs i n ≡ Some j → (j < n) × (reaches_at s xs i j ≡ true)
   unfolding target_to
-  target_found zero j h = impossible (cc)
+  target_found zero j h = impossible cc
   target_found (suc n) j h =
       by-test (reaches_at s xs i n)
       (λ t.
-      let e : At n ≡ At j = target-here n t ∙ h in
+      let e : Some n ≡ Some j = target-here n t ∙ h in
       let z : n ≡ j = cc in
       (omega (arith, z), subst (λ (k : ℕ). reaches_at s xs i k ≡ true) z t))
       (λ t.
       let r = target_found n j (target-sooner n t ∙ h) in
       (omega (arith, r.0), r.1))
 
-  pub target-missed : (n j : ℕ) → target_to s xs i n ≡ Nothing → j < n → reaches_at s xs i j ≡ false
+  pub target-missed : (n j : ℕ) → target_to s xs i n ≡ None → j < n → reaches_at s xs i j ≡ false
   unfolding target_to
   target-missed zero j h g = absurd (omega (arith, g))
   target-missed (suc n) j h g =
       by-test (reaches_at s xs i n)
-      (λ t. let e : At n ≡ Nothing = target-here n t ∙ h in impossible (cc))
+      (λ t. let e : Some n ≡ None = target-here n t ∙ h in impossible cc)
       (λ t.
       by_order (suc j) n
       (λ b. target-missed n j (target-sooner n t ∙ h) b)
@@ -120,14 +118,14 @@ module _ (s xs : List ℕ) (i : ℕ) where
       subst (λ (k : ℕ). reaches_at s xs i k ≡ false) z t))
 
   -- a section names nothing
-  pub target-never : enclosed (place_at xs i) ≡ false → (n : ℕ) → target_to s xs i n ≡ Nothing
+  pub target-never : enclosed (place_at xs i) ≡ false → (n : ℕ) → target_to s xs i n ≡ None
   unfolding target_to reaches_at
   target-never h zero = refl
   target-never h (suc n) =
-      cond_no (At n) (target_to s xs i n) (and_left (reaches (place_at xs i) (place_at xs n)) (eqs (model_at s xs i) (name_at s xs n)) (reaches-never (place_at xs i) (place_at xs n) h))
+      cond_no (Some n) (target_to s xs i n) (and_left (reaches (place_at xs i) (place_at xs n)) (eqs (model_at s xs i) (name_at s xs n)) (reaches-never (place_at xs i) (place_at xs n) h))
       ∙ target-never h n
 
-  pub target-within : (n j : ℕ) (t : Found) → t ≡ target_to s xs i n → t ≡ At j → j < n
+  pub target-within : (n j : ℕ) (t : Option ℕ) → t ≡ target_to s xs i n → t ≡ Some j → j < n
   target-within n j t e f = (target_found n j (sym e ∙ f)).0
 
   module _ (q : Entry → Bool) (h : (j : ℕ) → (q (entry_at s xs j) && eqs (note_at s xs i).names (note_at s xs j).name) ≡ reaches_at s xs i j) where
@@ -150,11 +148,11 @@ module _ (s xs : List ℕ) (i : ℕ) where
     named_none a zero g = refl
     named_none a (suc m) g = rw (h a) rw (g a (omega arith)) (named_none (a + 1) m (λ j f. g j (omega (arith, f))))
 
-    named_by : (n : ℕ) (t : Found) → target_to s xs i n ≡ t → named q (note_at s xs i).names (entries_from s xs 0 n) ≡ is_at t
-    named_by n (At j) e =
+    named_by : (n : ℕ) (t : Option ℕ) → target_to s xs i n ≡ t → named q (note_at s xs i).names (entries_from s xs 0 n) ≡ is_at t
+    named_by n (Some j) e =
         let r = target_found n j e in
         named_some 0 n j (omega arith) (omega (arith, r.0)) r.1
-    named_by n Nothing e = named_none 0 n (λ j f. target-missed n j e (omega (arith, f)))
+    named_by n None e = named_none 0 n (λ j f. target-missed n j e (omega (arith, f)))
 
     named-target : (n : ℕ) → named q (note_at s xs i).names (entries_from s xs 0 n) ≡ is_at (target_to s xs i n)
     named-target n = named_by n (target_to s xs i n) refl
@@ -178,19 +176,19 @@ row-reaches OfChoice = refl
 row-reaches OfModel = refl
 
 module _ (s xs : List ℕ) (i n : ℕ) (later : ℕ) where
-  told-unless : (t : Found) → excused (place_at xs i) (model_at s xs i) ≡ true → later ≡ missing s xs i later t
-  told-unless (At j) h = refl
-  told-unless Nothing h = sym (cond_yes later i h)
+  told-unless : (t : Option ℕ) → excused (place_at xs i) (model_at s xs i) ≡ true → later ≡ missing s xs i later t
+  told-unless (Some j) h = refl
+  told-unless None h = sym (cond_yes later i h)
 
-  pin-told : (t : Found) → place_at xs i ≡ 1 → cond (needs_no_model (model_at s xs i) || is_at t) later i ≡ missing s xs i later t
+  pin-told : (t : Option ℕ) → place_at xs i ≡ 1 → cond (needs_no_model (model_at s xs i) || is_at t) later i ≡ missing s xs i later t
   unfolding excused
-  pin-told (At j) h = by-test (needs_no_model (model_at s xs i)) (λ t. rw t refl) (λ t. rw t refl)
-  pin-told Nothing h = rw h rw (or-none (needs_no_model (model_at s xs i))) refl
+  pin-told (Some j) h = by-test (needs_no_model (model_at s xs i)) (λ t. rw t refl) (λ t. rw t refl)
+  pin-told None h = rw h rw (or-none (needs_no_model (model_at s xs i))) refl
 
-  row_told : (t : Found) → place_at xs i ≡ 3 → cond (is_at t) later i ≡ missing s xs i later t
+  row_told : (t : Option ℕ) → place_at xs i ≡ 3 → cond (is_at t) later i ≡ missing s xs i later t
   unfolding excused
-  row_told (At j) h = refl
-  row_told Nothing h = rw h refl
+  row_told (Some j) h = refl
+  row_told None h = rw h refl
 
   -- the number of its kind
   number : (k : Kind) → (note_at s xs i).kind ≡ k → place_at xs i ≡ place k
@@ -246,38 +244,23 @@ module _ (s xs : List ℕ) (i k : ℕ) (kind : k ≡ place_at xs i) where
   unfolding excused
   excused-other t h e = rw (← kind) rw (ne_eqb k 1 h) e
 
--- nothing is found: by whether something must be
-module _ (s xs : List ℕ) (i : ℕ) (later : ℕ) (t : Bool) (e : t ≡ excused (place_at xs i) (model_at s xs i)) where
-  pub missing-excused : t ≡ true → later ≡ missing s xs i later Nothing
-  missing-excused h = sym (cond_yes later i (sym e ∙ h))
-
-  pub missing-told : t ≡ false → i ≡ missing s xs i later Nothing
-  missing-told h = sym (cond_no later i (sym e ∙ h))
-
--- what the search says, said of what is marked and told
-pub target-marks : (s xs marks : List ℕ) (i n : ℕ) (later v : ℕ) (t x : Found) → t ≡ target_to s xs i n → t ≡ x → v ≡ missing s xs i later x
-    → (v ≡ missing s xs i later (target_to s xs i n)) × (with_mark marks x ≡ with_mark marks (target_to s xs i n))
-target-marks s xs marks i n later v t x e f g =
-    let z : target_to s xs i n ≡ x = sym e ∙ f in
-    rw z (g, refl)
-
 -- ---- models and selectors have names of their own
 
-or-used : (e : Entry) (u : Bool) (c : Option ℕ) → or_used e u c ≡ none → (u ≡ false) × (c ≡ none)
-or-used e u (some k) h = impossible (cc)
-or-used e true none h = impossible (cc)
-or-used e false none h = (refl, refl)
+or-used : (e : Entry) (u : Bool) (c : Option ℕ) → or_used e u c ≡ None → (u ≡ false) × (c ≡ None)
+or-used e u (Some k) h = impossible cc
+or-used e true None h = impossible cc
+or-used e false None h = (refl, refl)
 
 used-either : (x : Kind) (w : List ℕ) (es : List Entry) → model_or_selector (place x) ≡ true → is_used x w es ≡ named is_model_or_selector w es
 unfolding model_or_selector
-used-either OfComponent w es h = impossible (cc)
-used-either OfPin w es h = impossible (cc)
+used-either OfComponent w es h = impossible cc
+used-either OfPin w es h = impossible cc
 used-either OfSelector w es h = refl
-used-either OfChoice w es h = impossible (cc)
+used-either OfChoice w es h = impossible cc
 used-either OfModel w es h = refl
 
 module _ (s xs : List ℕ) where
-  never-used : (n t : ℕ) → clash (entries_to s xs n) ≡ none → t < n → used_at s xs t t ≡ false
+  never-used : (n t : ℕ) → clash (entries_to s xs n) ≡ None → t < n → used_at s xs t t ≡ false
   unfolding notes_to clash
   never-used zero t h g = absurd (omega (arith, g))
   never-used (suc n) t h g =
@@ -299,7 +282,7 @@ module _ (s xs : List ℕ) where
       let z : j ≡ t = omega (arith, a, g) in
       subst (λ (m : ℕ). (q (entry_at s xs m) && eqs w (note_at s xs m).name) ≡ false) (sym z) (or_left p (named q w (entries_to s xs t)) h))
 
-  module _ (n : ℕ) (unique : clash (entries_to s xs n) ≡ none) where
+  module _ (n : ℕ) (unique : clash (entries_to s xs n) ≡ None) where
     names_apart : (j t : ℕ) → j < t → t < n → model_or_selector (place_at xs j) ≡ true → model_or_selector (place_at xs t) ≡ true → name_at s xs t ≡ name_at s xs j → ⊥
     names_apart j t h g a b e =
         let k : model_or_selector (place (note_at s xs t).kind) ≡ true = rw (note-kind s xs t) b in

@@ -1,10 +1,7 @@
 -- What is looked up among the noted names, by the words of the store: which two meet, and which one is named.
-use Rattle.std.specs.Prelude.{ℕ, zero, suc, ◌+◌, ◌*◌, ◌/◌, ◌%◌, ◌≤◌, ◌<◌, ◌≡◌, List, [], ◌∷◌, map, reverse, Bool, true, false, cond, not, ◌&&◌, ◌||◌, length, get_or, set, eqb, ltb, leb}
-use Rattle.std.proofs.Math.Option.{Option, none, some}
+use Rattle.std.specs.Prelude.{ℕ, zero, suc, ◌+◌, ◌*◌, ◌/◌, ◌%◌, ◌≤◌, ◌<◌, ◌≡◌, List, [], ◌∷◌, map, reverse, Bool, true, false, cond, not, ◌&&◌, ◌||◌, length, get_or, set, eqb, ltb, leb, Option, None, Some, Result, Ok, Err}
 use Rattle.laws.specs.Lists.{part, eqs}
 use Rattle.words.specs.declared.Word.{Word}
-use Rattle.name_table.specs.declared.Found.{Found}
-use Rattle.name_table.specs.declared.Found.TheVariants as answer
 use Rattle.line_rules.specs.Fields.{needs_no_model}
 use Rattle.given.specs.Given.{has, with}
 use Rattle.given.specs.declared.Given.{Given}
@@ -13,14 +10,11 @@ use Rattle.rules.specs.Whole.{Outcome, refused, last_checks}
 use Rattle.rules.specs.Last.{found}
 use Rattle.records.specs.declared.Kind.{Kind}
 use Rattle.records.specs.declared.Kind.TheVariants.{OfComponent, OfPin, OfSelector, OfChoice, OfModel}
+use Rattle.records.specs.declared.Fault.{Fault}
 use Rattle.notes.specs.Noted.{entry_of}
 use Rattle.note_words.specs.Store.{noted_at, kind_at, noted_line, part_start, part_end, name_at, row_at, note_at, notes_to}
-use Rattle.name_checks.specs.declared.Clash.{Clash}
-use Rattle.name_checks.specs.declared.Clash.TheVariants.{At, NoClash}
 use Rattle.name_checks.specs.declared.Meeting.{Meeting}
 use Rattle.name_checks.specs.declared.Meeting.TheVariants.{Equal, Differing, Beyond}
-use Rattle.name_checks.specs.declared.Last.{Last}
-use Rattle.name_checks.specs.declared.Last.TheVariants.{Fine, Faulty}
 
 -- ---- a note's words
 
@@ -82,6 +76,17 @@ meeting k l same = cond (rivals k l) (cond same Equal Differing) (cond (enclosed
 unfoldable pub meeting_at : List ℕ → List ℕ → ℕ → ℕ → Meeting
 meeting_at s xs i j = meeting (place_at xs i) (place_at xs j) (eqs (name_at s xs i) (name_at s xs j))
 
+-- what a meeting says, u being what the names before say
+abbrev pub met : Meeting → Bool → Bool
+met Equal u = true
+met Differing u = u
+met Beyond u = false
+
+-- a name of kind k equals one of the first n that it is to be compared with, the nearest taken first
+unfoldable pub meets_to : List ℕ → List ℕ → ℕ → List ℕ → ℕ → Bool
+meets_to s xs k name zero = false
+meets_to s xs k name (suc n) = met (meeting k (place_at xs n) (eqs name (name_at s xs n))) (meets_to s xs k name n)
+
 -- the place of the section that a pin or a selector row right behind place i lies in, k being the kind at place i and section the one for place i itself
 unfoldable pub section_behind : ℕ → ℕ → ℕ → ℕ
 section_behind k i section = cond (enclosed k) section i
@@ -120,10 +125,6 @@ is_seen seen key = has (seen_bits seen key) (key % 64)
 -- and from here on
 unfoldable pub with_seen : List ℕ → ℕ → List ℕ
 with_seen seen key = set seen (seen_word key) (with (seen_bits seen key) (key % 64)).bits
-
-abbrev pub clash_of : Option ℕ → Clash
-clash_of (some k) = At k
-clash_of none = NoClash
 
 -- ---- models and selectors by their keys
 
@@ -167,26 +168,26 @@ unfoldable pub reaches_at : List ℕ → List ℕ → ℕ → ℕ → Bool
 reaches_at s xs i j = reaches (place_at xs i) (place_at xs j) && eqs (model_at s xs i) (name_at s xs j)
 
 -- the last of the first n names that the one at place i names: where no name is used twice there is one at most
-unfoldable pub target_to : List ℕ → List ℕ → ℕ → ℕ → Found
-target_to s xs i zero = answer.Nothing
-target_to s xs i (suc n) = cond (reaches_at s xs i n) (answer.At n) (target_to s xs i n)
+unfoldable pub target_to : List ℕ → List ℕ → ℕ → ℕ → Option ℕ
+target_to s xs i zero = None
+target_to s xs i (suc n) = cond (reaches_at s xs i n) (Some n) (target_to s xs i n)
 
 -- nothing need be found: of a section, and of a pin that needs no model
 unfoldable pub excused : ℕ → List ℕ → Bool
 excused k w = cond (eqb k (place OfPin)) (needs_no_model w) (not (eqb k (place OfChoice)))
 
 -- a fault and the line it is told at, or 0 where there is none
-unfoldable pub told_of : ℕ → ℕ → Last
-told_of number line = cond (eqb line 0) Fine (Faulty (record { number = number; line = line; column = 0 }))
+unfoldable pub told_of : ℕ → ℕ → Result (Unit {0}) Fault
+told_of number line = cond (eqb line 0) (Ok tt) (Err (record { number = number; line = line; column = 0 }))
 
 -- the fault of the name at place i, of n names; there is none where it is not one of them
-abbrev pub told_at : List ℕ → List ℕ → ℕ → ℕ → ℕ → Last
-told_at s xs number n i = cond (ltb i n) (told_of number (noted_line s xs i)) Fine
+abbrev pub told_at : List ℕ → List ℕ → ℕ → ℕ → ℕ → Result (Unit {0}) Fault
+told_at s xs number n i = cond (ltb i n) (told_of number (noted_line s xs i)) (Ok tt)
 
 -- place i where the name there names nothing, else that of the later ones
-abbrev pub missing : List ℕ → List ℕ → ℕ → ℕ → Found → ℕ
-missing s xs i later (answer.At j) = later
-missing s xs i later answer.Nothing = cond (excused (place_at xs i) (model_at s xs i)) later i
+abbrev pub missing : List ℕ → List ℕ → ℕ → ℕ → Option ℕ → ℕ
+missing s xs i later (Some j) = later
+missing s xs i later None = cond (excused (place_at xs i) (model_at s xs i)) later i
 
 -- ---- marks of what is listed: a number a name
 
@@ -197,9 +198,9 @@ is_marked marks j = eqb (get_or marks j 0) 1
 abbrev pub Clear : List ℕ → ℕ → Type 0
 Clear marks n = (n ≤ length marks) × ((j : ℕ) → j < n → get_or marks j 0 ≡ 0)
 
-abbrev pub with_mark : List ℕ → Found → List ℕ
-with_mark marks (answer.At j) = set marks j 1
-with_mark marks answer.Nothing = marks
+abbrev pub with_mark : List ℕ → Option ℕ → List ℕ
+with_mark marks (Some j) = set marks j 1
+with_mark marks None = marks
 
 -- the name is marked if some of these entries names it
 abbrev pub marked : List Entry → Entry → Kind → Bool
@@ -227,10 +228,10 @@ unfoldable pub unmarked_from : List ℕ → List ℕ → ℕ → ℕ → ℕ
 unmarked_from xs marks j zero = j
 unmarked_from xs marks j (suc n) = unmarked xs marks j (unmarked_from xs marks (j + 1) n)
 
-abbrev pub last_is : Outcome → Last → Outcome
-last_is done Fine = done
-last_is done (Faulty f) = refused f.number f.line f.column
+abbrev pub last_is : Outcome → Result (Unit {0}) Fault → Outcome
+last_is done (Ok tt) = done
+last_is done (Err f) = refused f.number f.line f.column
 
 -- the last checks of entries that are given the latest first
-abbrev pub Concludes : List Entry → Last → Type 0
+abbrev pub Concludes : List Entry → Result (Unit {0}) Fault → Type 0
 Concludes es r = (d : Outcome) → last_checks (reverse es) d ≡ last_is d r

@@ -3,14 +3,14 @@ ghost use Rattle.std.specs.Prelude.{◌≡◌, ◌≤◌};
 ghost use Rattle.laws.specs.Lists.{part, eqs};
 ghost use Rattle.notes.specs.Noted.{clash};
 ghost use Rattle.note_words.specs.Store.{names_held, most_names, name_at};
-ghost use Rattle.name_checks.specs.Lookup.{place_at, model_or_selector, rivals, enclosed, meeting, entries_to, clash_of};
+ghost use Rattle.name_checks.specs.Lookup.{place_at, model_or_selector, rivals, enclosed, meeting, meets_to, entries_to};
 
+use crate::Meeting;
 use crate::keys::{key_of, section_behind};
 use crate::places::{
     OF_CHOICE, OF_MODEL, OF_PIN, OF_SELECTOR, kind_at, line_at, part_at, same_parts,
 };
 use crate::seen::{SEEN_WORDS, see, to_meet};
-use crate::{Clash, Meeting};
 use note_words::NAME;
 use words::Word;
 
@@ -61,34 +61,37 @@ fn meet(src: &[u8], notes: &[u16], k: usize, name: Word, j: usize) -> Meeting
     Meeting::Differing
 }
 
+// A name of kind k equals one of the first j that it is to be compared with, the nearest taken first.
+fn is_used(src: &[u8], notes: &[u16], k: usize, name: Word, j: usize) -> bool
+    requires { j ≤ names_held }
+    ensures { result ≡ meets_to src.now notes.now k (part name.start name.end src.now) j }
+{
+    for earlier in (0..j).rev() {
+        match meet(src, notes, k, name, earlier) {
+            Meeting::Equal => return true,
+            Meeting::Differing => {}
+            Meeting::Beyond => return false,
+        }
+    }
+    false
+}
+
 // The first name that an earlier one equals, by its line.
-pub fn first_clash(src: &[u8], notes: &[u16], n: usize) -> Clash
+pub fn first_clash(src: &[u8], notes: &[u16], n: usize) -> Option<u64>
     requires { n ≤ most_names }
-    ensures { result ≡ clash_of (clash (entries_to src.now notes.now n)) }
+    ensures { result ≡ clash (entries_to src.now notes.now n) }
 {
     let mut seen = [0u64; SEEN_WORDS];
     let mut section = 0;
-    let mut i = 0;
-    'scan: while i < n {
+    for i in 0..n {
         let k = kind_at(notes, i);
         let name = part_at(notes, i, NAME);
         let key = key_of(src, name, k, section);
-        let mut j = to_meet(&seen, key, i);
-        while 0 < j {
-            j -= 1;
-            let m = meet(src, notes, k, name, j);
-            match m {
-                Meeting::Equal => break 'scan,
-                Meeting::Differing => {}
-                Meeting::Beyond => j = 0,
-            }
+        if is_used(src, notes, k, name, to_meet(&seen, key, i)) {
+            return Some(line_at(src, notes, i));
         }
         see(&mut seen, key);
         section = section_behind(k, i, section);
-        i += 1;
     }
-    if i < n {
-        return Clash::At(line_at(src, notes, i));
-    }
-    Clash::NoClash
+    None
 }

@@ -38,10 +38,8 @@ fn name_key(start: usize, name: &[u8]) -> usize
     ensures { result ≡ key_from start name.now }
 {
     let mut key = start;
-    let mut i = 0;
-    while i < name.len() {
-        key = key % 67108864 * 33 + widen(name[i]);
-        i += 1;
+    for &b in name {
+        key = key % 67108864 * 33 + usize::from(b);
     }
     key
 }
@@ -55,10 +53,4 @@ pub fn key_of(src: &[u8], name: Word, k: usize, section: usize) -> usize
     let a = w.start;
     let e = w.end;
     name_key(start, &src[a..e])
-}
-
-fn widen(b: u8) -> usize
-    ensures { (result ≡ b) × (result < 256) }
-{
-    b as usize
 }

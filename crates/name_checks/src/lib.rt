@@ -10,14 +10,6 @@ pub mod marking; // marking.rt: names not found, and what nobody lists
 
 pub use clashes::first_clash;
 pub use marking::last_fault;
-use records::Fault;
-
-// The line of the first name that is used twice.
-#[derive(Clone, Copy)]
-pub enum Clash {
-    At(u64),
-    NoClash,
-}
 
 // A name and an earlier one: equal, differing, or no longer to be compared.
 #[derive(Clone, Copy)]
@@ -25,11 +17,4 @@ pub enum Meeting {
     Equal,
     Differing,
     Beyond,
-}
-
-// What the last checks say: fine, or the first name that is not found (15), else the first section that nobody lists (16).
-#[derive(Clone, Copy)]
-pub enum Last {
-    Fine,
-    Faulty(Fault),
 }

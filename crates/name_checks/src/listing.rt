@@ -54,9 +54,7 @@ pub fn list_names(
     ensures seen_after { seen.new ≡ keys_to src.now notes.now seen.old n }
     ensures slots_after { slots.new ≡ slots_to src.now notes.now slots.old n }
 {
-    let mut i = 0;
-    while i < n {
+    for i in 0..n {
         list_name(src, notes, i, seen, slots);
-        i += 1;
     }
 }

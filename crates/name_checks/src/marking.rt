@@ -1,19 +1,15 @@
 // Names not found, and what nobody lists: each pin and selector row marks what it names.
 ghost use Rattle.std.specs.Prelude.{◌≡◌, ◌&&◌, ◌≤◌, ◌<◌, ltb};
-ghost use Rattle.std.proofs.Math.Option.{none};
 ghost use Rattle.notes.specs.Noted.{clash};
 ghost use Rattle.note_words.specs.Store.{names_held, noted_line};
-ghost use Rattle.name_checks.specs.declared.Last.TheVariants.{Faulty};
 ghost use Rattle.name_checks.specs.Lookup.{reaches, reaches_at, target_to, excused, model_at, place_at, missing, Clear, with_mark, entries_to, Listed, Marked, unmarked, unmarked_from, Concludes};
 
-use crate::Last;
 use crate::clashes::{is_enclosed, model_or_selector};
 use crate::listing::{SLOTS, list_names, target_key};
 use crate::places::{
     OF_CHOICE, OF_MODEL, OF_PIN, OF_SELECTOR, kind_at, line_at, part_at, same_parts, within,
 };
 use crate::seen::{SEEN_WORDS, is_seen};
-use name_table::Found;
 use note_words::{MOST_NAMES, NAME, ROW_MODEL};
 use records::Fault;
 
@@ -45,18 +41,16 @@ fn names_it(src: &[u8], notes: &[u16], i: usize, j: usize) -> bool
 }
 
 // The last of n names that the one at place i names. Most files have their models behind the pins.
-fn search_target(src: &[u8], notes: &[u16], n: usize, i: usize) -> Found
+fn search_target(src: &[u8], notes: &[u16], n: usize, i: usize) -> Option<usize>
     requires { (n ≤ names_held) × (i ≤ names_held) }
     ensures { result ≡ target_to src.now notes.now i n }
 {
-    let mut j = n;
-    while 0 < j {
-        j -= 1;
+    for j in (0..n).rev() {
         if names_it(src, notes, i, j) {
-            return Found::At(j);
+            return Some(j);
         }
     }
-    Found::Nothing
+    None
 }
 
 // The name at place i names the one at place j, which is one of n.
@@ -84,29 +78,29 @@ fn find_target(
     i: usize,
     seen: &[u64; SEEN_WORDS],
     slots: &[u16; SLOTS],
-) -> Found
+) -> Option<usize>
     requires n_le_names_held { (n ≤ names_held) × (i ≤ names_held) }
-    requires n_value { (clash (entries_to src.now notes.now n) ≡ none) × Listed src.now notes.now n seen.now }
+    requires n_value { (clash (entries_to src.now notes.now n) ≡ None) × Listed src.now notes.now n seen.now }
     ensures { result ≡ target_to src.now notes.now i n }
 {
     let model = part_at(notes, i, ROW_MODEL);
     let key = target_key(src, model);
     if !is_seen(seen, key) {
-        return Found::Nothing;
+        return None;
     }
     let place = place_of(slots[key % SLOTS]);
     if is_target(src, notes, n, i, place) {
-        return Found::At(place);
+        return Some(place);
     }
     search_target(src, notes, n, i)
 }
 
 // The name at place i is at fault.
-fn faulty(src: &[u8], notes: &[u16], number: u8, i: usize) -> Last
+fn faulty(src: &[u8], notes: &[u16], number: u8, i: usize) -> Result<(), Fault>
     requires { i ≤ names_held }
-    ensures { result ≡ Faulty (record { number = number; line = noted_line src.now notes.now i; column = 0 }) }
+    ensures { result ≡ Err (record { number = number; line = noted_line src.now notes.now i; column = 0 }) }
 {
-    Last::Faulty(Fault {
+    Err(Fault {
         number: number,
         line: line_at(src, notes, i),
         column: 0,
@@ -140,7 +134,7 @@ fn mark_target(
     later: usize,
 ) -> usize
     requires n_le_names_held { (n ≤ names_held) × (i < n) }
-    requires n_value { (clash (entries_to src.now notes.now n) ≡ none) × Listed src.now notes.now n seen.now }
+    requires n_value { (clash (entries_to src.now notes.now n) ≡ None) × Listed src.now notes.now n seen.now }
     ensures value { result ≡ missing src.now notes.now i later (target_to src.now notes.now i n) }
     ensures marks_after { marks.new ≡ with_mark marks.old (target_to src.now notes.now i n) }
 {
@@ -148,7 +142,7 @@ fn mark_target(
         return later;
     }
     let target = find_target(src, notes, n, i, seen, slots);
-    let Found::At(j) = target else {
+    let Some(j) = target else {
         if is_excused(src, notes, i) {
             return later;
         }
@@ -161,7 +155,7 @@ fn mark_target(
 // From the last name up to the first: each marks what it names. The place of the first that names nothing; n if there is none.
 fn mark_targets(src: &[u8], notes: &[u16], n: usize, marks: &mut [u8; MOST_NAMES]) -> usize
     requires n_le_names_held { n ≤ names_held }
-    requires n_value { clash (entries_to src.now notes.now n) ≡ none }
+    requires n_value { clash (entries_to src.now notes.now n) ≡ None }
     requires clear { Clear marks.old n }
     ensures { Marked src.now notes.now marks.new n result }
 {
@@ -169,9 +163,7 @@ fn mark_targets(src: &[u8], notes: &[u16], n: usize, marks: &mut [u8; MOST_NAMES
     let mut slots = [0u16; SLOTS];
     list_names(src, notes, n, &mut seen, &mut slots);
     let mut first = n;
-    let mut i = n;
-    while 0 < i {
-        i -= 1;
+    for i in (0..n).rev() {
         first = mark_target(src, notes, n, i, &seen, &slots, marks, first);
     }
     first
@@ -197,18 +189,16 @@ fn first_unlisted(notes: &[u16], marks: &[u8; MOST_NAMES], n: usize) -> usize
     ensures { result ≡ unmarked_from notes.now marks.now 0 n }
 {
     let mut first = n;
-    let mut j = n;
-    while 0 < j {
-        j -= 1;
+    for j in (0..n).rev() {
         first = unlisted_at(notes, marks, j, first);
     }
     first
 }
 
 // The first name that is not found; where all are, the first section that nobody lists.
-pub fn last_fault(src: &[u8], notes: &[u16], n: usize) -> Last
+pub fn last_fault(src: &[u8], notes: &[u16], n: usize) -> Result<(), Fault>
     requires n_le_names_held { n ≤ names_held }
-    requires n_value { clash (entries_to src.now notes.now n) ≡ none }
+    requires n_value { clash (entries_to src.now notes.now n) ≡ None }
     ensures { Concludes (entries_to src.now notes.now n) result }
 {
     let mut marks = [0u8; MOST_NAMES];
@@ -220,5 +210,5 @@ pub fn last_fault(src: &[u8], notes: &[u16], n: usize) -> Last
     if unlisted < n {
         return faulty(src, notes, 16, unlisted);
     }
-    Last::Fine
+    Ok(())
 }

@@ -11,7 +11,7 @@ pub fn is_seen(seen: &[u64; SEEN_WORDS], key: usize) -> bool
     ensures { result ≡ is_seen seen.now key }
 {
     let bits = seen[key / 64 % SEEN_WORDS];
-    given::is_given(Given { bits: bits }, key % 64)
+    Given { bits: bits }.is_given(key % 64)
 }
 
 pub fn see(seen: &mut [u64; SEEN_WORDS], key: usize)
@@ -19,7 +19,7 @@ pub fn see(seen: &mut [u64; SEEN_WORDS], key: usize)
 {
     let at = key / 64 % SEEN_WORDS;
     let bits = seen[at];
-    let more = given::also(Given { bits: bits }, key % 64);
+    let more = Given { bits: bits }.also(key % 64);
     seen[at] = more.bits;
 }
 

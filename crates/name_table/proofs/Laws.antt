@@ -1,35 +1,28 @@
--- Laws of `specs/Names.antt` and `specs/Listed.antt`: a turn of the search, where the name found stands, the names of a list by their places, and that the place found stands for
+-- Laws of `specs/Names.antt`: a turn of the search, where the name found stands, and that the place found stands for
 -- the meaning.
+use Rattle.std.specs.Prelude.{Option, None, Some}
 use Prim.Native.Nat.{ℕ, zero, suc, ◌+◌, ◌-◌, ◌≤◌, ◌<◌}
 use mathlib.Core.Path.{◌≡◌, refl, sym, ap, ap₂, subst, ◌∙◌}
-use mathlib.Core.List.{List, [], ◌∷◌}
+use mathlib.Core.List.{List, [], ◌∷◌, map}
 use mathlib.Core.Bool.{Bool, true, false}
-use mathlib.Core.Option.{Option, none, some}
 use native.Mathlib.Nat.{sub_self}
 use native.Mathlib.Omega.{arith}
-use lib.ListN.{length, drop, get_or, get_or-eq_default, drop_of_length-le}
-use Rattle.laws.specs.Eights.{byte_in}
+use lib.ListN.{length, drop, get_or, drop_of_length-le}
 use Rattle.laws.specs.Lists.{eqs, all}
 use Rattle.laws.proofs.Tests.{by-test, cond_yes, cond_no, and_first, and_second, impossible}
 use Rattle.laws.proofs.Lists.{from_cons}
-use Rattle.laws.proofs.Eights.{bytes-length, bytes-get}
 use Rattle.laws.proofs.Same.{eqs-eq}
 use Rattle.words.specs.Words.{word}
 use Rattle.name_table.specs.Names.{Naming, meaning, first_from, place_from}
 use Rattle.name_table.specs.Places.{names_of, meaning_at, meaning_of}
-use Rattle.name_table.specs.Listed.{eights_of, listed_name, names_in}
-use Rattle.name_table.specs.declared.Listed.{Listed}
-use Rattle.name_table.specs.declared.NameList.{NameList}
-use Rattle.name_table.specs.declared.Found.{Found}
-use Rattle.name_table.specs.declared.Found.TheVariants.{At, Nothing}
 
 -- ---- a turn of the search
 
 module _ (p : List ℕ → Bool) (k : ℕ) where
-  pub first-none : (ns : List (List ℕ)) → ns ≡ [] → first_from p k ns ≡ Nothing
+  pub first-none : (ns : List (List ℕ)) → ns ≡ [] → first_from p k ns ≡ None
   first-none ns e = ap (first_from p k) e
 
-  pub first-here : (n : List ℕ) (ns more : List (List ℕ)) → ns ≡ n ∷ more → p n ≡ true → first_from p k ns ≡ At k
+  pub first-here : (n : List ℕ) (ns more : List (List ℕ)) → ns ≡ n ∷ more → p n ≡ true → first_from p k ns ≡ Some k
   first-here n ns more e h = ap (first_from p k) e ∙ cond_yes _ _ h
 
   pub first-later : (n : List ℕ) (ns more : List (List ℕ)) → ns ≡ n ∷ more → p n ≡ false → first_from p k ns ≡ first_from p (k + 1) more
@@ -37,7 +30,7 @@ module _ (p : List ℕ → Bool) (k : ℕ) where
 
 -- the same by the place of the next name, where a comparison with it gave t
 module _ (w : List ℕ) (ns : List (List ℕ)) (k : ℕ) where
-  pub turn-none : length ns ≤ k → place_from k w (drop k ns) ≡ Nothing
+  pub turn-none : length ns ≤ k → place_from k w (drop k ns) ≡ None
   unfolding place_from
   turn-none h = first-none (eqs w) k (drop k ns) (drop_of_length-le ns h)
 
@@ -46,7 +39,7 @@ module _ (w : List ℕ) (ns : List (List ℕ)) (k : ℕ) where
     unfolding word
     next-name = from_cons ns k [] h ∙ ap (λ (x : List ℕ). x ∷ drop (k + 1) ns) (sym e)
 
-    pub turn-here : t ≡ true → place_from k w (drop k ns) ≡ At k
+    pub turn-here : t ≡ true → place_from k w (drop k ns) ≡ Some k
     unfolding place_from
     turn-here q = first-here (eqs w) k n (drop k ns) (drop (k + 1) ns) next-name (sym s ∙ q)
 
@@ -57,9 +50,9 @@ module _ (w : List ℕ) (ns : List (List ℕ)) (k : ℕ) where
 -- ---- where the name found stands
 
 -- a place found, counted from k on, is one whose name passes
-Stands : (List ℕ → Bool) → List (List ℕ) → ℕ → Found → Type 0
-Stands p ns k Nothing = Unit {0}
-Stands p ns k (At i) = (k ≤ i) × (i - k < length ns) × (p (word (i - k) ns) ≡ true)
+Stands : (List ℕ → Bool) → List (List ℕ) → ℕ → Option ℕ → Type 0
+Stands p ns k None = Unit {0}
+Stands p ns k (Some i) = (k ≤ i) × (i - k < length ns) × (p (word (i - k) ns) ≡ true)
 
 stands : (p : List ℕ → Bool) (ns : List (List ℕ)) (k : ℕ) → Stands p ns k (first_from p k ns)
 unfolding Stands word
@@ -71,58 +64,34 @@ stands p (n ∷ ns) k =
     rw h (omega arith, omega arith, here))
     (λ h. rw h (earlier (first_from p (k + 1) ns) (stands p ns (k + 1))))
   where
-    earlier : (f : Found) → Stands p ns (k + 1) f → Stands p (n ∷ ns) k f
-    earlier Nothing s = tt
-    earlier (At i) s =
+    earlier : (f : Option ℕ) → Stands p ns (k + 1) f → Stands p (n ∷ ns) k f
+    earlier None s = tt
+    earlier (Some i) s =
         let b = s.0 in
         let l = s.1 in
         let e : i - k ≡ suc (i - (k + 1)) = omega (arith, b) in
         let there : p (word (i - k) (n ∷ ns)) ≡ true = ap (λ (j : ℕ). p (word j (n ∷ ns))) e ∙ s.2 in
         (omega (arith, b), omega (arith, b, l), there)
 
-pub stands_at : (w : List ℕ) (ns : List (List ℕ)) (k : ℕ) → place_from 0 w ns ≡ At k → (k < length ns) × (w ≡ word k ns)
+pub stands_at : (w : List ℕ) (ns : List (List ℕ)) (k : ℕ) → place_from 0 w ns ≡ Some k → (k < length ns) × (w ≡ word k ns)
 unfolding Stands place_from
 stands_at w ns k e =
-    let s : Stands (eqs w) ns 0 (At k) = subst (Stands (eqs w) ns 0) e (stands (eqs w) ns 0) in
+    let s : Stands (eqs w) ns 0 (Some k) = subst (Stands (eqs w) ns 0) e (stands (eqs w) ns 0) in
     let z : k - 0 ≡ k = omega arith in
     (subst (λ (i : ℕ). i < length ns) z s.1, eqs-eq w (word (k - 0) ns) s.2 ∙ ap (λ (i : ℕ). word i ns) z)
-
--- ---- the names of a list
-
--- a name that is the word at a place, by that place's number
-pub at_place : (l : NameList) {n : List ℕ} {k j : ℕ} → k ≡ j → n ≡ word j (names_in l) → n ≡ word k (names_in l)
-at_place l e h = h ∙ ap (λ (i : ℕ). word i (names_in l)) (sym e)
-
--- the same of another list, which is this one
-pub of-list : (k : ℕ) {m l : NameList} {n : List ℕ} → m ≡ l → n ≡ word k (names_in l) → n ≡ word k (names_in m)
-of-list k e h = h ∙ ap (λ (x : NameList). word k (names_in x)) (sym e)
-
--- past the last name stands an empty one
-pub name-past : (l : NameList) (k : ℕ) → length (names_in l) ≤ k → [] ≡ word k (names_in l)
-unfolding word
-name-past l k h = sym (get_or-eq_default (names_in l) [] h)
-
--- a listed name has so many bytes, each as its numbers say
-pub listed-length : (name : Listed) → length (listed_name name) ≡ name.0
-unfolding listed_name
-listed-length name = bytes-length (eights_of name) name.0
-
-pub listed-byte : (name : Listed) (i : ℕ) → i < name.0 → get_or (listed_name name) i 0 ≡ byte_in (eights_of name) i
-unfolding listed_name
-listed-byte name i h = bytes-get (eights_of name) name.0 i h
 
 -- ---- a table's names and meanings
 
 -- the place is counted from k on: what stands there is what stands that much further
-abbrev later : {A : Type 0} → List (Naming A) → ℕ → Found → Option A
-later es k Nothing = none
-later es k (At n) = meaning_at es (n - k)
+abbrev later : {A : Type 0} → List (Naming A) → ℕ → Option ℕ → Option A
+later es k None = None
+later es k (Some n) = meaning_at es (n - k)
 
-later-suc : {A : Type 0} (q : List ℕ → Bool) (e : Naming A) (es : List (Naming A)) (ns : List (List ℕ)) (k : ℕ) (f : Found) → Stands q ns (k + 1) f
+later-suc : {A : Type 0} (q : List ℕ → Bool) (e : Naming A) (es : List (Naming A)) (ns : List (List ℕ)) (k : ℕ) (f : Option ℕ) → Stands q ns (k + 1) f
     → later (e ∷ es) k f ≡ later es (k + 1) f
 unfolding Stands meaning_at
-later-suc q e es ns k Nothing h = refl
-later-suc q e es ns k (At n) h =
+later-suc q e es ns k None h = refl
+later-suc q e es ns k (Some n) h =
     let z : n - k ≡ suc (n - (k + 1)) = omega (arith, h.0) in
     ap (meaning_at (e ∷ es)) z
 
@@ -139,12 +108,12 @@ pub meaning-place : {A : Type 0} (w : List ℕ) (es : List (Naming A)) → meani
 unfolding meaning_of
 meaning-place w es = meaning-from w es 0 ∙ plain (place_from 0 w (names_of es))
   where
-    plain : (f : Found) → later es 0 f ≡ meaning_of es f
-    plain Nothing = refl
-    plain (At n) = let q : n - 0 ≡ n = omega arith in ap (meaning_at es) q
+    plain : (f : Option ℕ) → later es 0 f ≡ meaning_of es f
+    plain None = refl
+    plain (Some n) = let q : n - 0 ≡ n = omega arith in ap (meaning_at es) q
 
 -- a test that each entry of a table passes, a name passes with what it means
-pub meaning-entry : {A : Type 0} (p : Naming A → Bool) (es : List (Naming A)) → all p es ≡ true → (w : List ℕ) (a : A) → meaning w es ≡ some a
+pub meaning-entry : {A : Type 0} (p : Naming A → Bool) (es : List (Naming A)) → all p es ≡ true → (w : List ℕ) (a : A) → meaning w es ≡ Some a
     → p (record { name = w; means = a }) ≡ true
 unfolding all meaning
 meaning-entry p [] h w a e = let z : ◌≡◌ {A = ℕ} 0 1 = cc in impossible z
@@ -155,11 +124,18 @@ meaning-entry {A} p (x ∷ es) h w a e =
     ap₂ (λ (n : List ℕ) (b : A). p (record { name = n; means = b })) (eqs-eq w x.name q) means ∙ and_first (p x) (all p es) h)
     (λ q. meaning-entry p es (and_second (p x) (all p es) h) w a (sym (cond_no _ _ q) ∙ e))
   where
-    some_is : (b c : A) → some b ≡ some c → b ≡ c
+    some_is : (b c : A) → Some b ≡ Some c → b ≡ c
     some_is b c e = cc
 
+-- what stands at a place within a table is the meaning there
+pub meaning-within : {A : Type 0} (es : List (Naming A)) (k : ℕ) (d : A) → k < length es → meaning_at es k ≡ Some (get_or (map (λ e. e.means) es) k d)
+unfolding meaning_at
+meaning-within [] k d h = absurd (omega arith)
+meaning-within (e ∷ es) zero d h = refl
+meaning-within (e ∷ es) (suc k) d h = meaning-within es k d (omega arith)
+
 -- past the end of a table nothing stands
-pub meaning-past : {A : Type 0} (es : List (Naming A)) (k : ℕ) → length es ≤ k → meaning_at es k ≡ none
+pub meaning-past : {A : Type 0} (es : List (Naming A)) (k : ℕ) → length es ≤ k → meaning_at es k ≡ None
 unfolding meaning_at
 meaning-past [] k h = refl
 meaning-past (e ∷ es) zero h = absurd (omega arith)

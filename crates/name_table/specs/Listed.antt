@@ -1,14 +1,10 @@
--- The lists of names that are looked up, and a name of a list as the code holds it: its bytes, eight to a number.
-use Rattle.std.specs.Prelude.{ℕ, List, [], ◌∷◌}
+-- The lists of names that are looked up.
+use Rattle.std.specs.Prelude.{ℕ, List}
 use Prim.Native.String.{String}
 use Rattle.laws.specs.Bytes.{bytes}
-use Rattle.laws.specs.Eights.{bytes_from}
 use Rattle.words.specs.Words.{words}
-use Rattle.name_table.specs.declared.Listed.{Listed}
 use Rattle.name_table.specs.declared.NameList.{NameList}
 use Rattle.name_table.specs.declared.NameList.TheVariants.{Keywords, ComponentLines, PackageLines, ModelLines, RampLines, Fixtures, Locations, ModelTypes, Polarities, Enables}
-
--- ---- the lists
 
 -- the names of a list, with a blank between
 abbrev pub list_text : NameList → String
@@ -25,11 +21,3 @@ list_text Enables = "Active-High Active-Low"
 
 abbrev pub names_in : NameList → List (List ℕ)
 names_in l = words (bytes (list_text l))
-
--- ---- a name as numbers
-
-abbrev pub eights_of : Listed → List ℕ
-eights_of name = name.1 ∷ name.2 ∷ name.3 ∷ []
-
-unfoldable pub listed_name : Listed → List ℕ
-listed_name name = bytes_from (eights_of name) name.0

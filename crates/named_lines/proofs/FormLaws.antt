@@ -1,4 +1,5 @@
 -- Laws on the forms of names, and on what a line tells of a word's form, one for each branch of the code.
+use Rattle.std.specs.Prelude.{Result, Ok, Err}
 use Prim.Native.Nat.{ℕ, ◌+◌, ◌≤◌, ◌<◌}
 use Prim.Native.Char.{code}
 use mathlib.Core.Path.{◌≡◌, sym, ap, ◌∙◌}
@@ -10,7 +11,7 @@ use lib.Dec.{eqb, leb}
 use borrow.Author.Tests.{le-leb, lt-leb}
 use Rattle.laws.specs.Bytes.{bytes, is_blank, is_small}
 use Rattle.laws.specs.Lists.{front, among, part, eqs}
-use Rattle.laws.specs.Said.{Result, Said, says, fault}
+use Rattle.laws.specs.Said.{Said}
 use Rattle.laws.proofs.Tests.{and_left, cond_yes, cond_no}
 use Rattle.laws.proofs.Lists.{from_cons, none_of}
 use Rattle.laws.proofs.Bytes.{digit-yes, digit-below, digit-above}
@@ -19,7 +20,7 @@ use Rattle.words.specs.Places.{WordAt}
 use Rattle.words.specs.declared.Word.{Word}
 use Rattle.records.specs.Flaws.{flaw, sound, flaw_in, told, told_in, bare, at_place, said_there, line_fault_in}
 use Rattle.records.specs.declared.LineFault.{LineFault}
-use Rattle.records.proofs.Columns.{told-sound, told-fault}
+use Rattle.records.proofs.Columns.{told-fault}
 use Rattle.line_rules.specs.Fields.{is_sized, is_bracketed, is_file_byte, is_file_name, word_by, ended, alone, passing, no_argument}
 use Rattle.line_rules.proofs.Columns.{passing-columns}
 use Rattle.line_rules.proofs.Told.{ten-at, word-told, ended-flaw, alone-wrong, alone-right}
@@ -83,9 +84,6 @@ module _ (w : List ℕ) (end : ℕ) (h : end ≡ 0 + length (front is_file_byte 
 -- ---- what is told of a text from a place on
 
 module _ (n : ℕ) (s : List ℕ) (at : ℕ) where
-  pub sized-right : is_sized n (drop at s) ≡ true → told s (cond (is_sized n (drop at s)) sound (flaw 10 (drop at s))) ≡ bare 0
-  sized-right q = ap (told s) (cond_yes sound (flaw 10 (drop at s)) q) ∙ told-sound s
-
   pub sized-wrong : at ≤ length s → is_sized n (drop at s) ≡ false → told s (cond (is_sized n (drop at s)) sound (flaw 10 (drop at s))) ≡ at_place 10 at
   sized-wrong h q = ap (told s) (cond_no sound (flaw 10 (drop at s)) q) ∙ ten-at s at h
 
@@ -93,11 +91,11 @@ module _ (p : List ℕ → Bool) (s : List ℕ) (at : ℕ) (r : Word) (h : WordA
   abbrev text : List ℕ
   text = part r.start r.end s
 
-  passes : p text ≡ true → passing p text ≡ says text
+  passes : p text ≡ true → passing p text ≡ Ok text
   unfolding passing
   passes q = cond_yes _ _ q
 
-  fails : p text ≡ false → passing p text ≡ fault 10
+  fails : p text ≡ false → passing p text ≡ Err 10
   unfolding passing
   fails q = cond_no _ _ q
 
@@ -114,7 +112,7 @@ module _ (p : List ℕ → Bool) (s : List ℕ) (at : ℕ) (r : Word) (h : WordA
   word-wrong q = word-form (fails q)
 
   -- and nothing behind it
-  told-alone : {x : Result LineFault (List ℕ)} → told_in s (alone (passing p) (drop at s)) ≡ x → told s (flaw_in (alone (passing p) (drop at s))) ≡ line_fault_in x
+  told-alone : {x : Result (List ℕ) LineFault} → told_in s (alone (passing p) (drop at s)) ≡ x → told s (flaw_in (alone (passing p) (drop at s))) ≡ line_fault_in x
   told-alone q = sym (told-fault s (alone (passing p) (drop at s))) ∙ ap line_fault_in q
 
   pub argument-wrong : p text ≡ false → told s (flaw_in (alone (passing p) (drop at s))) ≡ at_place 10 r.start

@@ -1,4 +1,5 @@
 -- Laws on a line's words, its name and its number, by the places that the code answers.
+use Rattle.std.specs.Prelude.{Err}
 use Prim.Native.Nat.{ℕ, ◌+◌, ◌≤◌, ◌<◌}
 use Prim.Native.Char.{code}
 use mathlib.Core.Path.{◌≡◌, refl, sym, ap, ◌∙◌}
@@ -10,7 +11,6 @@ use lib.Seq.{drop-drop}
 use lib.Dec.{eqb}
 use Rattle.laws.specs.Bytes.{is_blank}
 use Rattle.laws.specs.Lists.{front, after, other, part}
-use Rattle.laws.specs.Said.{fault}
 use Rattle.laws.proofs.Tests.{by_order, cond_yes, cond_no, never}
 use Rattle.laws.proofs.Lists.{from_cons}
 use Rattle.laws.proofs.Fronts.{after-at, front_at, front-front}
@@ -39,20 +39,20 @@ first-is w r h =
 -- ---- exactly one word from a place on: no word, more than one, or one
 
 module _ {A : Type 0} (said : Reads A) (s : List ℕ) (at : ℕ) (r : Word) (h : WordAt s at r) (p : ℕ) (e : p ≡ r.end + length (front is_blank (drop r.end s))) (f : p ≤ length s) where
-  miscounted : (length (words (drop at s)) ≡ 1 → ⊥) → told_in s (exactly 1 said (drop at s)) ≡ fault (at_place 10 p)
+  miscounted : (length (words (drop at s)) ≡ 1 → ⊥) → told_in s (exactly 1 said (drop at s)) ≡ Err (at_place 10 p)
   miscounted q =
       ap (told_in s) (exactly-no 1 said (drop at s) q)
-      ∙ ap (λ (v : List ℕ). told_in s (fault (flaw 10 v))) (rest-behind s at r h p e)
-      ∙ ap fault (ten-at s p f)
+      ∙ ap (λ (v : List ℕ). told_in s (Err (flaw 10 v))) (rest-behind s at r h p e)
+      ∙ ap Err (ten-at s p f)
 
-  pub sole_none : length s ≤ r.start → told_in s (exactly 1 said (drop at s)) ≡ fault (at_place 10 p)
+  pub sole_none : length s ≤ r.start → told_in s (exactly 1 said (drop at s)) ≡ Err (at_place 10 p)
   sole_none k = miscounted (λ q. let z : ◌≡◌ {A = ℕ} 0 1 = sym (ap length (h.none k)) ∙ q in absurd (omega arith))
 
   -- the words from the place on, where there is one
   listed : r.start < length s → length (words (drop at s)) ≡ length (words (drop r.end s)) + 1
   listed k = ap length (h.some k) ∙ (omega arith)
 
-  pub sole-more : r.start < length s → p < length s → told_in s (exactly 1 said (drop at s)) ≡ fault (at_place 10 p)
+  pub sole-more : r.start < length s → p < length s → told_in s (exactly 1 said (drop at s)) ≡ Err (at_place 10 p)
   sole-more k q = miscounted (λ z. absurd (omega (arith, listed k, ap length (words-some s r.end p e q _ refl))))
 
   pub sole-one : r.start < length s → length s ≤ p → exactly 1 said (drop at s) ≡ said
@@ -107,9 +107,9 @@ module _ (w : List ℕ) (end at : ℕ) (h : drop end w ≡ after_name w) (e : at
   unfolding number_line
   assigned-at = ap behind_equals (ap (after is_blank) (sym h) ∙ after-at is_blank w end at e)
 
-  pub assigned-other : at ≤ length w → has_equals (drop at w) ≡ false → told_in w (number_line w) ≡ fault (at_place 10 at)
+  pub assigned-other : at ≤ length w → has_equals (drop at w) ≡ false → told_in w (number_line w) ≡ Err (at_place 10 at)
   unfolding behind_equals
-  assigned-other k q = ap (told_in w) (assigned-at ∙ cond_no _ _ q) ∙ ap fault (ten-at w at k)
+  assigned-other k q = ap (told_in w) (assigned-at ∙ cond_no _ _ q) ∙ ap Err (ten-at w at k)
 
   pub assigned-equals : has_equals (drop at w) ≡ true → number_line w ≡ exactly 1 (word_by given_cell 0 (drop (at + 1) w)) (drop (at + 1) w)
   unfolding behind_equals

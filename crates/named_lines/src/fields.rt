@@ -4,9 +4,7 @@ ghost use Rattle.laws.specs.Said.{or_else};
 ghost use Rattle.line_rules.specs.Fields.{word_line, number_line};
 ghost use Rattle.line_rules.specs.Tables.{model_types};
 
-use crate::TypeRead;
 use decimal::Cell;
-use line_rules::LineCell;
 use records::ModelType;
 
 // The type, whose line stands first.
@@ -17,8 +15,8 @@ pub fn type_after(n: usize, w: &[u8], before: ModelType) -> ModelType
         return before;
     }
     match crate::lookups::type_of(w) {
-        TypeRead::OfType(kind) => kind,
-        TypeRead::NoType(_) => before,
+        Ok(kind) => kind,
+        Err(_) => before,
     }
 }
 
@@ -30,7 +28,7 @@ pub fn number_after(place: usize, n: usize, w: &[u8], before: Cell) -> Cell
         return before;
     }
     match crate::lines::number_line(w) {
-        LineCell::Stated(number) => number,
-        LineCell::Misstated(_) => before,
+        Ok(number) => number,
+        Err(_) => before,
     }
 }

@@ -2,7 +2,7 @@
 ghost use Rattle.std.specs.Prelude.{◌≡◌, ◌+◌, ◌≤◌, length, drop, cond};
 ghost use Rattle.laws.specs.Lists.{front};
 ghost use Rattle.words.specs.Words.{rest_from};
-ghost use Rattle.records.specs.Flaws.{flaw, sound, flaw_in, told};
+ghost use Rattle.records.specs.Flaws.{flaw, sound, flaw_in, told, checked};
 ghost use Rattle.line_rules.specs.Fields.{is_sized, is_bracketed, needs_no_model, is_no_model, is_model_name, is_pin_model, is_pin_name, is_file_byte, is_file_name, word_by, alone, passing, no_argument};
 ghost use Rattle.named_lines.specs.Views.{has_form};
 
@@ -108,14 +108,7 @@ fn skip_file_bytes(w: &[u8], at: usize) -> usize
     ensures value { result ≡ at + length (front is_file_byte (drop at w.now)) }
     ensures lower_bound { (at ≤ result) × (result ≤ length w.now) }
 {
-    let mut i = at;
-    while i < w.len() {
-        if !file_byte(w[i]) {
-            return i;
-        }
-        i += 1;
-    }
-    i
+    words::skip(w, at, file_byte)
 }
 
 pub fn file_name(w: &[u8]) -> bool
@@ -142,14 +135,14 @@ fn has_form(w: &[u8], form: Form) -> bool
 // ---- what a line tells of what stands from a place of it on
 
 // Nothing may stand there.
-pub fn surplus_fault(w: &[u8], at: usize) -> LineFault
+pub fn surplus_fault(w: &[u8], at: usize) -> Result<(), LineFault>
     requires { at ≤ length w.now }
-    ensures { result ≡ told w.now (no_argument (drop at w.now)) }
+    ensures { result ≡ checked (told w.now (no_argument (drop at w.now))) }
 {
-    if w.len() <= at {
-        return records::bare_fault(0);
+    if at < w.len() {
+        return Err(records::at_fault(10, at));
     }
-    records::at_fault(10, at)
+    Ok(())
 }
 
 // A line whose name is none of its list's is told at its first word.
@@ -160,40 +153,36 @@ pub fn name_fault(w: &[u8]) -> LineFault
 }
 
 // A text of 1 to `most` characters, blanks and all.
-pub fn sized_fault(w: &[u8], at: usize, most: usize) -> LineFault
+pub fn sized_fault(w: &[u8], at: usize, most: usize) -> Result<(), LineFault>
     requires { at ≤ length w.now }
-    ensures { result ≡ told w.now (cond (is_sized most (drop at w.now)) sound (flaw 10 (drop at w.now))) }
+    ensures { result ≡ checked (told w.now (cond (is_sized most (drop at w.now)) sound (flaw 10 (drop at w.now)))) }
 {
-    if sized(&w[at..], most) {
-        return records::bare_fault(0);
+    if !sized(&w[at..], most) {
+        return Err(records::at_fault(10, at));
     }
-    records::at_fault(10, at)
+    Ok(())
 }
 
 // A word of this form, and then anything.
-pub fn word_fault(w: &[u8], at: usize, form: Form) -> LineFault
+pub fn word_fault(w: &[u8], at: usize, form: Form) -> Result<(), LineFault>
     requires { at ≤ length w.now }
-    ensures { result ≡ told w.now (flaw_in (word_by (passing (has_form form)) 0 (drop at w.now))) }
+    ensures { result ≡ checked (told w.now (flaw_in (word_by (passing (has_form form)) 0 (drop at w.now)))) }
 {
     let word = words::word_at(w, at);
-    let start = word.start;
-    let end = word.end;
-    if has_form(&w[start..end], form) {
-        return records::bare_fault(0);
+    if !has_form(&w[word.start..word.end], form) {
+        return Err(records::at_fault(10, word.start));
     }
-    records::at_fault(10, start)
+    Ok(())
 }
 
 // A word of this form, and nothing behind it.
-pub fn argument_fault(w: &[u8], at: usize, form: Form) -> LineFault
+pub fn argument_fault(w: &[u8], at: usize, form: Form) -> Result<(), LineFault>
     requires { at ≤ length w.now }
-    ensures { result ≡ told w.now (flaw_in (alone (passing (has_form form)) (drop at w.now))) }
+    ensures { result ≡ checked (told w.now (flaw_in (alone (passing (has_form form)) (drop at w.now)))) }
 {
     let word = words::word_at(w, at);
-    let start = word.start;
-    let end = word.end;
-    if !has_form(&w[start..end], form) {
-        return records::at_fault(10, start);
+    if !has_form(&w[word.start..word.end], form) {
+        return Err(records::at_fault(10, word.start));
     }
-    surplus_fault(w, words::skip_blanks(w, end))
+    surplus_fault(w, words::skip_blanks(w, word.end))
 }

@@ -1,8 +1,6 @@
 // What stands on a line: names and their forms, the word or number behind a name, and names and words looked up in lists.
 #![tactic(auto)]
 
-use records::{LineFault, Location, ModelType};
-
 pub mod lines; // lines.rt: a line's words, its name, and the word or number behind it
 pub mod forms; // forms.rt: the forms of names
 pub mod lookups; // lookups.rt: a name or a word looked up in document 01's lists
@@ -24,25 +22,4 @@ pub enum Form {
     Version,
     FileName,
     ModelName,
-}
-
-// The place of a line's word in a list, or the line's fault.
-#[derive(Clone, Copy)]
-pub enum ListedRead {
-    Listed(usize),
-    Unlisted(LineFault),
-}
-
-// What a location line says, or its fault.
-#[derive(Clone, Copy)]
-pub enum LocationRead {
-    Located(Location),
-    NoLocation(LineFault),
-}
-
-// What the line Model_type says, or its fault.
-#[derive(Clone, Copy)]
-pub enum TypeRead {
-    OfType(ModelType),
-    NoType(LineFault),
 }

@@ -2,17 +2,15 @@
 ghost use Rattle.std.specs.Prelude.{◌≡◌, ◌+◌, ◌^◌, ◌≤◌, ◌<◌, length, drop};
 ghost use Rattle.laws.specs.Lists.{front};
 ghost use Rattle.decimal.specs.Decimal.{given_cell};
-ghost use Rattle.decimal.specs.Answers.{cell_says};
 ghost use Rattle.records.specs.Flaws.{told_in, said_there};
 ghost use Rattle.name_table.specs.Names.{place_from};
 ghost use Rattle.name_table.specs.Listed.{names_in};
 ghost use Rattle.line_rules.specs.Fields.{name_of, word_by, exactly, number_line};
-ghost use Rattle.line_rules.specs.Answers.{line_cell};
 ghost use Rattle.named_lines.specs.Places.{is_name_byte, has_equals, FirstWordIs, NameIs};
 
-use decimal::CellRead;
-use line_rules::LineCell;
-use name_table::{Found, NameList};
+use decimal::Cell;
+use name_table::NameList;
+use records::LineFault;
 use words::Word;
 
 // The first word of a line; empty if there is none.
@@ -38,14 +36,7 @@ fn skip_name(w: &[u8], at: usize) -> usize
     ensures value { result ≡ at + length (front is_name_byte (drop at w.now)) }
     ensures lower_bound { (at ≤ result) × (result ≤ length w.now) }
 {
-    let mut i = at;
-    while i < w.len() {
-        if !name_byte(w[i]) {
-            return i;
-        }
-        i += 1;
-    }
-    i
+    words::skip(w, at, name_byte)
 }
 
 // The name of a line.
@@ -61,7 +52,7 @@ pub fn name_of(w: &[u8]) -> Word
 }
 
 // The place of a line's name in a list.
-pub fn named_in(w: &[u8], list: NameList) -> Found
+pub fn named_in(w: &[u8], list: NameList) -> Option<usize>
     ensures { result ≡ place_from 0 (name_of w.now) (names_in list) }
 {
     let name = name_of(w);
@@ -81,43 +72,43 @@ pub fn equals_at(w: &[u8], at: usize) -> bool
 }
 
 // What the word that begins at a place says as a cell, or its fault there.
-fn cell_there(place: usize, read: CellRead) -> LineCell
+fn cell_there(place: usize, read: Result<Cell, u8>) -> Result<Cell, LineFault>
     requires { place < 2 ^ 63 }
-    ensures { result ≡ line_cell (said_there place (cell_says read)) }
+    ensures { result ≡ said_there place read }
 {
     match read {
-        CellRead::Read(cell) => LineCell::Stated(cell),
-        CellRead::Bad(fault) => LineCell::Misstated(records::at_fault(fault, place)),
+        Ok(cell) => Ok(cell),
+        Err(fault) => Err(records::at_fault(fault, place)),
     }
 }
 
 // The number that stands from a place on, one word with nothing behind it.
-fn sole_number(w: &[u8], at: usize) -> LineCell
+fn sole_number(w: &[u8], at: usize) -> Result<Cell, LineFault>
     requires { at ≤ length w.now }
-    ensures { result ≡ line_cell (told_in w.now (exactly 1 (word_by given_cell 0 (drop at w.now)) (drop at w.now))) }
+    ensures { result ≡ told_in w.now (exactly 1 (word_by given_cell 0 (drop at w.now)) (drop at w.now)) }
 {
     let word = words::word_at(w, at);
     let start = word.start;
     let end = word.end;
     let next = words::skip_blanks(w, end);
     if w.len() <= start {
-        return LineCell::Misstated(records::at_fault(10, next));
+        return Err(records::at_fault(10, next));
     }
     if next < w.len() {
-        return LineCell::Misstated(records::at_fault(10, next));
+        return Err(records::at_fault(10, next));
     }
     cell_there(start, decimal::given_cell(&w[start..end]))
 }
 
 // The number of a line of name, `=` and number.
-pub fn number_line(w: &[u8]) -> LineCell
-    ensures { result ≡ line_cell (told_in w.now (number_line w.now)) }
+pub fn number_line(w: &[u8]) -> Result<Cell, LineFault>
+    ensures { result ≡ told_in w.now (number_line w.now) }
 {
     let name = name_of(w);
     let end = name.end;
     let at = words::skip_blanks(w, end);
     if !equals_at(w, at) {
-        return LineCell::Misstated(records::at_fault(10, at));
+        return Err(records::at_fault(10, at));
     }
     sole_number(w, at + 1)
 }

@@ -1,11 +1,14 @@
 -- Laws of `specs/Store.antt`: where the notes of the kinds lie, what is read where words were written, and where none were.
 use Prim.Native.Nat.{ℕ, zero, suc, ◌+◌, ◌/◌, ◌%◌, ◌≤◌, ◌<◌}
 use mathlib.Core.Path.{◌≡◌, refl, sym, ap, ◌∙◌, subst}
-use mathlib.Core.List.{List, [], ◌∷◌}
+use mathlib.Core.List.{List, [], ◌∷◌, append_assoc}
 use mathlib.Core.Bool.{true, false}
 use native.Mathlib.Omega.{arith}
 use native.Mathlib.Numerals.{add-one}
-use lib.ListN.{length, drop, get_or, set, length-set, drop_of_length-le}
+use lib.ListN.{length, take, drop, get_or, set, length-set}
+use borrow.Rule.Slice.PartMut.{put_mid}
+use Rattle.std.proofs.lemmas.Slice.{put_mid-paste}
+use Rattle.std.proofs.lemmas.List.Edits.{paste_all, sets-eq}
 use lib.Dec.{eqb}
 use borrow.Author.Tests.{eq-eqb, lt-ltb, le-ltb}
 use Rattle.records.specs.Bounds.{most}
@@ -19,17 +22,16 @@ use Rattle.notes.proofs.Settles.{one_more_lem}
 use Rattle.note_words.specs.Store.{names_held, words_per_section, words_per_row, is_section, words_per, area_from, lies_at, kind_by, order_from, store_length, words_of_section, SectionFits, section_from, section_at, words_of_row, RowFits, row_from, row_at, word_of, part_start, part_end, note_of, noted_at, kind_at, noted_line, name_at, note_at, with_name, how_many, Filed, notes_to, log_in}
 use Rattle.note_words.specs.declared.SectionNote.{SectionNote}
 use Rattle.note_words.specs.declared.RowNote.{RowNote}
-use lib.Seq.{sets, length-sets, get_or-set_same, get_or-set_other, drop-cons}
+use lib.Seq.{sets, length-sets, get_or-set_same, get_or-set_other}
 
--- ---- a turn of the loop that writes
+-- ---- words written over a part
 
-pub sets-turn : (xs ws : List ℕ) (at i : ℕ) → i < length ws → sets (set xs (at + i) (get_or ws i 0)) (at + (i + 1)) (drop (i + 1) ws) ≡ sets xs (at + i) (drop i ws)
-sets-turn xs ws at i h =
-    let e : at + (i + 1) ≡ suc (at + i) = omega arith in
-    rw (drop-cons ws i 0 h) rw e rw (add-one i) refl
-
-pub sets_end : (xs ws : List ℕ) (at i : ℕ) → length ws ≤ i → sets xs at (drop i ws) ≡ xs
-sets_end xs ws at i h = rw (drop_of_length-le ws h) refl
+pub sets-part : (xs ws ys : List ℕ) (at k : ℕ) → ys ≡ ws → k ≡ length ws → at + length ws ≤ length xs → put_mid at k xs ys ≡ sets xs at ws
+sets-part xs ws ys at k e n h =
+    put_mid-paste at k xs ys ws (length ws) e (sym n) refl
+    ∙ paste_all xs at ws (length ws) refl
+    ∙ sym (append_assoc (take at xs) ws (drop (at + length ws) xs))
+    ∙ sym (sets-eq ws xs at h)
 
 -- ---- reading
 

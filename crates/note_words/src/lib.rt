@@ -89,11 +89,7 @@ fn put_words(notes: &mut [u16], at: usize, words: &[u16])
     requires { at + length words.now ≤ length notes.old }
     ensures { notes.new ≡ sets notes.old at words.now }
 {
-    let mut i = 0;
-    while i < words.len() {
-        notes[at + i] = words[i];
-        i += 1;
-    }
+    notes[at..at + words.len()].copy_from_slice(words);
 }
 
 // ---- notes

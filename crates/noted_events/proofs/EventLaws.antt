@@ -1,4 +1,5 @@
 -- Laws of `specs/Events.antt`: the log with one thing more is the store with its words written.
+use Rattle.std.specs.Prelude.{Ok, Err}
 use Prim.Native.Nat.{ℕ, ◌+◌, ◌≤◌, ◌<◌, min}
 use mathlib.Core.Path.{◌≡◌, refl, sym, ap, ◌∙◌, subst}
 use mathlib.Core.List.{List, [], ◌∷◌}
@@ -31,11 +32,9 @@ use Rattle.note_words.specs.declared.SectionNote.{SectionNote}
 use Rattle.note_words.specs.declared.RowNote.{RowNote}
 use Rattle.note_words.proofs.Laws.{filed-other, section-said, row-said, filed-more, log-note}
 use Rattle.noted_events.specs.Places.{FirstIn}
-use Rattle.noted_events.specs.Events.{log_of, told_is, logged_at, section_in, row_in, counted, Within, KeptCounts, KeptBy, Ready}
+use Rattle.noted_events.specs.Events.{Told, log_of, told_is, logged_at, section_in, row_in, counted, Within, KeptCounts, KeptBy, Ready}
 use Rattle.noted_events.specs.declared.Spot.{Spot}
 use Rattle.noted_events.specs.declared.Tally.{Tally}
-use Rattle.noted_events.specs.declared.Told.{Told}
-use Rattle.noted_events.specs.declared.Told.TheVariants.{Going, Full}
 
 -- ---- names
 
@@ -57,11 +56,11 @@ most-small OfChoice = omega arith
 most-small OfModel = omega arith
 
 module _ (l : Lengths) (t : Tally) (k : Kind) where
-  pub counted-full : bound l k ≤ used t.counts k → Full (bare 17) (record { names = t.names + 1; counts = t.counts }) ≡ counted l t k
+  pub counted-full : bound l k ≤ used t.counts k → Err (bare 17, record { names = t.names + 1; counts = t.counts }) ≡ counted l t k
   unfolding counted
   counted-full h = sym (cond_yes _ _ (le-leb (bound l k) (used t.counts k) h))
 
-  pub counted-going : used t.counts k < bound l k → Going (record { names = t.names + 1; counts = one_more t.counts k }) ≡ counted l t k
+  pub counted-going : used t.counts k < bound l k → Ok (record { names = t.names + 1; counts = one_more t.counts k }) ≡ counted l t k
   unfolding counted
   counted-going h = sym (cond_no _ _ (lt-leb (bound l k) (used t.counts k) h))
 

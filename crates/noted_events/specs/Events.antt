@@ -1,5 +1,5 @@
 -- What is noted of a line, as the code answers it.
-use Rattle.std.specs.Prelude.{ℕ, ◌+◌, ◌≤◌, ◌≡◌, List, cond, length, leb}
+use Rattle.std.specs.Prelude.{ℕ, ◌+◌, ◌≤◌, ◌≡◌, List, cond, length, leb, Ok, Err, Result}
 use Rattle.laws.specs.Lists.{part}
 use Rattle.words.specs.declared.Word.{Word}
 use Rattle.cut_lines.specs.Texts.{plain}
@@ -13,22 +13,25 @@ use Rattle.records.specs.declared.Kind.{Kind}
 use Rattle.records.specs.declared.Kind.TheVariants.{OfComponent, OfPin, OfSelector, OfChoice, OfModel}
 use Rattle.records.specs.declared.Counts.{Counts}
 use Rattle.records.specs.declared.Lengths.{Lengths}
+use Rattle.records.specs.declared.LineFault.{LineFault}
 use Rattle.notes.specs.Noted.{Log, Logged, going, full, used, one_more, logged}
 use Rattle.note_words.specs.Store.{most_names, Filed, log_in, store_length}
 use Rattle.note_words.specs.declared.SectionNote.{SectionNote}
 use Rattle.note_words.specs.declared.RowNote.{RowNote}
 use Rattle.noted_events.specs.declared.Spot.{Spot}
 use Rattle.noted_events.specs.declared.Tally.{Tally}
-use Rattle.noted_events.specs.declared.Told.{Told}
-use Rattle.noted_events.specs.declared.Told.TheVariants.{Going, Full}
+
+-- what a line adds is noted, or there is no room for it: the line's fault, and what is noted and counted all the same
+abbrev pub Told : Type 0
+Told = Result Tally (LineFault × Tally)
 
 abbrev pub log_of : List ℕ → List ℕ → Tally → Log
 log_of s xs t = log_in s xs t.names t.counts
 
 -- k is the line
 abbrev pub told_is : List ℕ → List ℕ → ℕ → Told → Logged
-told_is s xs k (Going t) = going (log_of s xs t)
-told_is s xs k (Full f t) = full f k (log_of s xs t)
+told_is s xs k (Ok t) = going (log_of s xs t)
+told_is s xs k (Err (f, t)) = full f k (log_of s xs t)
 
 abbrev pub logged_at : Lengths → List ℕ → List ℕ → Tally → Spot → Event → Logged
 logged_at l s xs t p e = logged l (log_of s xs t) (plain p.line (part p.start p.end s)) (rest s p.next) e
@@ -45,8 +48,8 @@ row_in p name model =
 -- a name that is noted is counted, or its table is full
 unfoldable pub counted : Lengths → Tally → Kind → Told
 counted l t k =
-    cond (leb (bound l k) (used t.counts k)) (Full (bare 17) (record { names = t.names + 1; counts = t.counts }))
-    (Going (record { names = t.names + 1; counts = one_more t.counts k }))
+    cond (leb (bound l k) (used t.counts k)) (Err (bare 17, record { names = t.names + 1; counts = t.counts }))
+    (Ok (record { names = t.names + 1; counts = one_more t.counts k }))
 
 -- a tally that stays within document 01's bounds
 pub record Within (t : Tally) : Type 0 where
@@ -69,8 +72,8 @@ pub record KeptCounts (xs : List ℕ) (t u : Tally) : Type 0 where
   pub rows : u.counts.rows ≤ t.counts.rows + 1
 
 abbrev pub KeptBy : List ℕ → Tally → Told → Type 0
-KeptBy xs t (Going u) = KeptCounts xs t u
-KeptBy xs t (Full f u) = u.names ≤ most_names
+KeptBy xs t (Ok u) = KeptCounts xs t u
+KeptBy xs t (Err (f, u)) = u.names ≤ most_names
 
 -- a text of a file without faulty bytes, its lines counted from the first, with room in the store for what it adds
 pub record Ready (s xs : List ℕ) (t : Tally) (p : Spot) : Type 0 where

@@ -4,7 +4,6 @@ ghost use Rattle.rules.specs.declared.Event.TheVariants.{Opened, PinRow, ChoiceR
 ghost use Rattle.records.specs.Flaws.{bare};
 ghost use Rattle.note_words.specs.Store.{SectionFits, RowFits};
 ghost use Rattle.noted_events.specs.Events.{told_is, logged_at, counted, section_in, row_in, Within, KeptBy, Ready};
-ghost use Rattle.noted_events.specs.declared.Told.TheVariants.{Full};
 
 use crate::places::{argument_in, first_in};
 use crate::room::{bound_of, one_more, used_of, waveform_bound};
@@ -20,15 +19,15 @@ use words::Word;
 
 // There is no room, which tells no column.
 fn no_room(number: u8, t: Tally) -> Told
-    ensures { result ≡ Full (bare number) t }
+    ensures { result ≡ Err (bare number, t) }
 {
-    Told::Full(
+    Err((
         LineFault {
             number: number,
             column: 0,
         },
         t,
-    )
+    ))
 }
 
 // Counts a name that is noted, if its table has room.
@@ -47,7 +46,7 @@ fn count_name(l: Lengths, t: Tally, k: Kind) -> Told
             },
         );
     }
-    Told::Going(Tally {
+    Ok(Tally {
         names: names + 1,
         counts: one_more(counts, k),
     })
@@ -158,7 +157,7 @@ fn count_waveform(src: &[u8], notes: &[u16], l: Lengths, t: Tally, p: Spot) -> T
     }
     let mut d = c;
     d.waveforms = j + 1;
-    Told::Going(Tally {
+    Ok(Tally {
         names: t.names,
         counts: d,
     })
@@ -172,7 +171,7 @@ fn count_row(src: &[u8], notes: &[u16], l: Lengths, t: Tally, p: Spot) -> Told
     let c = t.counts;
     let mut d = c;
     d.rows = c.rows + 1;
-    Told::Going(Tally {
+    Ok(Tally {
         names: t.names,
         counts: d,
     })
@@ -189,9 +188,9 @@ fn end_file(src: &[u8], notes: &[u16], l: Lengths, t: Tally, p: Spot, f: LineFau
         return no_room(9, t);
     }
     if f.number == 0 {
-        return Told::Going(t);
+        return Ok(t);
     }
-    Told::Full(f, t)
+    Err((f, t))
 }
 
 // Notes what a line's event adds.
@@ -201,7 +200,7 @@ pub fn note_event(notes: &mut [u16], src: &[u8], l: Lengths, t: Tally, p: Spot, 
     ensures kept_by { KeptBy notes.new t result }
 {
     match e {
-        Event::Quiet => Told::Going(t),
+        Event::Quiet => Ok(t),
         Event::Opened(o) => note_section(notes, src, l, t, p, o),
         Event::PinRow => note_pin(notes, src, l, t, p),
         Event::ChoiceRow => note_choice(notes, src, l, t, p),

@@ -24,9 +24,5 @@ pub struct Tally {
     pub counts: Counts,
 }
 
-// What a line adds is noted, or there is no room for it: the line's fault.
-#[derive(Clone, Copy)]
-pub enum Told {
-    Going(Tally),
-    Full(LineFault, Tally),
-}
+// What a line adds is noted, or there is no room for it: the line's fault, and what is noted and counted all the same.
+pub type Told = Result<Tally, (LineFault, Tally)>;

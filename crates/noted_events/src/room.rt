@@ -10,31 +10,22 @@ use records::{
     MOST_WAVEFORMS,
 };
 
-fn lesser(a: usize, b: usize) -> usize
-    ensures { result ≡ min a b }
-{
-    if a < b {
-        return a;
-    }
-    b
-}
-
 pub fn bound_of(l: Lengths, k: Kind) -> usize
     ensures { result ≡ bound l k }
 {
     match k {
-        Kind::OfComponent => lesser(MOST_COMPONENTS, l.components),
-        Kind::OfPin => lesser(MOST_PINS, l.pins),
-        Kind::OfSelector => lesser(MOST_SELECTORS, l.selectors),
-        Kind::OfChoice => lesser(MOST_CHOICES, l.choices),
-        Kind::OfModel => lesser(MOST_MODELS, l.models),
+        Kind::OfComponent => MOST_COMPONENTS.min(l.components),
+        Kind::OfPin => MOST_PINS.min(l.pins),
+        Kind::OfSelector => MOST_SELECTORS.min(l.selectors),
+        Kind::OfChoice => MOST_CHOICES.min(l.choices),
+        Kind::OfModel => MOST_MODELS.min(l.models),
     }
 }
 
 pub fn waveform_bound(l: Lengths) -> usize
     ensures { result ≡ min most_waveforms l.waveforms }
 {
-    lesser(MOST_WAVEFORMS, l.waveforms)
+    MOST_WAVEFORMS.min(l.waveforms)
 }
 
 pub fn used_of(c: Counts, k: Kind) -> usize
@@ -56,27 +47,13 @@ pub fn one_more(c: Counts, k: Kind) -> Counts
 {
     let mut d = c;
     match k {
-        Kind::OfComponent => {
-            d.components = c.components + 1;
-            d
-        }
-        Kind::OfPin => {
-            d.pins = c.pins + 1;
-            d
-        }
-        Kind::OfSelector => {
-            d.selectors = c.selectors + 1;
-            d
-        }
-        Kind::OfChoice => {
-            d.choices = c.choices + 1;
-            d
-        }
-        Kind::OfModel => {
-            d.models = c.models + 1;
-            d
-        }
+        Kind::OfComponent => d.components += 1,
+        Kind::OfPin => d.pins += 1,
+        Kind::OfSelector => d.selectors += 1,
+        Kind::OfChoice => d.choices += 1,
+        Kind::OfModel => d.models += 1,
     }
+    d
 }
 
 // Nothing is noted yet.

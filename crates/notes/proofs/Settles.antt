@@ -1,9 +1,9 @@
 -- Names may be compared when the lines are read up to the first fault: a name used twice stands on an earlier line, or comes first on the same.
+use Rattle.std.specs.Prelude.{None, Some, Err, Ok}
 use Prim.Native.Nat.{ℕ, ◌+◌, min}
 use mathlib.Core.Path.{◌≡◌, refl, sym, ap, ◌∙◌}
 use mathlib.Core.List.{List, [], ◌∷◌, map}
 use mathlib.Core.Bool.{true, false, cond}
-use mathlib.Core.Option.{none, some}
 use lib.Dec.{eqb, leb}
 use Rattle.laws.proofs.Tests.{by-test}
 use Rattle.keywords.specs.declared.Section.TheVariants.{Component, Selector, Model}
@@ -18,8 +18,7 @@ use Rattle.records.specs.declared.Lengths.{Lengths}
 use Rattle.rules.specs.declared.Stage.{Stage}
 use Rattle.rules.specs.declared.Event.{Event}
 use Rattle.rules.specs.declared.Event.TheVariants.{Quiet, Opened, PinRow, ChoiceRow, WaveformOpened, TableRow, Ended}
-use Rattle.rules.specs.declared.Went.{Went}
-use Rattle.rules.specs.declared.Went.TheVariants.{On, Stop}
+use Rattle.rules.specs.Going.{Went}
 use Rattle.records.specs.declared.Counts.{Counts}
 use Rattle.notes.specs.Noted.{used, one_more, more_waveforms, more_rows, Note, entry_of, Log, held_of, with_note, logged, Finish, out_of_lines, after_logged, after_went, run_log, clash, settled}
 
@@ -88,21 +87,21 @@ row-used c OfModel = refl
 
 -- ---- an earlier clash stays the first
 
-clash-first : (e : Entry) (es : List Entry) (k : ℕ) → clash es ≡ some k → clash (e ∷ es) ≡ some k
+clash-first : (e : Entry) (es : List Entry) (k : ℕ) → clash es ≡ Some k → clash (e ∷ es) ≡ Some k
 unfolding clash
 clash-first e es k h = rw h refl
 
-clash-here : (e : Entry) (es : List Entry) → clash es ≡ none → is_used e.kind e.name es ≡ true → clash (e ∷ es) ≡ some e.line
+clash-here : (e : Entry) (es : List Entry) → clash es ≡ None → is_used e.kind e.name es ≡ true → clash (e ∷ es) ≡ Some e.line
 unfolding clash
 clash-here e es h u = rw h rw u refl
 
-clash-none : (e : Entry) (es : List Entry) → clash es ≡ none → is_used e.kind e.name es ≡ false → clash (e ∷ es) ≡ none
+clash-none : (e : Entry) (es : List Entry) → clash es ≡ None → is_used e.kind e.name es ≡ false → clash (e ∷ es) ≡ None
 unfolding clash
 clash-none e es h u = rw h rw u refl
 
 module _ (l : Lengths) (past : ℕ) where
   abbrev Keeps : Log → Finish → Type 0
-  Keeps g f = (k : ℕ) → clash (entries g) ≡ some k → clash (entries f.log) ≡ some k
+  Keeps g f = (k : ℕ) → clash (entries g) ≡ Some k → clash (entries f.log) ≡ Some k
 
   abbrev KeepsFrom : List Text → Type 0
   KeepsFrom ts = (s : Stage) (g : Log) → Keeps g (run_log l past s g ts)
@@ -129,8 +128,8 @@ module _ (l : Lengths) (past : ℕ) where
   keeps-out s g k h = by-test (is_ended s) (λ u. rw u h) (λ u. rw u h)
 
   keeps-went : (g : Log) (t : Text) (ts : List Text) → KeepsFrom ts → (w : Went) → Keeps g (after_went l g t ts (λ (u : Stage) (h : Log). run_log l past u h ts) w)
-  keeps-went g t ts ih (On u e) = keeps-event g t ts (λ (h : Log). run_log l past u h ts) (ih u) e
-  keeps-went g t ts ih (Stop f) = λ k h. h
+  keeps-went g t ts ih (Ok (u, e)) = keeps-event g t ts (λ (h : Log). run_log l past u h ts) (ih u) e
+  keeps-went g t ts ih (Err f) = λ k h. h
 
   keeps : (ts : List Text) → KeepsFrom ts
   unfolding run_log
@@ -143,7 +142,7 @@ module _ (l : Lengths) (past : ℕ) where
   Settles g o f = o ≡ settled f (clash (entries f.log))
 
   abbrev SettlesFrom : List Text → Type 0
-  SettlesFrom ts = (s : Stage) (g : Log) → Counted g → clash (entries g) ≡ none → Settles g (runs l past s (held_of g) ts) (run_log l past s g ts)
+  SettlesFrom ts = (s : Stage) (g : Log) → Counted g → clash (entries g) ≡ None → Settles g (runs l past s (held_of g) ts) (run_log l past s g ts)
 
   counted-one : (g : Log) (n : Note) → Counted g → (k : Kind) → used (one_more g.counts n.kind) k ≡ count (is k) (entry_of n ∷ entries g)
   unfolding count
@@ -157,8 +156,8 @@ module _ (l : Lengths) (past : ℕ) where
   held_grown g n = rw (more-waveforms g.counts n.kind) refl
 
   settles-note : (g : Log) (n : Note) (go : Held → Outcome) (og : Log → Finish)
-      → ((h : Log) → Keeps h (og h)) → ((h : Log) → Counted h → clash (entries h) ≡ none → Settles h (go (held_of h)) (og h))
-      → Counted g → clash (entries g) ≡ none → Settles g (after_admission n.line go (admit_entry l (held_of g) (entry_of n))) (after_logged og (with_note l g n))
+      → ((h : Log) → Keeps h (og h)) → ((h : Log) → Counted h → clash (entries h) ≡ None → Settles h (go (held_of h)) (og h))
+      → Counted g → clash (entries g) ≡ None → Settles g (after_admission n.line go (admit_entry l (held_of g) (entry_of n))) (after_logged og (with_note l g n))
   unfolding with_note admit_entry
   settles-note g n go og kept ih c none_yet =
       by-test (is_used n.kind n.name (entries g))
@@ -170,8 +169,8 @@ module _ (l : Lengths) (past : ℕ) where
       (λ t. rw u rw (sym (c n.kind)) rw t (ap go (held_grown g n) ∙ ih (grown g n) (counted-one g n c) (clash-none (entry_of n) (entries g) none_yet u))))
 
   settles-event : (g : Log) (t : Text) (ts : List Text) (go : Held → Outcome) (og : Log → Finish)
-      → ((h : Log) → Keeps h (og h)) → ((h : Log) → Counted h → clash (entries h) ≡ none → Settles h (go (held_of h)) (og h))
-      → Counted g → clash (entries g) ≡ none → (e : Event) → Settles g (after_admission (line_of t) go (admit l (held_of g) (line_of t) (text_of t) e)) (after_logged og (logged l g t ts e))
+      → ((h : Log) → Keeps h (og h)) → ((h : Log) → Counted h → clash (entries h) ≡ None → Settles h (go (held_of h)) (og h))
+      → Counted g → clash (entries g) ≡ None → (e : Event) → Settles g (after_admission (line_of t) go (admit l (held_of g) (line_of t) (text_of t) e)) (after_logged og (logged l g t ts e))
   settles-event g t ts go og kept ih c n Quiet = ih g c n
   settles-event g t ts go og kept ih c n (Opened Component) = settles-note g _ go og kept ih c n
   settles-event g t ts go og kept ih c n (Opened Selector) = settles-note g _ go og kept ih c n
@@ -187,15 +186,15 @@ module _ (l : Lengths) (past : ℕ) where
       by-test (eqb g.counts.components 0) (λ u. rw (sym (c OfComponent)) rw u rw n refl)
       (λ u. by-test (eqb f.number 0) (λ v. rw (sym (c OfComponent)) rw (u, v) (ih g c n)) (λ v. rw (sym (c OfComponent)) rw (u, v) rw n refl))
 
-  settles-out : (s : Stage) (g : Log) → clash (entries g) ≡ none
+  settles-out : (s : Stage) (g : Log) → clash (entries g) ≡ None
       → Settles g (cond (is_ended s) (passed (held_of g)) (refused 19 past 0)) (out_of_lines past g s)
   settles-out s g n = by-test (is_ended s) (λ u. rw (u, n)) (λ u. rw (u, n))
 
-  settles-went : (g : Log) (t : Text) (ts : List Text) → SettlesFrom ts → Counted g → clash (entries g) ≡ none → (w : Went)
+  settles-went : (g : Log) (t : Text) (ts : List Text) → SettlesFrom ts → Counted g → clash (entries g) ≡ None → (w : Went)
       → Settles g (after_step l (held_of g) t (λ (u : Stage) (h : Held). runs l past u h ts) w) (after_went l g t ts (λ (u : Stage) (h : Log). run_log l past u h ts) w)
-  settles-went g t ts ih c n (On u e) =
+  settles-went g t ts ih c n (Ok (u, e)) =
       settles-event g t ts (λ (h : Held). runs l past u h ts) (λ (h : Log). run_log l past u h ts) (keeps ts u) (ih u) c n e
-  settles-went g t ts ih c n (Stop f) = rw n refl
+  settles-went g t ts ih c n (Err f) = rw n refl
 
   pub settles : (ts : List Text) → SettlesFrom ts
   unfolding run_log runs

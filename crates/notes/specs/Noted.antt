@@ -1,6 +1,5 @@
 -- What is noted of a file while its lines are read: names, where sections and rows stand, and how much of each table is used.
-use Rattle.std.specs.Prelude.{ℕ, ◌+◌, min, List, [], ◌∷◌, map, Bool, true, false, cond, eqb, leb}
-use Rattle.std.proofs.Math.Option.{Option, none, some}
+use Rattle.std.specs.Prelude.{ℕ, ◌+◌, min, List, [], ◌∷◌, map, Bool, true, false, cond, eqb, leb, Option, None, Some, Err, Ok}
 use Rattle.words.specs.Words.{word, words}
 use Rattle.records.specs.Flaws.{bare, at_line}
 use Rattle.records.specs.declared.Fault.{Fault}
@@ -19,8 +18,7 @@ use Rattle.records.specs.declared.Lengths.{Lengths}
 use Rattle.rules.specs.declared.Stage.{Stage}
 use Rattle.rules.specs.declared.Event.{Event}
 use Rattle.rules.specs.declared.Event.TheVariants.{Quiet, Opened, PinRow, ChoiceRow, WaveformOpened, TableRow, Ended}
-use Rattle.rules.specs.declared.Went.{Went}
-use Rattle.rules.specs.declared.Went.TheVariants.{On, Stop}
+use Rattle.rules.specs.Going.{Went}
 use Rattle.records.specs.declared.Counts.{Counts}
 
 -- ---- how much is used
@@ -129,10 +127,10 @@ pub record Finish : Type 0 where
   pub log : Log
 
 abbrev pub whole : Log → Finish
-whole g = record { fault = none; log = g }
+whole g = record { fault = None; log = g }
 
 abbrev pub broken : Fault → Log → Finish
-broken f g = record { fault = some f; log = g }
+broken f g = record { fault = Some f; log = g }
 
 -- "A file that runs out gives 19"
 abbrev pub out_of_lines : ℕ → Log → Stage → Finish
@@ -143,8 +141,8 @@ after_logged go (going g) = go g
 after_logged go (full f k g) = broken (at_line k f) g
 
 abbrev pub after_went : Lengths → Log → Text → List Text → (Stage → Log → Finish) → Went → Finish
-after_went l g t ts go (On s e) = after_logged (go s) (logged l g t ts e)
-after_went l g t ts go (Stop f) = broken f g
+after_went l g t ts go (Ok (s, e)) = after_logged (go s) (logged l g t ts e)
+after_went l g t ts go (Err f) = broken f g
 
 unfoldable pub run_log : Lengths → ℕ → Stage → Log → List Text → Finish
 run_log l past s g [] = out_of_lines past g s
@@ -153,19 +151,19 @@ run_log l past s g (t ∷ ts) = after_went l g t ts (λ (u : Stage) (h : Log). r
 -- ---- names used twice: the line of the first, or none; entries are the latest first
 
 abbrev pub or_used : Entry → Bool → Option ℕ → Option ℕ
-or_used e u (some k) = some k
-or_used e true none = some e.line
-or_used e false none = none
+or_used e u (Some k) = Some k
+or_used e true None = Some e.line
+or_used e false None = None
 
 unfoldable pub clash : List Entry → Option ℕ
-clash [] = none
+clash [] = None
 clash (e ∷ es) = or_used e (is_used e.kind e.name es) (clash es)
 
 -- a name used twice wins over the fault found, which stands at a later line, or at the same line and comes later
 abbrev pub outcome_is : Log → Option Fault → Outcome
-outcome_is g none = passed (held_of g)
-outcome_is g (some f) = refused f.number f.line f.column
+outcome_is g None = passed (held_of g)
+outcome_is g (Some f) = refused f.number f.line f.column
 
 abbrev pub settled : Finish → Option ℕ → Outcome
-settled f (some k) = refused 14 k 0
-settled f none = outcome_is f.log f.fault
+settled f (Some k) = refused 14 k 0
+settled f None = outcome_is f.log f.fault

@@ -10,23 +10,21 @@ ghost use Rattle.questions.specs.Valued.{values_of_pin};
 ghost use Rattle.olhovest.specs.Exported.{place_number, value_words, row_number, row_left};
 
 use decimal::{Cell, word_of};
-use name_table::Found;
 use questions::PinValues;
 use record_words::{ROW_WORDS, TRIPLE_WORDS};
 use records::Row;
-use table_records::StoredRow;
 
 // Past the end of every table.
 const NONE: usize = 18446744073709551615;
 
 const VALUE_WORDS: usize = 3 * TRIPLE_WORDS;
 
-fn place_number(found: Found) -> usize
+fn place_number(found: Option<usize>) -> usize
     ensures { result ≡ place_number found }
 {
     match found {
-        Found::At(k) => k,
-        Found::Nothing => NONE,
+        Some(k) => k,
+        None => NONE,
     }
 }
 
@@ -90,9 +88,13 @@ pub extern "C" fn olhovest_values_of_pin(
 fn row_words(row: Row) -> [u64; ROW_WORDS]
     ensures { result ≡ row_words row }
 {
-    let number = row.number;
     let cells = record_words::tables::triple_words(row.cells);
-    [word_of(Cell::Number(number)), cells[0], cells[1], cells[2]]
+    [
+        word_of(Cell::Number(row.number)),
+        cells[0],
+        cells[1],
+        cells[2],
+    ]
 }
 
 // The row at a place: 1 and its words, or 0 where there is none.
@@ -102,10 +104,10 @@ pub extern "C" fn olhovest_row_at(rows: &[u64], place: usize, row: &mut [u64; RO
     ensures row_after { row.new ≡ row_left (row_from (record_at row_size rows.now place)) row.old }
 {
     match table_records::tables::row_in(rows, place) {
-        StoredRow::Kept(r) => {
+        Some(r) => {
             *row = row_words(r);
             1
         }
-        StoredRow::NoRow => 0,
+        None => 0,
     }
 }

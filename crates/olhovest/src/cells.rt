@@ -10,23 +10,22 @@ ghost use Rattle.olhovest.specs.Exported.{row_number};
 ghost use Rattle.olhovest.specs.Doubles.{double_number, double_left, value_put, values_from, numbers_of, values_left, answers_left};
 
 use decimal::Cell;
-use doubles::{CellDouble, DoubleRead};
+use doubles::CellDouble;
 use record_words::ROW_WORDS;
 use records::Row;
-use table_records::StoredRow;
 
 // The answer for a missing cell: no fault has this number.
 const NOT_GIVEN: u8 = 255;
 
-fn answer_number(answer: DoubleRead) -> u8
+fn answer_number(answer: Result<CellDouble, u8>) -> u8
     ensures { result ≡ double_number answer }
 {
     match answer {
-        DoubleRead::Read(c) => match c {
+        Ok(c) => match c {
             CellDouble::Double(_) => 0,
             CellDouble::Missing => NOT_GIVEN,
         },
-        DoubleRead::Bad(fault) => fault,
+        Err(fault) => fault,
     }
 }
 
@@ -37,30 +36,30 @@ pub extern "C" fn olhovest_double(cell: u64, value: &mut f64) -> u8
     ensures value_after { value.new ≡ double_left (double_of (cell_in cell)) value.old }
 {
     match doubles::double_in(cell) {
-        DoubleRead::Read(c) => match c {
+        Ok(c) => match c {
             CellDouble::Double(x) => {
                 *value = x;
                 0
             }
             CellDouble::Missing => NOT_GIVEN,
         },
-        DoubleRead::Bad(fault) => fault,
+        Err(fault) => fault,
     }
 }
 
 // The double of one cell of a row, at its place there.
-fn put_value(values: &mut [f64; ROW_WORDS], i: usize, answer: DoubleRead)
+fn put_value(values: &mut [f64; ROW_WORDS], i: usize, answer: Result<CellDouble, u8>)
     requires { i < 4 }
     ensures { values.new ≡ value_put answer i values.old }
 {
     match answer {
-        DoubleRead::Read(c) => match c {
+        Ok(c) => match c {
             CellDouble::Double(x) => {
                 values[i] = x;
             }
             CellDouble::Missing => {}
         },
-        DoubleRead::Bad(_) => {}
+        Err(_) => {}
     }
 }
 
@@ -68,15 +67,10 @@ fn put_row(values: &mut [f64; ROW_WORDS], answers: &mut [u8; ROW_WORDS], row: Ro
     ensures values_after { values.new ≡ values_from 0 (row_cells row) values.old }
     ensures answers_after { answers.new ≡ numbers_of (row_cells row) }
 {
-    let first = row.number;
-    let cells = row.cells;
-    let second = cells.typ;
-    let third = cells.min;
-    let fourth = cells.max;
-    let number = doubles::double_of(Cell::Number(first));
-    let typ = doubles::double_of(second);
-    let min = doubles::double_of(third);
-    let max = doubles::double_of(fourth);
+    let number = doubles::double_of(Cell::Number(row.number));
+    let typ = doubles::double_of(row.cells.typ);
+    let min = doubles::double_of(row.cells.min);
+    let max = doubles::double_of(row.cells.max);
     *answers = [
         answer_number(number),
         answer_number(typ),
@@ -102,10 +96,10 @@ pub extern "C" fn olhovest_row_doubles(
     ensures answers_after { answers.new ≡ answers_left (row_from (record_at row_size rows.now place)) answers.old }
 {
     match table_records::tables::row_in(rows, place) {
-        StoredRow::Kept(r) => {
+        Some(r) => {
             put_row(values, answers, r);
             1
         }
-        StoredRow::NoRow => 0,
+        None => 0,
     }
 }

@@ -12,26 +12,6 @@ use records::Lengths;
 pub mod asked; // asked.rt: what is asked of filled tables
 pub mod cells; // cells.rt: cells as doubles
 
-fn lengths_are(
-    components: usize,
-    pins: usize,
-    selectors: usize,
-    choices: usize,
-    models: usize,
-    waveforms: usize,
-) -> Lengths
-    ensures { result ≡ lengths_are components pins selectors choices models waveforms }
-{
-    Lengths {
-        components: components,
-        pins: pins,
-        selectors: selectors,
-        choices: choices,
-        models: models,
-        waveforms: waveforms,
-    }
-}
-
 // The version of the records. A function over records that moved, or that takes something else, has the version that moved it in its name, so that
 // a program compiled for another does not link.
 #[unsafe(no_mangle)]
@@ -56,11 +36,17 @@ pub extern "C" fn olhovest_check_4(
     ensures value { result ≡ fault_number (answer_of (lengths_are components pins selectors choices models waveforms) src.now).verdict }
     ensures answer_after { answer.new ≡ answer_words (answer_of (lengths_are components pins selectors choices models waveforms) src.now) }
 {
-    let l = lengths_are(components, pins, selectors, choices, models, waveforms);
+    let l = Lengths {
+        components: components,
+        pins: pins,
+        selectors: selectors,
+        choices: choices,
+        models: models,
+        waveforms: waveforms,
+    };
     let a = file_answer::check(src, l);
     table_words::put_answer(answer, a);
-    let v = a.verdict;
-    table_words::fault_number(v)
+    table_words::fault_number(a.verdict)
 }
 
 // Reads a file into the lent tables.
@@ -82,6 +68,5 @@ pub extern "C" fn olhovest_read_3(
         src, components, pins, selectors, choices, models, waveforms, rows,
     );
     table_words::put_answer(answer, a);
-    let v = a.verdict;
-    table_words::fault_number(v)
+    table_words::fault_number(a.verdict)
 }

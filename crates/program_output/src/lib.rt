@@ -2,13 +2,16 @@
 // standard output.
 #![tactic(auto)]
 
-ghost use Rattle.std.specs.Prelude.{◌≡◌, length};
-ghost use Rattle.program_output.specs.Kept.{file_buffer, next_place};
+ghost use Rattle.std.specs.Prelude.{◌≡◌};
+ghost use Rattle.text_buffer.specs.Pages.{sheet};
+ghost use Rattle.program_output.specs.Kept.{file_buffer, after_flush};
 
 use records::Fault;
+use text_buffer::Page;
 
 pub mod sections; // sections.rt: where a section's record lies
 pub mod tables; // tables.rt: how long tables are, and the parts of them that are in use
+pub mod walks; // walks.rt: text for one record after another
 
 // The bytes of a file, and one more: a longer file is too long anyhow.
 pub fn file_buffer() -> [u8; 65537]
@@ -17,26 +20,24 @@ pub fn file_buffer() -> [u8; 65537]
     [0; 65537]
 }
 
-// Writes the first n bytes.
-pub fn put_out(out: &[u8], n: usize) {
-    if n <= out.len() {
-        io::write_all(1, &out[0..n]);
-    }
+// Writes out what a page holds.
+pub fn put_out(page: &Page) {
+    io::write_all(1, page.written());
 }
 
-// Writes the first n bytes once they are more than half of the buffer; answers where the next text goes.
-pub fn flushed(out: &[u8], n: usize) -> usize
-    ensures { result ≡ next_place (length out.now) n }
+// Writes out what a page holds once that is more than half of it; the next text then goes to its front.
+pub fn flushed(page: &mut Page)
+    ensures { sheet page.new ≡ after_flush (sheet page.old) }
 {
-    if n <= out.len() / 2 {
-        return n;
+    if page.is_half_full() {
+        put_out(page);
+        page.turn();
     }
-    put_out(out, n);
-    0
 }
 
 pub fn print_refusal(f: Fault) {
     let mut out = io::buffer();
-    let n = text_buffer::refused_line(&mut out, 0, f);
-    put_out(&out, n);
+    let mut page = Page::new(&mut out);
+    text_buffer::refused_line(&mut page, f);
+    put_out(&page);
 }

@@ -4,7 +4,6 @@ ghost use Rattle.record_words.specs.Records.{component_size, selector_size, mode
 ghost use Rattle.program_output.specs.Sections.{with_section};
 
 use crate::tables::records_in;
-use name_table::Found;
 use record_words::{COMPONENT_WORDS, MODEL_WORDS, SELECTOR_WORDS};
 use table_records::values::{number_at, record_at};
 
@@ -18,16 +17,14 @@ pub fn sections_in(components: &[u64], selectors: &[u64], models: &[u64]) -> usi
 }
 
 // The place of the record of section k in a table whose records have `size` words.
-pub fn with_section(table: &[u64], size: usize, k: usize) -> Found
+pub fn with_section(table: &[u64], size: usize, k: usize) -> Option<usize>
     ensures { result ≡ with_section size table.now k }
 {
     let n = records_in(table, size);
-    let mut i = 0;
-    while i < n {
+    for i in 0..n {
         if number_at(record_at(table, size, i), 0) == k as u64 {
-            return Found::At(i);
+            return Some(i);
         }
-        i += 1;
     }
-    Found::Nothing
+    None
 }

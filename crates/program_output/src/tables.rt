@@ -7,7 +7,7 @@ use record_words::{
     WAVEFORM_WORDS,
 };
 use records::{
-    MOST_CHOICES, MOST_COMPONENTS, MOST_MODELS, MOST_PINS, MOST_ROWS, MOST_SELECTORS,
+    Counts, MOST_CHOICES, MOST_COMPONENTS, MOST_MODELS, MOST_PINS, MOST_ROWS, MOST_SELECTORS,
     MOST_WAVEFORMS, Span,
 };
 
@@ -27,6 +27,35 @@ pub const WAVEFORM_TABLE: usize = MOST_WAVEFORMS * WAVEFORM_WORDS;
 
 // As many rows as loading asks for.
 pub const ROW_TABLE: usize = MOST_ROWS * ROW_WORDS;
+
+// ---- tables that were read
+
+// Their words, table by table. What stands behind the records in use says nothing.
+#[derive(Clone, Copy)]
+pub struct Tables<'a> {
+    pub components: &'a [u64],
+    pub pins: &'a [u64],
+    pub selectors: &'a [u64],
+    pub choices: &'a [u64],
+    pub models: &'a [u64],
+    pub waveforms: &'a [u64],
+    pub rows: &'a [u64],
+}
+
+impl<'a> Tables<'a> {
+    // The records in use alone; of rows all, since spans tell which are.
+    pub fn in_use(self, counts: Counts) -> Tables<'a> {
+        Tables {
+            components: used(self.components, COMPONENT_WORDS, counts.components),
+            pins: used(self.pins, PIN_WORDS, counts.pins),
+            selectors: used(self.selectors, SELECTOR_WORDS, counts.selectors),
+            choices: used(self.choices, CHOICE_WORDS, counts.choices),
+            models: used(self.models, MODEL_WORDS, counts.models),
+            waveforms: used(self.waveforms, WAVEFORM_WORDS, counts.waveforms),
+            rows: self.rows,
+        }
+    }
+}
 
 // ---- parts of tables: a record has `size` words
 

@@ -1,4 +1,5 @@
 -- Laws of what is asked: a name's bytes, places of a span, and a search from the top.
+use Rattle.std.specs.Prelude.{Some, None}
 use Prim.Native.Nat.{ℕ, suc, ◌+◌, ◌-◌, ◌<◌, ◌≤◌, min}
 use mathlib.Core.Path.{◌≡◌, refl, sym, ap, ◌∙◌}
 use mathlib.Core.List.{List}
@@ -11,7 +12,6 @@ use Rattle.laws.proofs.Tests.{by_order}
 use Rattle.laws.specs.Eights.{bytes_from}
 use Rattle.laws.specs.Lists.{eqs}
 use Rattle.laws.proofs.Same.{eqs-apart}
-use Rattle.name_table.specs.declared.Found.TheVariants.{At, Nothing}
 use Rattle.table_records.specs.Records.{name_from}
 use Rattle.laws.proofs.Eights.{bytes-length, bytes_take}
 use Rattle.questions.specs.Named.{name_bytes, is_named}
@@ -42,19 +42,19 @@ module _ (test : ℕ → Bool) (from n : ℕ) where
   pub seeks-first : Seeks 0
   seeks-first = let e : from + 0 ≡ from = omega arith in let f : n - 0 ≡ n = omega arith in rw (e, f) refl
 
-  here : (i : ℕ) → i < n → first_place test (from + i) (n - i) ≡ cond (test (from + i)) (At (from + i)) (first_place test (from + (i + 1)) (n - (i + 1)))
+  here : (i : ℕ) → i < n → first_place test (from + i) (n - i) ≡ cond (test (from + i)) (Some (from + i)) (first_place test (from + (i + 1)) (n - (i + 1)))
   unfolding first_place
   here i h =
       let e : n - i ≡ suc (n - (i + 1)) = omega arith in
       let f : from + i + 1 ≡ from + (i + 1) = omega arith in
-      ap (first_place test (from + i)) e ∙ ap (λ (k : ℕ). cond (test (from + i)) (At (from + i)) (first_place test k (n - (i + 1)))) f
+      ap (first_place test (from + i)) e ∙ ap (λ (k : ℕ). cond (test (from + i)) (Some (from + i)) (first_place test k (n - (i + 1)))) f
 
-  pub seeks-found : (i : ℕ) → i < n → Seeks i → test (from + i) ≡ true → At (from + i) ≡ first_place test from n
+  pub seeks-found : (i : ℕ) → i < n → Seeks i → test (from + i) ≡ true → Some (from + i) ≡ first_place test from n
   seeks-found i h inv t = sym (here i h ∙ rw t refl) ∙ inv
 
   pub seeks-next : (i : ℕ) → i < n → Seeks i → test (from + i) ≡ false → Seeks (i + 1)
   seeks-next i h inv t = sym (here i h ∙ rw t refl) ∙ inv
 
-  pub seeks-none : (i : ℕ) → n ≤ i → Seeks i → Nothing ≡ first_place test from n
+  pub seeks-none : (i : ℕ) → n ≤ i → Seeks i → None ≡ first_place test from n
   unfolding first_place
   seeks-none i h inv = let e : n - i ≡ 0 = omega arith in sym (ap (first_place test (from + i)) e) ∙ inv

@@ -1,7 +1,7 @@
 -- Names as texts, and whether two are the same.
 use Rattle.std.specs.Prelude.{ℕ, List, Bool, take}
 use Rattle.laws.specs.Lists.{eqs}
-use Rattle.records.specs.declared.Name.{Name}
+use Rattle.records.specs.Texts.{Name}
 
 -- the bytes that a name holds: a length past its bytes takes all of them
 unfoldable pub name_bytes : Name → List ℕ

@@ -1,9 +1,7 @@
 -- A pin's resistance, inductance and capacitance: "A missing cell means the package value".
-use Rattle.std.specs.Prelude.{ℕ, List, []}
+use Rattle.std.specs.Prelude.{ℕ, List, [], Option, Some, None}
 use Rattle.decimal.specs.declared.Cell.{Cell}
 use Rattle.decimal.specs.declared.Cell.TheVariants.{Number, Missing}
-use Rattle.name_table.specs.declared.Found.{Found}
-use Rattle.name_table.specs.declared.Found.TheVariants.{At, Nothing}
 use Rattle.records.specs.declared.Triple.{Triple}
 use Rattle.records.specs.declared.Component.{Component}
 use Rattle.records.specs.declared.Pin.{Pin}
@@ -21,9 +19,9 @@ values_of p c =
     record { resistance = or_package p.resistance c.resistance; inductance = or_package p.inductance c.inductance; capacitance = or_package p.capacitance c.capacitance }
 
 -- the component found; where there is none, one whose cells are all missing
-abbrev pub package_of : List ℕ → Found → Component
-package_of components (At k) = component_there components k
-package_of components Nothing = component_from []
+abbrev pub package_of : List ℕ → Option ℕ → Component
+package_of components (Some k) = component_there components k
+package_of components None = component_from []
 
 unfoldable pub values_of_pin : List ℕ → List ℕ → ℕ → PinValues
 values_of_pin components pins k = values_of (pin_there pins k) (package_of components (component_with components k))

@@ -6,7 +6,6 @@ ghost use Rattle.questions.specs.Chosen.{first_choice, name_for, model_for, mode
 
 use crate::names::{first_bytes, needs_no_model};
 use crate::searches::{model_named, selector_named};
-use name_table::Found;
 use record_words::PIN_WORDS;
 use records::{Name, Pin, Span};
 
@@ -19,13 +18,13 @@ fn first_choice(choices: &[u64], rows: Span) -> Name
     table_records::tables::choice_in(choices, rows.start).model
 }
 
-fn selector_of(selectors: &[u64], name: Name) -> Found
+fn selector_of(selectors: &[u64], name: Name) -> Option<usize>
     ensures { result ≡ selector_named selectors.now (name_bytes name) }
 {
     selector_named(selectors, first_bytes(&name.bytes, name.len))
 }
 
-fn model_of(models: &[u64], name: Name) -> Found
+fn model_of(models: &[u64], name: Name) -> Option<usize>
     ensures { result ≡ model_named models.now (name_bytes name) }
 {
     model_named(models, first_bytes(&name.bytes, name.len))
@@ -36,20 +35,20 @@ pub fn name_for(selectors: &[u64], choices: &[u64], p: Pin) -> Name
     ensures { result ≡ name_for selectors.now choices.now p }
 {
     match selector_of(selectors, p.model) {
-        Found::At(k) => first_choice(
+        Some(k) => first_choice(
             choices,
             table_records::tables::selector_in(selectors, k).choices,
         ),
-        Found::Nothing => p.model,
+        None => p.model,
     }
 }
 
 // The place of the model chosen for a pin.
-pub fn model_for(selectors: &[u64], choices: &[u64], models: &[u64], p: Pin) -> Found
+pub fn model_for(selectors: &[u64], choices: &[u64], models: &[u64], p: Pin) -> Option<usize>
     ensures { result ≡ model_for selectors.now choices.now models.now p }
 {
     if needs_no_model(p.model) {
-        return Found::Nothing;
+        return None;
     }
     model_of(models, name_for(selectors, choices, p))
 }
@@ -61,7 +60,7 @@ pub fn model_of_pin(
     choices: &[u64],
     models: &[u64],
     k: usize,
-) -> Found
+) -> Option<usize>
     ensures { result ≡ model_of_pin pins.now selectors.now choices.now models.now k }
 {
     if k < pins.len() / PIN_WORDS {
@@ -72,5 +71,5 @@ pub fn model_of_pin(
             table_records::tables::pin_in(pins, k),
         );
     }
-    Found::Nothing
+    None
 }

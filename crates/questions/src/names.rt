@@ -10,12 +10,7 @@ use records::Name;
 pub(crate) fn first_bytes(bytes: &[u8], n: u8) -> &[u8]
     ensures { result.now ≡ take n bytes.now }
 {
-    let most = bytes.len();
-    let len = n as usize;
-    if most < len {
-        return &bytes[..most];
-    }
-    &bytes[..len]
+    &bytes[..bytes.len().min(n as usize)]
 }
 
 // Whether a name is made of exactly these bytes.
@@ -43,11 +38,7 @@ pub(crate) fn needs_no_model(name: Name) -> bool
 fn name_length(words: &[u64]) -> usize
     ensures { result ≡ min (get_or words.now 5 0) 40 }
 {
-    let held = table_records::values::number_at(words, 5);
-    if 40 < held {
-        return 40;
-    }
-    held as usize
+    table_records::values::number_at(words, 5).min(40) as usize
 }
 
 // Whether the name in these words is made of exactly these bytes. Most names differ in length already.
@@ -57,12 +48,10 @@ pub(crate) fn has_name(words: &[u64], name: &[u8]) -> bool
     if name_length(words) != name.len() {
         return false;
     }
-    let mut i = 0;
-    while i < name.len() {
-        if table_records::values::byte_in(words, i) != name[i] {
+    for (i, b) in name.iter().enumerate() {
+        if table_records::values::byte_in(words, i) != *b {
             return false;
         }
-        i += 1;
     }
     true
 }

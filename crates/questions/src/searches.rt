@@ -6,49 +6,46 @@ ghost use Rattle.questions.specs.Named.{is_named};
 ghost use Rattle.questions.specs.Searched.{first_place, places_in, in_span, pin_named, model_named, selector_named, component_with};
 
 use crate::names::has_name;
-use name_table::Found;
 use record_words::{COMPONENT_WORDS, MODEL_WORDS, PIN_WORDS, SELECTOR_WORDS};
 use records::Span;
 
 // The first of n records from a place on whose name, at a word of theirs, is made of these bytes.
-fn first_named(table: &[u64], size: usize, word: usize, from: usize, n: usize, name: &[u8]) -> Found
+fn first_named(
+    table: &[u64],
+    size: usize,
+    word: usize,
+    from: usize,
+    n: usize,
+    name: &[u8],
+) -> Option<usize>
     requires { n ≤ length table.now / size - from }
     ensures { result ≡ first_place (λ k. is_named (name_from (drop word (record_at size table.now k))) name.now) from n }
 {
-    let mut i = 0;
-    while i < n {
+    for i in 0..n {
         let words = table_records::values::record_at(table, size, from + i);
         if has_name(table_records::values::words_from(words, word), name) {
-            return Found::At(from + i);
+            return Some(from + i);
         }
-        i += 1;
     }
-    Found::Nothing
+    None
 }
 
 // How many places of a span are there in a table of n records.
 fn places_in(s: Span, n: usize) -> usize
     ensures { result ≡ places_in s n }
 {
-    if n < s.start {
-        return 0;
-    }
-    let left = n - s.start;
-    if s.count < left { s.count } else { left }
+    s.count.min(n.saturating_sub(s.start))
 }
 
 // Whether place k is one of a span's.
 pub fn in_span(s: Span, k: usize) -> bool
     ensures { result ≡ in_span s k }
 {
-    if k < s.start {
-        return false;
-    }
-    k - s.start < s.count
+    s.start <= k && k - s.start < s.count
 }
 
 // The pin of that name in a component.
-pub fn pin_named(components: &[u64], pins: &[u64], component: usize, name: &[u8]) -> Found
+pub fn pin_named(components: &[u64], pins: &[u64], component: usize, name: &[u8]) -> Option<usize>
     ensures { result ≡ pin_named components.now pins.now component name.now }
 {
     let s = table_records::tables::component_in(components, component).pins;
@@ -57,14 +54,14 @@ pub fn pin_named(components: &[u64], pins: &[u64], component: usize, name: &[u8]
 }
 
 // The model of that name.
-pub fn model_named(models: &[u64], name: &[u8]) -> Found
+pub fn model_named(models: &[u64], name: &[u8]) -> Option<usize>
     ensures { result ≡ model_named models.now name.now }
 {
     first_named(models, MODEL_WORDS, 1, 0, models.len() / MODEL_WORDS, name)
 }
 
 // The selector of that name.
-pub fn selector_named(selectors: &[u64], name: &[u8]) -> Found
+pub fn selector_named(selectors: &[u64], name: &[u8]) -> Option<usize>
     ensures { result ≡ selector_named selectors.now name.now }
 {
     first_named(
@@ -78,16 +75,13 @@ pub fn selector_named(selectors: &[u64], name: &[u8]) -> Found
 }
 
 // The component that has the pin at a place.
-pub fn component_with(components: &[u64], pin: usize) -> Found
+pub fn component_with(components: &[u64], pin: usize) -> Option<usize>
     ensures { result ≡ component_with components.now pin }
 {
-    let n = components.len() / COMPONENT_WORDS;
-    let mut i = 0;
-    while i < n {
-        if in_span(table_records::tables::component_in(components, i).pins, pin) {
-            return Found::At(i);
+    for k in 0..components.len() / COMPONENT_WORDS {
+        if in_span(table_records::tables::component_in(components, k).pins, pin) {
+            return Some(k);
         }
-        i += 1;
     }
-    Found::Nothing
+    None
 }

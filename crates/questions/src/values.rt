@@ -5,7 +5,6 @@ ghost use Rattle.questions.specs.Valued.{or_package, values_of, package_of, valu
 use crate::PinValues;
 use crate::searches::component_with;
 use decimal::Cell;
-use name_table::Found;
 use records::{Component, Pin, Triple};
 
 // A pin's own value stands for typ, min and max alike; a missing one means the package's three.
@@ -35,12 +34,12 @@ fn values_of(p: Pin, c: Component) -> PinValues
     }
 }
 
-fn package_of(components: &[u64], found: Found) -> Component
+fn package_of(components: &[u64], found: Option<usize>) -> Component
     ensures { result ≡ package_of components.now found }
 {
     match found {
-        Found::At(k) => table_records::tables::component_in(components, k),
-        Found::Nothing => table_records::tables::component_in(components, components.len()),
+        Some(k) => table_records::tables::component_in(components, k),
+        None => table_records::tables::component_in(components, components.len()),
     }
 }
 

@@ -3,4 +3,3 @@ pub mod Tables
 pub mod Making
 pub mod Laws
 pub mod Strength
-pub mod Answered

@@ -1,22 +1,19 @@
 -- The models, their waveforms and their rows as they are made one after the other: what each turn keeps, and what is left at the end.
+use Rattle.std.specs.Prelude.{Some, None, is_some}
 use Prim.Native.Nat.{ℕ, suc, ◌≤◌, ◌<◌}
 use mathlib.Core.Path.{◌≡◌, refl, sym, ap, ◌∙◌}
 use mathlib.Core.List.{List, [], ◌∷◌, ◌++◌}
-use mathlib.Core.Bool.{Bool, true, false, not}
+use mathlib.Core.Bool.{true}
 use native.Mathlib.Omega.{arith}
-use lib.Dec.{T as Holds}
 use lib.ListN.{length, set, length-append}
 use Rattle.laws.proofs.Tests.{by-test, impossible}
 use Rattle.table_walks.specs.Filled.{filled_to}
-use Rattle.table_walks.proofs.Elem.{Data, Elem, of_struct, struct-elem}
 use Rattle.table_walks.proofs.Filled.{length-filled}
-use Rattle.table_walks.proofs.Makes.{Makes}
 use Rattle.records.specs.Stored.{stored, over}
 use Rattle.records.specs.declared.Kind.TheVariants.{OfModel}
 use Rattle.records.specs.declared.Counts.{Counts}
 use Rattle.records.specs.declared.Model.{Model}
 use Rattle.records.specs.declared.Waveform.{Waveform}
-use Rattle.walked_records.proofs.Tables as R
 use Rattle.cut_lines.specs.Texts.{Text}
 use Rattle.rules.specs.Reading.{tables_in}
 use Rattle.layout.specs.Laid.{waveforms_laid}
@@ -32,24 +29,8 @@ use Rattle.from_notes.specs.Models.{none_made, model_from, Partly, Reached, Soun
 use Rattle.from_notes.specs.declared.Progress.{Progress}
 use Rattle.from_notes.proofs.Joined.{joined-rise}
 use Rattle.from_notes.proofs.Steps.{not_so}
-use Rattle.from_notes.specs.contracts.Progress as P
-use Rattle.from_notes.proofs.Progress.TheLaws as P'
 use Rattle.reader.specs.Filling.{ModelsFit, ModelsFilled}
 use Rattle.reader.proofs.Tables.{over-put}
-
-abbrev pub progress : Data
-progress = of_struct P.the_type P'.the_laws
-
-pub progress-elem : Elem progress
-progress-elem = struct-elem P.the_type P'.the_laws P'.the_copy P'.the_plain
-
-is_true : (b : Bool) → Holds b → b ≡ true
-is_true true h = refl
-is_true false h = absurd h
-
-is_false : (b : Bool) → Holds (not b) → b ≡ false
-is_false true h = absurd h
-is_false false h = refl
 
 -- part of a model: what is made so far is no longer than with all of it
 module _ {s ns : List ℕ} {k : ℕ} {f : FirstLines} {b : Body} {ts : List Text} {waves : List Waveform} {rowed : List ℕ} (p : Partly s ns k f b ts waves rowed) where
@@ -67,7 +48,7 @@ pub record Made (s ns : List ℕ) (o : Counts) (ms : List Model) (ws : List Wave
   pub rowed : List ℕ
   pub reached : Reached s ns p i waves rowed
   pub sound : Sound s p
-  pub going : p.taken.found ≡ true → i < o.models
+  pub going : is_some p.taken.waveform ≡ true → i < o.models
   pub within : i ≤ o.models
   pub counted : k ≡ length waves
   pub models : ms' ≡ filled_to (λ n. model_at s ns n) i ms
@@ -109,13 +90,13 @@ module _ (s ns : List ℕ) (o : Counts) (ms : List Model) (ws : List Waveform) (
   -- what is made so far is of the models up to this one
   waves-small : length g.waves ≤ length (waved (suc i))
   waves-small =
-      by-test p.taken.found
+      by-test (is_some p.taken.waveform)
       (λ q. partly-waves (g.reached.0 q))
       (λ q. omega (arith, ap length (g.reached.1 q).waveforms, waved-rise i (suc i) (omega arith)))
 
   rowed-small : length g.rowed ≤ length (stores (suc i))
   rowed-small =
-      by-test p.taken.found
+      by-test (is_some p.taken.waveform)
       (λ q. partly-rows (g.reached.0 q))
       (λ q. omega (arith, ap length (g.reached.1 q).rows, stores-rise i (suc i) (omega arith)))
 
@@ -144,11 +125,9 @@ module _ (s ns : List ℕ) (o : Counts) (ms : List Model) (ws : List Waveform) (
       goes : Goes s ns i g.waves g.rowed rs rs'' r
       goes = t g.waves g.rowed rs g.reached g.rows rows-room
 
-      pub seconds : Holds r.taken.found → (k < length ws') × ((k < length (waved o.models)) × Made s ns o ms ws rs i (suc k) r ms' (set ws' k r.taken.waveform) rs'')
-      seconds holds =
-          let q = is_true r.taken.found holds in
-          let x = r.taken.waveform in
-          let more : suc (length g.waves) ≤ length (waved (suc i)) = omega (arith, partly-waves ((goes.waveform q).0 q), length-append g.waves (x ∷ [])) in
+      pub seconds : (x : Waveform) → r.taken.waveform ≡ Some x → (k < length ws') × ((k < length (waved o.models)) × Made s ns o ms ws rs i (suc k) r ms' (set ws' k x) rs'')
+      seconds x q =
+          let more : suc (length g.waves) ≤ length (waved (suc i)) = omega (arith, partly-waves ((goes.waveform x q).0 (ap is_some q)), length-append g.waves (x ∷ [])) in
           let room : length g.waves < length ws = omega (arith, more, waves-room, g.fit.waveforms) in (
             omega (arith, room, g.counted, ap length g.waveforms, over-length ws g.waves (omega (arith, room))),
             (
@@ -157,7 +136,7 @@ module _ (s ns : List ℕ) (o : Counts) (ms : List Model) (ws : List Waveform) (
                 fit = g.fit;
                 waves = g.waves ++ (x ∷ []);
                 rowed = g.rowed ++ goes.written;
-                reached = goes.waveform q;
+                reached = goes.waveform x q;
                 sound = goes.sound;
                 going = λ _. h;
                 within = g.within;
@@ -169,29 +148,28 @@ module _ (s ns : List ℕ) (o : Counts) (ms : List Model) (ws : List Waveform) (
             ),
           )
 
-      pub firsts : Holds (not r.taken.found) → (i < length ms') × Made s ns o ms ws rs (suc i) k r (set ms' i (model_from s ns i r.lines r.taken.body)) ws' rs''
-      firsts holds =
-          let q = is_false r.taken.found holds in (
-            omega (arith, h, ap length g.models, length-filled (λ n. model_at s ns n) i ms, g.fit.models),
-            record {
-              fit = g.fit;
-              waves = g.waves;
-              rowed = g.rowed ++ goes.written;
-              reached = goes.model q;
-              sound = goes.sound;
-              going = λ e. impossible (cc);
-              within = omega (arith, h);
-              counted = g.counted;
-              models = rw (goes.made q, g.models);
-              waveforms = g.waveforms;
-              rows = goes.lies;
-            },
-          )
+      pub firsts : r.taken.waveform ≡ None → (i < length ms') × Made s ns o ms ws rs (suc i) k r (set ms' i (model_from s ns i r.lines r.taken.body)) ws' rs''
+      firsts q = (
+        omega (arith, h, ap length g.models, length-filled (λ n. model_at s ns n) i ms, g.fit.models),
+        record {
+          fit = g.fit;
+          waves = g.waves;
+          rowed = g.rowed ++ goes.written;
+          reached = goes.model q;
+          sound = goes.sound;
+          going = λ e. impossible (cc (sym (ap is_some q) ∙ e));
+          within = omega (arith, h);
+          counted = g.counted;
+          models = rw (goes.made q, g.models);
+          waveforms = g.waveforms;
+          rows = goes.lies;
+        },
+      )
 
   pub ends : o.models ≤ i → ModelsFilled s ns o ms ws rs ms' ws' rs'
   ends over' =
       let e : i ≡ o.models = omega (arith, over', g.within) in
-      by-test p.taken.found
+      by-test (is_some p.taken.waveform)
       (λ q. absurd (omega (arith, g.going q, over')))
       (λ q.
       record {
@@ -199,27 +177,3 @@ module _ (s ns : List ℕ) (o : Counts) (ms : List Model) (ws : List Waveform) (
         waveforms = g.waveforms ∙ ap (over ws) ((g.reached.1 q).waveforms ∙ ap waved e);
         rows = g.rows.store ∙ ap (over rs) ((g.reached.1 q).rows ∙ ap stores e);
       })
-
-abbrev pub making : Makes R.models R.waveforms R.rows progress R.counts
-making =
-    record {
-      many = λ (o : Counts). o.models;
-      start = none_made;
-      is_second = λ (p : Progress). p.taken.found;
-      second = λ (p : Progress). p.taken.waveform;
-      first = λ (s ns : List ℕ) (p : Progress) (k : ℕ). model_from s ns k p.lines p.taken.body;
-      wants = λ (s ns : List ℕ) (p : Progress) (k : ℕ) (rs : List ℕ). Ready s ns p k rs;
-      tells =
-          λ (s ns : List ℕ) (p : Progress) (k : ℕ) (rs : List ℕ) (r : Progress) (rs' : List ℕ).
-          ((waves : List Waveform) (rowed store : List ℕ) → Reached s ns p k waves rowed → Lies store rs p.words rowed → length (stored (rows_at s ns (suc k))) ≤ length store → Goes s ns k waves rowed store rs' r);
-      asks = ModelsFit;
-      Left = ModelsFilled;
-      total = λ (s ns : List ℕ) (o : Counts). length (waveforms_at s ns o.models);
-      Goes = Made;
-      begins = begins;
-      below = below;
-      ready = ready;
-      seconds = seconds;
-      firsts = firsts;
-      ends = ends;
-    }

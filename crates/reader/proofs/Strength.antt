@@ -1,4 +1,5 @@
 -- The promise leaves one answer and one content of the lent tables, since both are given by an equation.
+use Rattle.std.specs.Prelude.{Ok, Err}
 use Prim.Native.Nat.{ℕ, ◌<◌}
 use mathlib.Core.Path.{◌≡◌, sym, ap, ◌∙◌}
 use mathlib.Core.List.{List, ◌++◌}
@@ -11,7 +12,6 @@ use Rattle.records.specs.Stored.{over}
 use Rattle.rules.specs.Whole.{Held, passed, refused, loading, texts_of}
 use Rattle.file_answer.specs.Answered.{answer_for, answer_in}
 use Rattle.records.specs.declared.Answer.{Answer}
-use Rattle.records.specs.declared.Verdict.TheVariants.{Accepted, Refused}
 use Rattle.reader.specs.Promise.{Lent, lending_in, left, Reads}
 
 pub one_answer : (s : List ℕ) (t : Lent) (r p : Answer) (u v : Lent) → Reads s t r u → Reads s t p v → r ≡ p
@@ -27,7 +27,7 @@ module _ (s : List ℕ) (t : Lent) (r : Answer) (u : Lent) (reads : Reads s t r 
 
   -- a file with a fault is refused, with that fault, and nothing is written
   module _ (n k c : ℕ) (is : loading (lending_in t) s ≡ refused n k c) where
-    pub refuses-it : r.verdict ≡ Refused (record { number = n; line = k; column = c })
+    pub refuses-it : r.verdict ≡ Err (record { number = n; line = k; column = c })
     unfolding answer_in
     refuses-it = ap (λ (a : Answer). a.verdict) (reads.answer ∙ ap (answer_for (file_in (texts_of s))) is)
 
@@ -36,7 +36,7 @@ module _ (s : List ℕ) (t : Lent) (r : Answer) (u : Lent) (reads : Reads s t r 
 
   -- where fewer rows are lent than a file can have, 25 is told whatever the file is, and nothing is written
   module _ (few : (lending_in t).rows < most_rows) where
-    pub refuses-any : r.verdict ≡ Refused (record { number = 25; line = 0; column = 0 })
+    pub refuses-any : r.verdict ≡ Err (record { number = 25; line = 0; column = 0 })
     refuses-any = refuses-it 25 0 0 (loaded-few (lending_in t) s few)
 
     pub leaves-any : u ≡ t
@@ -44,7 +44,7 @@ module _ (s : List ℕ) (t : Lent) (r : Answer) (u : Lent) (reads : Reads s t r 
 
   -- a file without a fault is accepted, as many of each are counted as the file has, and every model of the file lies in its table
   module _ (h : Held) (is : loading (lending_in t) s ≡ passed h) where
-    pub accepts-it : r.verdict ≡ Accepted
+    pub accepts-it : r.verdict ≡ Ok tt
     unfolding answer_in
     accepts-it = ap (λ (a : Answer). a.verdict) (reads.answer ∙ ap (answer_for (file_in (texts_of s))) is)
 

@@ -1,5 +1,5 @@
 -- Records as words, in the order of their fields.
-use Rattle.std.specs.Prelude.{ℕ, List, [], ◌∷◌, ◌++◌}
+use Rattle.std.specs.Prelude.{ℕ, zero, suc, ◌*◌, ◌/◌, List, [], ◌∷◌, ◌++◌}
 use Rattle.decimal.specs.Decimal.{word_of}
 use Rattle.records.specs.Types.{type_number}
 use Rattle.records.specs.declared.Triple.{Triple}
@@ -8,8 +8,8 @@ use Rattle.records.specs.declared.RampTable.{RampTable}
 use Rattle.records.specs.declared.Range.{Range}
 use Rattle.records.specs.declared.Span.{Span}
 use Rattle.records.specs.declared.Table.{Table}
-use Rattle.records.specs.declared.Name.{Name}
-use Rattle.records.specs.declared.Words.{Words}
+use Rattle.records.specs.declared.Text.{Text}
+use Rattle.records.specs.Texts.{Name, Words}
 use Rattle.records.specs.declared.Component.{Component}
 use Rattle.records.specs.declared.Pin.{Pin}
 use Rattle.records.specs.declared.Selector.{Selector}
@@ -19,6 +19,15 @@ use Rattle.records.specs.declared.Waveform.{Waveform}
 use Rattle.record_words.specs.Values.{eight_at, flag_number, location_number, polarity_number, enable_number, edge_number, dividend_word, divisor_word}
 
 -- ---- parts of records
+
+-- the words of the first n eights of bytes
+unfoldable pub eights : List ℕ → ℕ → List ℕ
+eights b zero = []
+eights b (suc n) = eights b n ++ (eight_at b (8 * n) ∷ [])
+
+-- n bytes, eight to a word, and their count
+unfoldable pub laid_words : (n : ℕ) → Text n → List ℕ
+laid_words n t = eights t.bytes (n / 8) ++ (t.len ∷ [])
 
 -- 40 bytes and their count
 abbrev pub name_words : Name → List ℕ

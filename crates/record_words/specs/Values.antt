@@ -1,5 +1,5 @@
 -- Values as words: bytes eight to a word, cells, and a number for each case of an enum.
-use Rattle.std.specs.Prelude.{ℕ, ◌+◌, ◌*◌, Bool, true, false, List, [], ◌∷◌, get_or}
+use Rattle.std.specs.Prelude.{ℕ, ◌+◌, ◌*◌, Bool, true, false, List, get_or, Some, None, Option}
 use Rattle.decimal.specs.Decimal.{word_of}
 use Rattle.decimal.specs.declared.Cell.TheVariants.{Number, Missing}
 use Rattle.records.specs.declared.Edge.{Edge}
@@ -7,9 +7,9 @@ use Rattle.records.specs.declared.Edge.TheVariants.{Rising, Falling}
 use Rattle.records.specs.declared.Location.{Location}
 use Rattle.records.specs.declared.Location.TheVariants.{AtPin, AtDie}
 use Rattle.records.specs.declared.Polarity.{Polarity}
-use Rattle.records.specs.declared.Polarity.TheVariants.{NoPolarity, Inverting, NonInverting}
+use Rattle.records.specs.declared.Polarity.TheVariants.{Inverting, NonInverting}
 use Rattle.records.specs.declared.Enable.{Enable}
-use Rattle.records.specs.declared.Enable.TheVariants.{NoEnable, ActiveHigh, ActiveLow}
+use Rattle.records.specs.declared.Enable.TheVariants.{ActiveHigh, ActiveLow}
 use Rattle.records.specs.declared.RampCell.{RampCell}
 use Rattle.records.specs.declared.RampCell.TheVariants.{Ratio, Absent}
 
@@ -24,10 +24,6 @@ four_at b i = two_at b i + 65536 * two_at b (i + 2)
 unfoldable pub eight_at : List ℕ → ℕ → ℕ
 eight_at b i = four_at b i + 4294967296 * four_at b (i + 4)
 
-abbrev pub eights_at : List ℕ → ℕ → List ℕ
-eights_at b i =
-    eight_at b i ∷ eight_at b (i + 8) ∷ eight_at b (i + 16) ∷ eight_at b (i + 24) ∷ eight_at b (i + 32) ∷ []
-
 -- ---- a number for each case
 
 abbrev pub flag_number : Bool → ℕ
@@ -38,15 +34,15 @@ abbrev pub location_number : Location → ℕ
 location_number AtPin = 0
 location_number AtDie = 1
 
-abbrev pub polarity_number : Polarity → ℕ
-polarity_number NoPolarity = 0
-polarity_number Inverting = 1
-polarity_number NonInverting = 2
+abbrev pub polarity_number : Option Polarity → ℕ
+polarity_number None = 0
+polarity_number (Some Inverting) = 1
+polarity_number (Some NonInverting) = 2
 
-abbrev pub enable_number : Enable → ℕ
-enable_number NoEnable = 0
-enable_number ActiveHigh = 1
-enable_number ActiveLow = 2
+abbrev pub enable_number : Option Enable → ℕ
+enable_number None = 0
+enable_number (Some ActiveHigh) = 1
+enable_number (Some ActiveLow) = 2
 
 abbrev pub edge_number : Edge → ℕ
 edge_number Rising = 0

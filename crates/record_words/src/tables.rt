@@ -1,11 +1,8 @@
 // Records as words, in the order of their fields.
-ghost use Rattle.std.specs.Prelude.{◌≡◌};
-ghost use Rattle.record_words.specs.Records.{name_words, text_words, triple_words, range_words, slope_words, ramp_words, table_words, component_words, pin_words, selector_words, choice_words, model_first, model_split, model_levels, model_tables, waveform_words};
+ghost use Rattle.std.specs.Prelude.{◌≡◌, ◌+◌, ◌/◌};
+ghost use Rattle.record_words.specs.Records.{laid_words, name_words, text_words, triple_words, range_words, slope_words, ramp_words, table_words, component_words, pin_words, selector_words, choice_words, model_first, model_split, model_levels, model_tables, waveform_words};
 
-use crate::values::{
-    dividend_word, divisor_word, edge_number, eights_at, enable_number, flag_number,
-    location_number, max_word, min_word, polarity_number, typ_word,
-};
+use crate::values::{dividend_word, divisor_word, eight_at, enable_number, polarity_number};
 use crate::{
     CHOICE_WORDS, COMPONENT_WORDS, MODEL_FIRST_WORDS, MODEL_LEVELS_WORDS, MODEL_SPLIT_WORDS,
     MODEL_TABLES_WORDS, NAME_WORDS, PIN_WORDS, RAMP_WORDS, RANGE_WORDS, SELECTOR_WORDS,
@@ -13,73 +10,60 @@ use crate::{
 };
 use decimal::word_of;
 use records::{
-    Choice, Component, Model, Name, Pin, RampTable, RampTriple, Range, Selector, Table, Triple,
-    Waveform, Words, type_number,
+    Choice, Component, Model, Name, Pin, RampTable, RampTriple, Range, Selector, Table, Text,
+    Triple, Waveform, Words, type_number,
 };
 
 // ---- parts of records
 
+// A text's bytes, eight to a word, and behind them how many of them are the text's.
+fn laid_words<const N: usize, const WORDS: usize>(t: Text<N>) -> [u64; WORDS]
+    requires { WORDS ≡ N / 8 + 1 }
+    ensures { result ≡ laid_words N t.entry }
+{
+    let mut words = [0u64; WORDS];
+    for k in 0..N / 8 {
+        words[k] = eight_at(&t.bytes, 8 * k);
+    }
+    words[N / 8] = t.len as u64;
+    words
+}
+
 fn name_words(n: Name) -> [u64; NAME_WORDS]
     ensures { result ≡ name_words n }
 {
-    let b = n.bytes;
-    let w = eights_at(&b, 0);
-    [w[0], w[1], w[2], w[3], w[4], n.len as u64]
+    laid_words(n)
 }
 
 pub fn text_words(t: Words) -> [u64; TEXT_WORDS]
     ensures { result ≡ text_words t }
 {
-    let b = t.bytes;
-    let u = eights_at(&b, 0);
-    let v = eights_at(&b, 40);
-    let w = eights_at(&b, 80);
-    [
-        u[0],
-        u[1],
-        u[2],
-        u[3],
-        u[4],
-        v[0],
-        v[1],
-        v[2],
-        v[3],
-        v[4],
-        w[0],
-        w[1],
-        w[2],
-        w[3],
-        w[4],
-        t.len as u64,
-    ]
+    laid_words(t)
 }
 
 pub fn triple_words(t: Triple) -> [u64; TRIPLE_WORDS]
     ensures { result ≡ triple_words t }
 {
-    [typ_word(t), min_word(t), max_word(t)]
+    [word_of(t.typ), word_of(t.min), word_of(t.max)]
 }
 
 fn range_words(r: Range) -> [u64; RANGE_WORDS]
     ensures { result ≡ range_words r }
 {
     let c = triple_words(r.cells);
-    [flag_number(r.given), c[0], c[1], c[2]]
+    [u64::from(r.given), c[0], c[1], c[2]]
 }
 
 fn slope_words(t: RampTriple) -> [u64; SLOPE_WORDS]
     ensures { result ≡ slope_words t }
 {
-    let typ = t.typ;
-    let min = t.min;
-    let max = t.max;
     [
-        dividend_word(typ),
-        divisor_word(typ),
-        dividend_word(min),
-        divisor_word(min),
-        dividend_word(max),
-        divisor_word(max),
+        dividend_word(t.typ),
+        divisor_word(t.typ),
+        dividend_word(t.min),
+        divisor_word(t.min),
+        dividend_word(t.max),
+        divisor_word(t.max),
     ]
 }
 
@@ -88,9 +72,8 @@ pub fn ramp_words(ramp: RampTable) -> [u64; RAMP_WORDS]
 {
     let r = slope_words(ramp.rise);
     let f = slope_words(ramp.fall);
-    let load = ramp.load;
     [
-        flag_number(ramp.given),
+        u64::from(ramp.given),
         r[0],
         r[1],
         r[2],
@@ -103,18 +86,14 @@ pub fn ramp_words(ramp: RampTable) -> [u64; RAMP_WORDS]
         f[3],
         f[4],
         f[5],
-        word_of(load),
+        word_of(ramp.load),
     ]
 }
 
 fn table_words(t: Table) -> [u64; TABLE_WORDS]
     ensures { result ≡ table_words t }
 {
-    [
-        flag_number(t.given),
-        t.rows.start as u64,
-        t.rows.count as u64,
-    ]
+    [u64::from(t.given), t.rows.start as u64, t.rows.count as u64]
 }
 
 // ---- records
@@ -123,8 +102,6 @@ pub fn component_words(c: Component) -> [u64; COMPONENT_WORDS]
     ensures { result ≡ component_words c }
 {
     let n = name_words(c.name);
-    let si = c.si;
-    let timing = c.timing;
     let m = name_words(c.manufacturer);
     let r = triple_words(c.resistance);
     let l = triple_words(c.inductance);
@@ -137,8 +114,8 @@ pub fn component_words(c: Component) -> [u64; COMPONENT_WORDS]
         n[3],
         n[4],
         n[5],
-        location_number(si),
-        location_number(timing),
+        c.si as u64,
+        c.timing as u64,
         m[0],
         m[1],
         m[2],
@@ -165,9 +142,6 @@ pub fn pin_words(p: Pin) -> [u64; PIN_WORDS]
     let n = name_words(p.name);
     let s = name_words(p.signal);
     let m = name_words(p.model);
-    let r = p.resistance;
-    let l = p.inductance;
-    let c = p.capacitance;
     [
         n[0],
         n[1],
@@ -187,9 +161,9 @@ pub fn pin_words(p: Pin) -> [u64; PIN_WORDS]
         m[3],
         m[4],
         m[5],
-        word_of(r),
-        word_of(l),
-        word_of(c),
+        word_of(p.resistance),
+        word_of(p.inductance),
+        word_of(p.capacitance),
     ]
 }
 
@@ -226,9 +200,6 @@ pub fn model_first(m: Model) -> [u64; MODEL_FIRST_WORDS]
     ensures { result ≡ model_first m }
 {
     let n = name_words(m.name);
-    let kind = m.kind;
-    let polarity = m.polarity;
-    let enable = m.enable;
     let c = triple_words(m.comp);
     [
         m.section as u64,
@@ -238,9 +209,9 @@ pub fn model_first(m: Model) -> [u64; MODEL_FIRST_WORDS]
         n[3],
         n[4],
         n[5],
-        type_number(kind),
-        polarity_number(polarity),
-        enable_number(enable),
+        type_number(m.kind),
+        polarity_number(m.polarity),
+        enable_number(m.enable),
         c[0],
         c[1],
         c[2],
@@ -265,21 +236,15 @@ pub fn model_split(m: Model) -> [u64; MODEL_SPLIT_WORDS]
 pub fn model_levels(m: Model) -> [u64; MODEL_LEVELS_WORDS]
     ensures { result ≡ model_levels m }
 {
-    let vinl = m.vinl;
-    let vinh = m.vinh;
-    let vmeas = m.vmeas;
-    let cref = m.cref;
-    let rref = m.rref;
-    let vref = m.vref;
     let v = triple_words(m.voltage);
     let t = range_words(m.temperature);
     [
-        word_of(vinl),
-        word_of(vinh),
-        word_of(vmeas),
-        word_of(cref),
-        word_of(rref),
-        word_of(vref),
+        word_of(m.vinl),
+        word_of(m.vinh),
+        word_of(m.vmeas),
+        word_of(m.cref),
+        word_of(m.rref),
+        word_of(m.vref),
         v[0],
         v[1],
         v[2],
@@ -306,27 +271,17 @@ pub fn model_tables(m: Model) -> [u64; MODEL_TABLES_WORDS]
 pub fn waveform_words(w: Waveform) -> [u64; WAVEFORM_WORDS]
     ensures { result ≡ waveform_words w }
 {
-    let edge = w.edge;
-    let rfixture = w.rfixture;
-    let vfixture = w.vfixture;
-    let vmin = w.vmin;
-    let vmax = w.vmax;
-    let cfixture = w.cfixture;
-    let lfixture = w.lfixture;
-    let rdut = w.rdut;
-    let ldut = w.ldut;
-    let cdut = w.cdut;
     [
-        edge_number(edge),
-        word_of(rfixture),
-        word_of(vfixture),
-        word_of(vmin),
-        word_of(vmax),
-        word_of(cfixture),
-        word_of(lfixture),
-        word_of(rdut),
-        word_of(ldut),
-        word_of(cdut),
+        w.edge as u64,
+        word_of(w.rfixture),
+        word_of(w.vfixture),
+        word_of(w.vmin),
+        word_of(w.vmax),
+        word_of(w.cfixture),
+        word_of(w.lfixture),
+        word_of(w.rdut),
+        word_of(w.ldut),
+        word_of(w.cdut),
         w.rows.start as u64,
         w.rows.count as u64,
     ]

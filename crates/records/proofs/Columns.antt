@@ -1,4 +1,5 @@
 -- What a line tells of a flaw: the column of its place; and what `told_in` keeps.
+use Rattle.std.specs.Prelude.{Result, Ok, Err}
 use Prim.Native.Nat.{ℕ, ◌+◌, ◌-◌, ◌≤◌}
 use mathlib.Core.Path.{◌≡◌, refl, ap, ◌∙◌}
 use mathlib.Core.List.{List}
@@ -6,7 +7,7 @@ use native.Mathlib.Omega.{arith}
 use lib.ListN.{length, drop, length-drop}
 use lib.Dec.{leb}
 use borrow.Author.Tests.{le-leb}
-use Rattle.laws.specs.Said.{Result, says, fault, or_else, read_on}
+use Rattle.laws.specs.Said.{or_else, read_on}
 use Rattle.laws.proofs.Tests.{cond_yes, and_both}
 use Rattle.records.specs.Flaws.{Reads, flaw, flaw_in, sound, said_at, column_in, told, told_in, bare, at_place, said_there, line_fault_in}
 
@@ -24,28 +25,28 @@ told-sound w = refl
 -- the fault of what is told is what is told of the flaw
 pub told-fault : {A : Type 0} (w : List ℕ) (r : Reads A) → line_fault_in (told_in w r) ≡ told w (flaw_in r)
 unfolding column_in
-told-fault w (says a) = refl
-told-fault w (fault f) = refl
+told-fault w (Ok a) = refl
+told-fault w (Err f) = refl
 
 -- what is said stays
 pub told-else : {A : Type 0} (w : List ℕ) (a : A) (r : Reads A) → or_else a (told_in w r) ≡ or_else a r
-told-else w a (says b) = refl
-told-else w a (fault f) = refl
+told-else w a (Ok b) = refl
+told-else w a (Err f) = refl
 
 -- what is read on
 pub told-on : {A B : Type 0} (w : List ℕ) (r : Reads A) (go : A → Reads B) → told_in w (read_on r go) ≡ read_on (told_in w r) (λ a. told_in w (go a))
-told-on w (says a) go = refl
-told-on w (fault f) go = refl
+told-on w (Ok a) go = refl
+told-on w (Err f) go = refl
 
 -- ---- a word, of which all faults are 10, 11 or 12
 
 abbrev pub Columned : ℕ → Type 0
 Columned n = (10 ≤ n) × (n ≤ 12)
 
-abbrev pub Columns : {A : Type 0} → Result ℕ A → Type 0
-Columns (says a) = Unit {0}
-Columns (fault n) = Columned n
+abbrev pub Columns : {A : Type 0} → Result A ℕ → Type 0
+Columns (Ok a) = Unit {0}
+Columns (Err n) = Columned n
 
-pub told-word : {A : Type 0} (w : List ℕ) (p : ℕ) (r : Result ℕ A) → Columns r → p ≤ length w → told_in w (said_at (drop p w) r) ≡ said_there p r
-told-word w p (says a) k h = refl
-told-word w p (fault n) k h = ap fault (told_at w n p k.0 k.1 h)
+pub told-word : {A : Type 0} (w : List ℕ) (p : ℕ) (r : Result A ℕ) → Columns r → p ≤ length w → told_in w (said_at (drop p w) r) ≡ said_there p r
+told-word w p (Ok a) k h = refl
+told-word w p (Err n) k h = ap Err (told_at w n p k.0 k.1 h)

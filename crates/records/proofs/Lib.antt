@@ -1,4 +1,3 @@
 -- Laws of the code, and what the definitions must keep.
 pub mod Columns
-pub mod Copies
 pub mod Sanity

@@ -6,20 +6,24 @@ use Rattle.records.specs.declared.Triple.{Triple}
 use Rattle.records.specs.declared.RampCell.TheVariants.{Absent}
 use Rattle.records.specs.declared.RampTriple.{RampTriple}
 use Rattle.records.specs.declared.Row.{Row}
-use Rattle.records.specs.declared.Name.{Name}
-use Rattle.records.specs.declared.Words.{Words}
+use Rattle.records.specs.declared.Text.{Text}
+use Rattle.records.specs.Texts.{Name, Words}
 
 -- ---- a text: its bytes, then zeros
 
 unfoldable pub padded : ℕ → List ℕ → List ℕ
 padded n w = w ++ replicate (n - length w) 0
 
+-- its first n bytes
+abbrev pub text_laid : (n : ℕ) → List ℕ → Text n
+text_laid n w = record { bytes = padded n (take n w); len = length (take n w) }
+
 -- names that pass their checks have at most 40 bytes, and no line has more than 120: nothing is cut here
 abbrev pub name_laid : List ℕ → Name
-name_laid w = record { bytes = padded 40 (take 40 w); len = length (take 40 w) }
+name_laid = text_laid 40
 
 abbrev pub words_laid : List ℕ → Words
-words_laid w = record { bytes = padded 120 (take 120 w); len = length (take 120 w) }
+words_laid = text_laid 120
 
 -- ---- a row: four words, a word a cell
 

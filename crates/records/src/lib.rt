@@ -3,14 +3,14 @@
 #![tactic(auto)]
 
 ghost use Rattle.std.specs.Prelude.{◌≡◌, ◌^◌, ◌<◌};
-ghost use Rattle.records.specs.Flaws.{at_place, bare};
+ghost use Rattle.records.specs.Flaws.{at_place, bare, at_line, checked_at};
 ghost use Rattle.records.specs.Types.{type_number};
 
 use decimal::{Cell, Decimal};
 
 pub mod texts; // texts.rt: texts as they lie in a record, and what stands where nothing is given
 
-pub use texts::{name_of, no_cells, no_name, no_words, words_of};
+pub use texts::{name_of, no_cells, no_name, no_words, text_of, words_of};
 
 // ---- how many of each a file has at most, if as many are lent; of waveforms, in all models
 
@@ -39,11 +39,32 @@ pub struct Fault {
     pub column: u64,
 }
 
-// What a line by itself tells of its fault: number and column; 0 and 0 where it has none.
+// What a line by itself tells of its fault: document 01's number, by which definitions, texts and C know it, and the column. As a part of an event or
+// of a text of the file, 0 and 0 where it has none.
 #[derive(Clone, Copy)]
 pub struct LineFault {
     pub number: u8,
     pub column: u64,
+}
+
+impl LineFault {
+    // The fault, told at line k.
+    pub fn at_line(self, k: u64) -> Fault
+        ensures { result ≡ at_line k self }
+    {
+        Fault {
+            number: self.number,
+            line: k,
+            column: self.column,
+        }
+    }
+}
+
+// What line k says, or its fault, told there.
+pub fn at_line<T>(answer: Result<T, LineFault>, k: u64) -> Result<T, Fault>
+    ensures { result ≡ checked_at k answer }
+{
+    answer.map_err(|f| f.at_line(k))
 }
 
 // Fault 10, 11 or 12 of a line, told at the character at a place.
@@ -65,12 +86,6 @@ pub fn bare_fault(number: u8) -> LineFault
         number: number,
         column: 0,
     }
-}
-
-#[derive(Clone, Copy)]
-pub enum Verdict {
-    Accepted,
-    Refused(Fault),
 }
 
 // How much of each table a file uses.
@@ -112,26 +127,25 @@ pub struct Header {
 // On refusal all counts are 0 and the texts are empty.
 #[derive(Clone, Copy)]
 pub struct Answer {
-    pub verdict: Verdict,
+    pub verdict: Result<(), Fault>,
     pub counts: Counts,
     pub header: Header,
 }
 
 // ---- texts and numbers in records
 
-// A name of 1 to 40 bytes, then zeros.
+// A text of at most N bytes: its bytes, then zeros.
 #[derive(Clone, Copy)]
-pub struct Name {
-    pub bytes: [u8; 40],
+pub struct Text<const N: usize> {
+    pub bytes: [u8; N],
     pub len: u8,
 }
 
-// The file's name, its revision or a description: up to 120 bytes, then zeros.
-#[derive(Clone, Copy)]
-pub struct Words {
-    pub bytes: [u8; 120],
-    pub len: u8,
-}
+// A name of 1 to 40 bytes.
+pub type Name = Text<40>;
+
+// The file's name, its revision or a description: up to 120 bytes.
+pub type Words = Text<120>;
 
 // Three cells: typ, min, max.
 #[derive(Clone, Copy)]
@@ -148,7 +162,7 @@ pub struct Row {
     pub cells: Triple,
 }
 
-// A cell of a ramp: two numbers with `/` between, each exact, or missing.
+// A cell of a ramp: two numbers with `/` between, each exact, or missing: as a Cell, no Option.
 #[derive(Clone, Copy)]
 pub enum RampCell {
     Ratio { dividend: Decimal, divisor: Decimal },
@@ -200,36 +214,18 @@ pub enum ModelType {
 pub fn type_number(t: ModelType) -> u64
     ensures { result ≡ type_number t }
 {
-    match t {
-        ModelType::Input => 0,
-        ModelType::Output => 1,
-        ModelType::InputOutput => 2,
-        ModelType::ThreeState => 3,
-        ModelType::OpenDrain => 4,
-        ModelType::InputOutputOpenDrain => 5,
-        ModelType::OpenSink => 6,
-        ModelType::InputOutputOpenSink => 7,
-        ModelType::OpenSource => 8,
-        ModelType::InputOutputOpenSource => 9,
-        ModelType::InputEcl => 10,
-        ModelType::OutputEcl => 11,
-        ModelType::InputOutputEcl => 12,
-        ModelType::ThreeStateEcl => 13,
-        ModelType::Terminator => 14,
-    }
+    t as u64
 }
 
 // Polarity and Enable may be left out.
 #[derive(Clone, Copy)]
 pub enum Polarity {
-    NoPolarity,
     Inverting,
     NonInverting,
 }
 
 #[derive(Clone, Copy)]
 pub enum Enable {
-    NoEnable,
     ActiveHigh,
     ActiveLow,
 }
@@ -328,8 +324,8 @@ pub struct Model {
     pub section: usize,
     pub name: Name,
     pub kind: ModelType,
-    pub polarity: Polarity,
-    pub enable: Enable,
+    pub polarity: Option<Polarity>,
+    pub enable: Option<Enable>,
     pub comp: Triple,
     pub split: Split,
     pub vinl: Cell,

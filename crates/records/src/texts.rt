@@ -1,64 +1,45 @@
 // Texts as they lie in a record: their bytes, then zeros. What is longer than the record is cut. And what stands where nothing is given.
-ghost use Rattle.std.specs.Prelude.{◌≡◌, [], min};
-ghost use Rattle.records.specs.Stored.{name_laid, words_laid, no_cells};
+ghost use Rattle.std.specs.Prelude.{◌≡◌, ◌<◌, []};
+ghost use Rattle.records.specs.Stored.{text_laid, name_laid, words_laid, no_cells};
 
-use crate::{Name, Triple, Words};
+use crate::{Name, Text, Triple, Words};
 use decimal::Cell;
 
-fn at_most(n: usize, most: usize) -> usize
-    ensures { result ≡ min most n }
+pub fn text_of<const N: usize>(w: &[u8]) -> Text<N>
+    requires { N < 256 }
+    ensures { result ≡ text_laid N w.now }
 {
-    if n < most { n } else { most }
+    let n = N.min(w.len());
+    let mut bytes = [0u8; N];
+    bytes[..n].copy_from_slice(&w[..n]);
+    Text {
+        bytes: bytes,
+        len: n as u8,
+    }
 }
 
 pub fn name_of(w: &[u8]) -> Name
     ensures { result ≡ name_laid w.now }
 {
-    let n = at_most(w.len(), 40);
-    let mut bytes = [0u8; 40];
-    let mut i = 0;
-    while i < n {
-        bytes[i] = w[i];
-        i += 1;
-    }
-    Name {
-        bytes: bytes,
-        len: n as u8,
-    }
+    text_of::<40>(w)
 }
 
 pub fn words_of(w: &[u8]) -> Words
     ensures { result ≡ words_laid w.now }
 {
-    let n = at_most(w.len(), 120);
-    let mut bytes = [0u8; 120];
-    let mut i = 0;
-    while i < n {
-        bytes[i] = w[i];
-        i += 1;
-    }
-    Words {
-        bytes: bytes,
-        len: n as u8,
-    }
+    text_of::<120>(w)
 }
 
 pub fn no_name() -> Name
     ensures { result ≡ name_laid [] }
 {
-    Name {
-        bytes: [0u8; 40],
-        len: 0,
-    }
+    text_of(&[])
 }
 
 pub fn no_words() -> Words
     ensures { result ≡ words_laid [] }
 {
-    Words {
-        bytes: [0u8; 120],
-        len: 0,
-    }
+    text_of(&[])
 }
 
 pub fn no_cells() -> Triple

@@ -1,11 +1,11 @@
--- Laws of the definitions: a line further on, lines run out, where a reader stands, the text of a line, and a byte of a text as it is shown.
+-- Laws of the definitions: a line further on, lines run out, where a reader stands, the text of a line, and a text put byte by byte under a function.
 use Prim.Native.Nat.{ℕ, zero, suc, ◌+◌, ◌-◌, ◌≤◌, ◌<◌}
 use mathlib.Core.Path.{◌≡◌, refl, sym, ap, ◌∙◌, subst}
-use mathlib.Core.List.{List, [], ◌∷◌, ◌++◌, map}
+use mathlib.Core.List.{List, [], ◌∷◌, ◌++◌, map, map-append}
 use native.Mathlib.Omega.{arith}
 use native.Mathlib.Numerals.{add-one}
-use lib.ListN.{length, take, drop, get_or, length-map, drop_of_length-le}
-use lib.Seq.{drop-drop, drop-nil}
+use lib.ListN.{length, take, drop, get_or, drop_of_length-le}
+use lib.Seq.{drop-drop, drop-nil, take-suc}
 use borrow.Author.Tests.{eq-eqb, ne_eqb}
 use Rattle.lines.specs.Lines.{Physical, lines_of}
 use Rattle.lines.specs.Places.{line_from, RawAt}
@@ -19,8 +19,8 @@ use Rattle.refusal_text.specs.Places.{place_behind, of_line}
 use Rattle.refusal_text.specs.Refusals.{first_suggestion, meant_text}
 use Rattle.refusal_text.specs.Shown.{marked_text, first_text, mark_text, blank_for}
 use Rattle.suggested_keyword.specs.Suggestion.{suggestion}
-use Rattle.text_buffer.specs.Put.{Put}
-use Rattle.text_buffer.proofs.Laws.{put_next, put_as}
+use Rattle.text_buffer.specs.Put.{Sheet, put, put_one}
+use Rattle.text_buffer.proofs.Laws.{put_append}
 
 -- ---- lines
 
@@ -107,17 +107,14 @@ module _ (text : List Physical → List ℕ) (s : List ℕ) where
 
 -- ---- bytes, each under a function
 
-at_map : (f : ℕ → ℕ) (l : List ℕ) (i : ℕ) → i < length l → get_or (map f l) i 0 ≡ f (get_or l i 0)
-at_map f [] i h = absurd (omega (arith, h))
-at_map f (x ∷ xs) zero h = refl
-at_map f (x ∷ xs) (suc i) h = at_map f xs i (omega (arith, h))
-
 -- a turn of the loop that puts byte by byte
-pub put-mapped : (f : ℕ → ℕ) (a b c : List ℕ) (at m r i x : ℕ) (text : List ℕ) → i < length text → x ≡ f (get_or text i 0)
-    → Put a b at (take i (map f text)) m → Put b c m (x ∷ []) r → Put a c at (take (i + 1) (map f text)) r
-put-mapped f a b c at m r i x text h e p q =
-    let n : length (map f text) ≡ length text = length-map text f in
-    put_next a b c at m r i (map f text) (omega (arith, h, n)) p (put_as (ap (λ (y : ℕ). y ∷ []) (e ∙ sym (at_map f text i h))) q)
+pub put_mapped : (f : ℕ → ℕ) (text : List ℕ) (i x : ℕ) (s : Sheet) → i < length text → x ≡ f (get_or text i 0)
+    → put_one x (put (map f (take i text)) s) ≡ put (map f (take (i + 1) text)) s
+put_mapped f text i x s h e =
+    let last : take (suc i) text ≡ take i text ++ get_or text i 0 ∷ [] = take-suc text i 0 h in
+    let all : map f (take (i + 1) text) ≡ map f (take i text) ++ x ∷ [] =
+    ap (λ (k : ℕ). map f (take k text)) (add-one i) ∙ ap (map f) last ∙ map-append f (take i text) (get_or text i 0 ∷ []) ∙ ap (λ (y : ℕ). map f (take i text) ++ y ∷ []) (sym e) in
+    sym (ap (λ (t : List ℕ). put t s) all ∙ put_append (map f (take i text)) (x ∷ []) s)
 
 -- ---- the mark under a column
 

@@ -12,10 +12,8 @@ fn pass_lines(src: &[u8], before: u64) -> usize
     ensures { result ≡ place_behind src.now before }
 {
     let mut reader = LineReader::new(src, 0);
-    let mut i: u64 = 0;
-    while i < before {
+    for _ in 0..before {
         reader.next();
-        i += 1;
     }
     reader.at
 }
@@ -41,7 +39,7 @@ fn whole_line(src: &[u8], line: u64) -> Word
     let start = skip_lines(src, line - 1);
     let whole = lines::line_at(src, start);
     Word {
-        start: start,
+        start,
         end: whole.end,
     }
 }
@@ -60,10 +58,7 @@ pub(crate) fn find_text(src: &[u8], number: u64) -> Word
                 next,
             } => {
                 if line == number {
-                    return Word {
-                        start: start,
-                        end: end,
-                    };
+                    return Word { start, end };
                 }
                 cursor = next;
             }

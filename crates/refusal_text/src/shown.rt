@@ -1,10 +1,10 @@
 // The line as a person sees it: safe for a screen, and a mark under the column told.
 ghost use Rattle.std.specs.Prelude.{◌≡◌, map, take, drop};
 ghost use Rattle.lines.specs.Lines.{lines_of};
-ghost use Rattle.text_buffer.specs.Put.{Put};
+ghost use Rattle.text_buffer.specs.Pages.{Writes};
 ghost use Rattle.refusal_text.specs.Shown.{visible, blank_for, shown_as, visible_text, mark_text, marked_text, first_text};
 
-use text_buffer::{put_byte, put_bytes};
+use text_buffer::Page;
 
 // A byte by itself, or the blank that is as wide.
 #[derive(Clone, Copy)]
@@ -42,74 +42,63 @@ fn shown_as(how: Showing, b: u8) -> u8
     }
 }
 
-pub(crate) fn put_shown(out: &mut [u8], at: usize, how: Showing, text: &[u8]) -> usize
-    ensures { Put out.old out.new at (map (shown_as how) text.now) result }
+pub(crate) fn put_shown(page: &mut Page, how: Showing, text: &[u8])
+    ensures { Writes page.old page.new (map (shown_as how) text.now) }
 {
-    let mut next = put_bytes(out, at, b"");
-    let mut i = 0;
-    while i < text.len() {
-        next = put_byte(out, next, shown_as(how, text[i]));
-        i += 1;
+    for &byte in text {
+        page.put_byte(shown_as(how, byte));
     }
-    next
 }
 
 // What stands past the 120th character is two points.
-fn put_cut(out: &mut [u8], at: usize, line: &[u8]) -> usize
-    ensures { Put out.old out.new at (visible_text line.now) result }
+fn put_cut(page: &mut Page, line: &[u8])
+    ensures { Writes page.old page.new (visible_text line.now) }
 {
     if 120 < line.len() {
-        let front = put_shown(out, at, Showing::Plainly, &line[0..120]);
-        return put_bytes(out, front, b"..");
+        put_shown(page, Showing::Plainly, &line[0..120]);
+        page.put_bytes(b"..");
+    } else {
+        put_shown(page, Showing::Plainly, line);
     }
-    put_shown(out, at, Showing::Plainly, line)
 }
 
 // Blanks as wide as the first characters of the line, as many as count says; as all if it has fewer.
-fn put_blanks(out: &mut [u8], at: usize, line: &[u8], count: u64) -> usize
-    ensures { Put out.old out.new at (map blank_for (take count line.now)) result }
+fn put_blanks(page: &mut Page, line: &[u8], count: u64)
+    ensures { Writes page.old page.new (map blank_for (take count line.now)) }
 {
     if count < line.len() as u64 {
-        return put_shown(out, at, Showing::AsBlank, &line[..count as usize]);
+        put_shown(page, Showing::AsBlank, &line[..count as usize]);
+    } else {
+        put_shown(page, Showing::AsBlank, line);
     }
-    put_shown(out, at, Showing::AsBlank, line)
 }
 
 // The mark under a column; nothing for column 0.
-fn put_mark(out: &mut [u8], at: usize, line: &[u8], column: u64) -> usize
-    ensures { Put out.old out.new at (mark_text line.now column) result }
+fn put_mark(page: &mut Page, line: &[u8], column: u64)
+    ensures { Writes page.old page.new (mark_text line.now column) }
 {
-    if column == 0 {
-        return put_bytes(out, at, b"");
+    if column != 0 {
+        page.put_bytes(b"  ");
+        put_blanks(page, line, column - 1);
+        page.put_bytes(b"^\n");
     }
-    let indent = put_bytes(out, at, b"  ");
-    let before = put_blanks(out, indent, line, column - 1);
-    put_bytes(out, before, b"^\n")
 }
 
-fn put_marked(out: &mut [u8], at: usize, line: &[u8], column: u64) -> usize
-    ensures { Put out.old out.new at (marked_text column line.now) result }
+fn put_marked(page: &mut Page, line: &[u8], column: u64)
+    ensures { Writes page.old page.new (marked_text column line.now) }
 {
-    let indent = put_bytes(out, at, b"> ");
-    let text = put_cut(out, indent, line);
-    let ended = put_byte(out, text, b'\n');
-    put_mark(out, ended, line, column)
+    page.put_bytes(b"> ");
+    put_cut(page, line);
+    page.put_byte(b'\n');
+    put_mark(page, line, column);
 }
 
 // The line that begins at a place; nothing at the end of the file.
-pub(crate) fn put_first_line(
-    out: &mut [u8],
-    at: usize,
-    src: &[u8],
-    start: usize,
-    column: u64,
-) -> usize
-    ensures { Put out.old out.new at (first_text column (lines_of (drop start src.now))) result }
+pub(crate) fn put_first_line(page: &mut Page, src: &[u8], start: usize, column: u64)
+    ensures { Writes page.old page.new (first_text column (lines_of (drop start src.now))) }
 {
-    if src.len() <= start {
-        return put_bytes(out, at, b"");
+    if start < src.len() {
+        let line = lines::line_at(src, start);
+        put_marked(page, &src[start..line.end], column);
     }
-    let line = lines::line_at(src, start);
-    let end = line.end;
-    put_marked(out, at, &src[start..end], column)
 }

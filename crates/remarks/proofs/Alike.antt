@@ -1,4 +1,5 @@
 -- What a file is worth is what its list is worth, told at the lines of the list's entries; so two files with one list agree.
+use Rattle.std.specs.Prelude.{Ok}
 use Prim.Native.Nat.{ℕ, suc, ◌+◌}
 use mathlib.Core.Path.{◌≡◌, refl, sym, ap, ap₂, subst₂, ◌∙◌}
 use mathlib.Core.List.{List, map}
@@ -6,7 +7,6 @@ use native.Mathlib.Omega.{arith}
 use lib.ListN.{length}
 use Rattle.laws.proofs.Tests.{by_order}
 use Rattle.lines.specs.Lines.{lines_of, bytes_fault}
-use Rattle.lines.specs.declared.Bytes.TheVariants.{Clean}
 use Rattle.cut_lines.specs.Texts.{Text}
 use Rattle.cut_lines.proofs.Renumbered.{text_at}
 use Rattle.records.specs.Bounds.{most_rows}
@@ -45,7 +45,7 @@ module _ (s : List ℕ) where
       let e : length (list_of s) + 1 ≡ suc (length (list_of s)) = omega arith in
       ap (number_at s) e ∙ number_is s (length (list_of s)) ∙ line-past s
 
-  pub worth-by-list : (l : Lengths) → bytes_fault s ≡ Clean → outcome l s ≡ outcome_at (number_at s) (worth l (list_of s))
+  pub worth-by-list : (l : Lengths) → bytes_fault s ≡ Ok tt → outcome l s ≡ outcome_at (number_at s) (worth l (list_of s))
   unfolding outcome worth
   worth-by-list l h =
       ap (after_bytes _) h

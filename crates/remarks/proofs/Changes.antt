@@ -1,4 +1,5 @@
 -- [Comment Char] lines: known by what stands up to the `]`, so whatever follows; what sets the character, and what may stand behind that.
+use Rattle.std.specs.Prelude.{Ok, Err}
 use Prim.Native.Nat.{ℕ}
 use Prim.Native.Char.{code}
 use mathlib.Core.Path.{◌≡◌, refl, sym, ap, ◌∙◌}
@@ -9,7 +10,6 @@ use lib.Dec.{eqb}
 use borrow.Author.Tests.{not-true}
 use Rattle.laws.specs.Bytes.{bytes, is_blank, is_capital, small, spelled_byte}
 use Rattle.laws.specs.Lists.{front, after, begins, among, eqs, other, all}
-use Rattle.laws.specs.Said.{says, fault}
 use Rattle.laws.proofs.Tests.{by-test, cond_no, and_first, and_second, impossible}
 use Rattle.laws.proofs.Appended.{front-within, after-within, among-all}
 use Rattle.words.specs.Words.{is_ink}
@@ -61,12 +61,12 @@ pub record Sets (x : ℕ) (w : List ℕ) : Type 0 where
   pub word : eqs (front is_ink behind) (bytes "_char") ≡ true
   pub remark : none_or x (after is_blank (after is_ink behind)) ≡ true
 
-pub sets-char : (x : ℕ) (w : List ℕ) → Sets x w → change_of w ≡ says x
+pub sets-char : (x : ℕ) (w : List ℕ) → Sets x w → change_of w ≡ Ok x
 unfolding change_of change_to
 sets-char x w h = rw (h.closed, h.argument, h.marked, h.word, h.remark)
 
 -- v being what follows the keyword
-from-argument : (x : ℕ) (w v : List ℕ) → is_closed (closing w) ≡ true → argument w ≡ v → change_to v ≡ says x → Sets x w
+from-argument : (x : ℕ) (w v : List ℕ) → is_closed (closing w) ≡ true → argument w ≡ v → change_to v ≡ Ok x → Sets x w
 unfolding change_to
 from-argument x w [] c a e = impossible (cc)
 from-argument x w (y ∷ bs) c a e =
@@ -76,18 +76,18 @@ from-argument x w (y ∷ bs) c a e =
     (λ u.
     let same : x ≡ y = said y x (rw (t, u) at e) in
     record { closed = c; behind = bs; argument = a ∙ ap (λ (z : ℕ). z ∷ bs) (sym same); marked = ap (λ (z : ℕ). among z marks) same ∙ and_first (among y marks) _ t; word = and_second (among y marks) _ t; remark = ap (λ (z : ℕ). none_or z (after is_blank (after is_ink bs))) same ∙ u })
-    (λ u. let z : fault (flaw 10 (after is_blank (after is_ink bs))) ≡ says x = rw (t, u) at e in impossible (cc)))
-    (λ t. let z : fault (flaw 10 (y ∷ bs)) ≡ says x = rw t at e in impossible (cc))
+    (λ u. let z : Err (flaw 10 (after is_blank (after is_ink bs))) ≡ Ok x = rw (t, u) at e in impossible (cc)))
+    (λ t. let z : Err (flaw 10 (y ∷ bs)) ≡ Ok x = rw t at e in impossible (cc))
   where
-    said : (y x : ℕ) → ◌≡◌ {A = Reads ℕ} (says y) (says x) → x ≡ y
+    said : (y x : ℕ) → ◌≡◌ {A = Reads ℕ} (Ok y) (Ok x) → x ≡ y
     said y x q = cc
 
-pub char-set : (x : ℕ) (w : List ℕ) → change_of w ≡ says x → Sets x w
+pub char-set : (x : ℕ) (w : List ℕ) → change_of w ≡ Ok x → Sets x w
 unfolding change_of
 char-set x w e =
     by-test (is_closed (closing w))
     (λ t. from-argument x w (argument w) t refl (rw t at e))
-    (λ t. let z : ◌≡◌ {A = Reads ℕ} (fault (flaw 5 [])) (says x) = rw t at e in impossible (cc))
+    (λ t. let z : ◌≡◌ {A = Reads ℕ} (Err (flaw 5 [])) (Ok x) = rw t at e in impossible (cc))
 
 -- ---- what such a line counts as sets the same
 
@@ -103,7 +103,7 @@ module _ (x : ℕ) (h : among x marks ≡ true) where
   unfolding is_change inside closing front after other spelled spelled_byte small is_capital eqs
   canonical-change = refl
 
-  pub canonical-sets : change_of canonical ≡ says x
+  pub canonical-sets : change_of canonical ≡ Ok x
   unfolding closing after other is_closed is_blank argument front is_ink eqs none_or
   canonical-sets =
       sets-char x canonical

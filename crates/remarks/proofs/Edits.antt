@@ -1,11 +1,12 @@
 -- An edit keeps the list: what it changes does not count, and the other lines are as they were. By induction over the lines before it.
+use Rattle.std.specs.Prelude.{Ok, Err}
 use Prim.Native.Nat.{ℕ, ◌+◌}
 use Prim.Native.Char.{code}
 use mathlib.Core.Path.{◌≡◌, refl, sym, ap, ap₂, ◌∙◌}
 use mathlib.Core.List.{List, [], ◌∷◌, ◌++◌, map}
 use mathlib.Core.Bool.{true, false}
 use Rattle.laws.specs.Lists.{front, trim, among}
-use Rattle.laws.specs.Said.{says, fault, or_else}
+use Rattle.laws.specs.Said.{or_else}
 use Rattle.laws.proofs.Tests.{by-test, cond_yes, cond_no}
 use Rattle.records.specs.Flaws.{Reads}
 use Rattle.lines.specs.Lines.{Physical, lines_of, cut}
@@ -24,8 +25,8 @@ unfolding char_after_line
 char-marked c l h = by-test (is_change l.bytes) (λ t. rw t (set-marked (change_of l.bytes) refl)) (λ t. rw t h)
   where
     set-marked : (r : Reads ℕ) → change_of l.bytes ≡ r → among (or_else c r) marks ≡ true
-    set-marked (says x) e = (char-set x l.bytes e).marked
-    set-marked (fault f) e = h
+    set-marked (Ok x) e = (char-set x l.bytes e).marked
+    set-marked (Err f) e = h
 
 chars-marked : (c : ℕ) (ls : List Physical) → among c marks ≡ true → among (char_after_lines c ls) marks ≡ true
 unfolding char_after_lines
@@ -86,11 +87,11 @@ remark-line : (c : ℕ) (w r : List ℕ) → among c marks ≡ true → is_chang
 unfolding char_after_line
 remark-line c w r m k h = record { text = remark-counts c m w r h k; char = cond_no _ _ (remark-unchanged c m w r h k) }
 
-change-line : (c x : ℕ) (w : List ℕ) → is_change w ≡ true → change_of w ≡ says x → CountsAs c w (change_counts [] (says x)) x
+change-line : (c x : ℕ) (w : List ℕ) → is_change w ≡ true → change_of w ≡ Ok x → CountsAs c w (change_counts [] (Ok x)) x
 unfolding counts_as char_after_line
 change-line c x w k e = record { text = cond_yes _ _ k ∙ ap (change_counts w) e; char = cond_yes _ _ k ∙ ap (or_else c) e }
 
-remark-behind : (c x : ℕ) (w r : List ℕ) → is_change w ≡ true → change_of w ≡ says x → is_apart r ≡ true → is_remark x r ≡ true → CountsAs c (w ++ r) (change_counts [] (says x)) x
+remark-behind : (c x : ℕ) (w r : List ℕ) → is_change w ≡ true → change_of w ≡ Ok x → is_apart r ≡ true → is_remark x r ≡ true → CountsAs c (w ++ r) (change_counts [] (Ok x)) x
 remark-behind c x w r k e a h = change-line c x (w ++ r) (change-more w r k) (change-sets x r a h w e)
 
 blank-line : (c : ℕ) (r : List ℕ) → among c marks ≡ true → is_remark c r ≡ true → CountsAs c r [] c
@@ -101,8 +102,8 @@ edit-keeps : (c : ℕ) (old new behind : List Physical) → among c marks ≡ tr
 edit-keeps c old new behind m (behind_text w q r u p o) =
     same_line c c (w ++ q) (w ++ r) (cut c w) behind (remark-line c w q m u p) (remark-line c w r m u o)
 edit-keeps c old new behind m (behind_change x w q r u s a p b o) =
-    same_line c x (w ++ q) (w ++ r) (change_counts [] (says x)) behind (remark-behind c x w q u s a p) (remark-behind c x w r u s b o)
-edit-keeps c old new behind m (respelled x v w u s p o) = same_line c x v w (change_counts [] (says x)) behind (change-line c x v u s) (change-line c x w p o)
+    same_line c x (w ++ q) (w ++ r) (change_counts [] (Ok x)) behind (remark-behind c x w q u s a p) (remark-behind c x w r u s b o)
+edit-keeps c old new behind m (respelled x v w u s p o) = same_line c x v w (change_counts [] (Ok x)) behind (change-line c x v u s) (change-line c x w p o)
 edit-keeps c old new behind m (put_in r o) = sym (no_line c r behind (blank-line c r m o))
 edit-keeps c old new behind m (taken_out r o) = no_line c r behind (blank-line c r m o)
 

@@ -1,4 +1,5 @@
 -- Line ends: where no line has a CR, leaving out the CRs leaves out those of line ends alone. By induction over the bytes.
+use Rattle.std.specs.Prelude.{Ok}
 use Prim.Native.Nat.{ℕ}
 use Prim.Native.Char.{code}
 use mathlib.Core.Path.{◌≡◌, refl, sym, ap, ◌∙◌}
@@ -9,7 +10,6 @@ use borrow.Author.Tests.{eqb-true}
 use Rattle.laws.specs.Lists.{all}
 use Rattle.laws.proofs.Tests.{by-test, cond_no, and_both, and_first, and_second, impossible}
 use Rattle.lines.specs.Lines.{Physical, is_return, onto_line, lines_of, is_allowed, bytes_fault}
-use Rattle.lines.specs.declared.Bytes.TheVariants.{Clean}
 use Rattle.lines.proofs.Laws.{lines-byte, allowed-plain, return-not}
 use Rattle.lines.proofs.Clean.{clean-file, clean-allowed}
 use Rattle.remarks.specs.Edits.{without_returns, EndsChangeNothing}
@@ -51,5 +51,5 @@ ends-kept (b ∷ bs) h =
 
 pub ends-change-nothing : EndsChangeNothing
 ends-change-nothing s t e p q =
-    let kept : (u : List ℕ) → bytes_fault u ≡ Clean → lines_of (without_returns u) ≡ lines_of u = λ u h. ends-kept u (clean-allowed (lines_of u) (clean-file u h)) in
+    let kept : (u : List ℕ) → bytes_fault u ≡ Ok tt → lines_of (without_returns u) ≡ lines_of u = λ u h. ends-kept u (clean-allowed (lines_of u) (clean-file u h)) in
     edits-change-nothing s t [] (sym (kept s p) ∙ ap lines_of e ∙ kept t q) p q

@@ -1,5 +1,6 @@
 -- What stands behind a line's text: it is cut, and it makes no [Comment Char] line of another, for the character in force is a mark and no mark stands in
 -- that keyword; and what stands behind a [Comment Char] line's argument.
+use Rattle.std.specs.Prelude.{Ok}
 use Prim.Native.Nat.{ℕ}
 use Prim.Native.Char.{code}
 use mathlib.Core.Path.{◌≡◌, refl, sym, ap, ◌∙◌}
@@ -10,7 +11,6 @@ use lib.Dec.{eqb}
 use borrow.Author.Tests.{not-true, eqb-true}
 use Rattle.laws.specs.Bytes.{bytes, is_blank, is_capital, small, spelled_byte}
 use Rattle.laws.specs.Lists.{front, after, begins, among, eqs, other, all, trim}
-use Rattle.laws.specs.Said.{says}
 use Rattle.laws.proofs.Tests.{by-test, cond_no, and_both, and_first, and_second, impossible}
 use Rattle.laws.proofs.Same.{eqs-eq}
 use Rattle.laws.proofs.Fronts.{all-second, other-no, other-is}
@@ -178,5 +178,5 @@ module _ (x : ℕ) (q : List ℕ) (apart : is_apart q ≡ true) (remark : is_rem
         remark = remark-more h.behind (after is_ink h.behind) refl h.remark;
       }
 
-  pub change-sets : (w : List ℕ) → change_of w ≡ says x → change_of (w ++ q) ≡ says x
+  pub change-sets : (w : List ℕ) → change_of w ≡ Ok x → change_of (w ++ q) ≡ Ok x
   change-sets w e = sets-char x (w ++ q) (sets_behind w (closing w) refl (char-set x w e))

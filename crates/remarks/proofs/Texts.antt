@@ -1,4 +1,5 @@
 -- A file's texts are those of its lines that count, each by its number. By induction over the lines; a line counts as something that reads as the line does.
+use Rattle.std.specs.Prelude.{Ok, Err}
 use Prim.Native.Nat.{ℕ, suc, ◌+◌, ◌<◌}
 use mathlib.Core.Path.{◌≡◌, refl, sym, ap, ◌∙◌}
 use mathlib.Core.List.{List, [], ◌∷◌, map}
@@ -6,7 +7,7 @@ use mathlib.Core.Bool.{true, false, cond}
 use native.Mathlib.Omega.{arith}
 use lib.ListN.{length, get_or}
 use Rattle.laws.specs.Bytes.{bytes}
-use Rattle.laws.specs.Said.{says, fault, or_else}
+use Rattle.laws.specs.Said.{or_else}
 use Rattle.laws.proofs.Tests.{by-test, cond_yes, cond_map, impossible}
 use Rattle.records.specs.Flaws.{Reads, column_in, flaw_in, told}
 use Rattle.lines.specs.Lines.{Physical, cut}
@@ -34,11 +35,11 @@ module _ (k : ℕ) where
   onto-change : (l : List ℕ) (r : Reads ℕ) (es : List Counted) → is_change l ≡ true → change_of l ≡ r
       → map text_of (onto_counted k (change_counts l r) es) ≡ change k (told l (flaw_in r)) ∷ map text_of es
   unfolding onto_counted column_in
-  onto-change l (says x) es h e =
+  onto-change l (Ok x) es h e =
       let marked = (char-set x l e).marked in
-      ap (λ (t : Text). t ∷ map text_of es) (text-change (change_counts l (says x)) (says x) (canonical-change x marked) (canonical-sets x marked))
-  onto-change [] (fault f) es h e = impossible (no_change h)
-  onto-change (b ∷ bs) (fault f) es h e = ap (λ (t : Text). t ∷ map text_of es) (text-change (b ∷ bs) (fault f) h e)
+      ap (λ (t : Text). t ∷ map text_of es) (text-change (change_counts l (Ok x)) (Ok x) (canonical-change x marked) (canonical-sets x marked))
+  onto-change [] (Err f) es h e = impossible (no_change h)
+  onto-change (b ∷ bs) (Err f) es h e = ap (λ (t : Text). t ∷ map text_of es) (text-change (b ∷ bs) (Err f) h e)
 
   onto-plain : (w : List ℕ) (es : List Counted) → is_change w ≡ false → map text_of (onto_counted k w es) ≡ onto_texts k w (map text_of es)
   unfolding text_for onto_counted onto_texts

@@ -1,5 +1,6 @@
 -- What a list is worth, its entries being the lines: a fault is told at an entry, or behind the last if the list runs out. No line's number is read, so a
 -- number that no line has is never told.
+use Rattle.std.specs.Prelude.{Result, Ok, Err}
 use Prim.Native.Nat.{ℕ, zero, suc, ◌+◌, ◌≤◌, ◌<◌}
 use mathlib.Core.Path.{◌≡◌, refl, sym, ap, ap₂, subst, ◌∙◌}
 use mathlib.Core.Logic.{◌⊎◌, inl, inr}
@@ -9,7 +10,6 @@ use native.Mathlib.Omega.{arith}
 use lib.ListN.{length}
 use lib.Dec.{eqb, leb}
 use borrow.Author.Tests.{le-leb, lt-leb, ne_eqb, eqb-false}
-use Rattle.laws.specs.Said.{Result, says, fault}
 use Rattle.laws.proofs.Tests.{by-test, by_order, cond_yes, cond_no, cond-all, impossible}
 use Rattle.cut_lines.specs.Texts.{Text}
 use Rattle.cut_lines.proofs.Renumbered.{text_at}
@@ -20,8 +20,7 @@ use Rattle.rules.specs.Steps.{is_ended, on_text}
 use Rattle.rules.specs.Whole.{Held, nothing_held, Outcome, passed, refused, admit, line_of, text_of, after_admission, after_step, runs, last_checks, concluded}
 use Rattle.rules.specs.declared.Stage.{Stage}
 use Rattle.rules.specs.declared.Stage.TheVariants.{BeforeVersion}
-use Rattle.rules.specs.declared.Went.{Went}
-use Rattle.rules.specs.declared.Went.TheVariants.{On, Stop}
+use Rattle.rules.specs.Going.{Went}
 use Rattle.renumbered.proofs.Outcomes.{Numbering, runs-at, whole-at}
 use Rattle.renumbered.proofs.Told.{outcome_at}
 use Rattle.remarks.proofs.Texts.{text_for, texts_at, text_at_lem}
@@ -41,13 +40,13 @@ module _ (l : Lengths) where
   abbrev OutOrNot : (ℕ → Outcome) → Type 0
   OutOrNot go = ((past : ℕ) → go past ≡ refused 19 past 0) ⊎ ((p q : ℕ) → go p ≡ go q)
 
-  admission-past : (k : ℕ) (go : ℕ → Held → Outcome) → ((h : Held) → OutOrNot (λ (past : ℕ). go past h)) → (r : Result LineFault Held) → OutOrNot (λ (past : ℕ). after_admission k (go past) r)
-  admission-past k go q (says h) = q h
-  admission-past k go q (fault f) = inr (λ p q. refl)
+  admission-past : (k : ℕ) (go : ℕ → Held → Outcome) → ((h : Held) → OutOrNot (λ (past : ℕ). go past h)) → (r : Result Held LineFault) → OutOrNot (λ (past : ℕ). after_admission k (go past) r)
+  admission-past k go q (Ok h) = q h
+  admission-past k go q (Err f) = inr (λ p q. refl)
 
   step_past : (h : Held) (t : Text) (go : ℕ → Stage → Held → Outcome) → ((s : Stage) (g : Held) → OutOrNot (λ (past : ℕ). go past s g)) → (w : Went) → OutOrNot (λ (past : ℕ). after_step l h t (go past) w)
-  step_past h t go q (On s e) = admission-past (line_of t) (λ (past : ℕ). go past s) (q s) (admit l h (line_of t) (text_of t) e)
-  step_past h t go q (Stop f) = inr (λ p q. refl)
+  step_past h t go q (Ok (s, e)) = admission-past (line_of t) (λ (past : ℕ). go past s) (q s) (admit l h (line_of t) (text_of t) e)
+  step_past h t go q (Err f) = inr (λ p q. refl)
 
   runs_past : (s : Stage) (h : Held) (ts : List Text) → OutOrNot (λ (past : ℕ). runs l past s h ts)
   unfolding runs

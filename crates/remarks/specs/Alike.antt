@@ -1,9 +1,8 @@
 -- Document 02, §10: "two files, read into tables of like lengths, that both pass faults 1 to 4, and whose lines after cutting, empty ones dropped, are the
 -- same list, get the same number and column, and tables that say the same when accepted .. The lines told, where not 0, differ only by the skipped
 -- lines before them."
-use Rattle.std.specs.Prelude.{ℕ, ◌+◌, ◌<◌, ◌≡◌, List, length}
+use Rattle.std.specs.Prelude.{ℕ, ◌+◌, ◌<◌, ◌≡◌, List, length, Ok}
 use Rattle.lines.specs.Lines.{lines_of, bytes_fault}
-use Rattle.lines.specs.declared.Bytes.TheVariants.{Clean}
 use Rattle.records.specs.declared.Lengths.{Lengths}
 use Rattle.records.specs.declared.Lending.{Lending}
 use Rattle.rules.specs.Whole.{Outcome, passed, refused, texts_of, outcome, loading}
@@ -15,8 +14,8 @@ use Rattle.remarks.specs.Counted.{list_of, line_at, skipped_before}
 -- ---- the premises
 
 pub record Alike (s t : List ℕ) : Type 0 where
-  pub passes : bytes_fault s ≡ Clean
-  pub passes_too : bytes_fault t ≡ Clean
+  pub passes : bytes_fault s ≡ Ok tt
+  pub passes_too : bytes_fault t ≡ Ok tt
   pub list : list_of s ≡ list_of t
 
 -- ---- the conclusion

@@ -1,8 +1,7 @@
 -- Document 02, §10: a file's "lines after cutting, empty ones dropped". A line stands here without its end, so LF and CR LF are alike.
-use Rattle.std.specs.Prelude.{ℕ, zero, suc, ◌+◌, ◌-◌, List, [], ◌∷◌, ◌++◌, map, cond, length, get_or}
+use Rattle.std.specs.Prelude.{ℕ, zero, suc, ◌+◌, ◌-◌, List, [], ◌∷◌, ◌++◌, map, cond, length, get_or, Ok, Err}
 use Prim.Native.Char.{code}
 use Rattle.laws.specs.Bytes.{bytes}
-use Rattle.laws.specs.Said.{says, fault}
 use Rattle.records.specs.Flaws.{Reads}
 use Rattle.lines.specs.Lines.{Physical, lines_of, cut}
 use Rattle.cut_lines.specs.Change.{is_change, change_of}
@@ -12,8 +11,8 @@ use Rattle.cut_lines.specs.InForce.{char_after_line}
 
 -- "A [Comment Char] line counts as its keyword and argument, a faulty one as the whole line"
 abbrev pub change_counts : List ℕ → Reads ℕ → List ℕ
-change_counts l (says x) = bytes "[Comment Char] " ++ (x ∷ bytes "_char")
-change_counts l (fault f) = l
+change_counts l (Ok x) = bytes "[Comment Char] " ++ (x ∷ bytes "_char")
+change_counts l (Err f) = l
 
 -- c is the comment character in force there
 unfoldable pub counts_as : ℕ → List ℕ → List ℕ

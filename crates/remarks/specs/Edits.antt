@@ -1,11 +1,9 @@
 -- What may be done to a file and changes nothing: its remarks added, changed and removed, on a [Comment Char] line too; blank lines; blanks at line ends; CR LF for LF.
-use Rattle.std.specs.Prelude.{ℕ, ◌≡◌, List, [], ◌∷◌, ◌++◌, Bool, true, false, cond, eqb}
+use Rattle.std.specs.Prelude.{ℕ, ◌≡◌, List, [], ◌∷◌, ◌++◌, Bool, true, false, cond, eqb, Ok}
 use Prim.Native.Char.{code}
 use Rattle.laws.specs.Bytes.{is_blank}
 use Rattle.laws.specs.Lists.{after}
-use Rattle.laws.specs.Said.{says}
 use Rattle.lines.specs.Lines.{Physical, lines_of, bytes_fault}
-use Rattle.lines.specs.declared.Bytes.TheVariants.{Clean}
 use Rattle.cut_lines.specs.Change.{is_change, none_or, change_of}
 use Rattle.cut_lines.specs.InForce.{char_after_lines}
 use Rattle.remarks.specs.Alike.{Unchanged}
@@ -29,9 +27,9 @@ pub data Edit (c : ℕ) : List Physical → List Physical → Type 0 where
   -- behind the text w of a line, a remark, blanks or nothing for another
   behind_text : (w q r : List ℕ) → is_change w ≡ false → is_remark c q ≡ true → is_remark c r ≡ true → Edit c (line_of (w ++ q) ∷ []) (line_of (w ++ r) ∷ [])
   -- the same behind the text w of a [Comment Char] line that sets x: a remark by the new character, with a blank before it
-  behind_change : (x : ℕ) (w q r : List ℕ) → is_change w ≡ true → change_of w ≡ says x → is_apart q ≡ true → is_remark x q ≡ true → is_apart r ≡ true → is_remark x r ≡ true → Edit c (line_of (w ++ q) ∷ []) (line_of (w ++ r) ∷ [])
+  behind_change : (x : ℕ) (w q r : List ℕ) → is_change w ≡ true → change_of w ≡ Ok x → is_apart q ≡ true → is_remark x q ≡ true → is_apart r ≡ true → is_remark x r ≡ true → Edit c (line_of (w ++ q) ∷ []) (line_of (w ++ r) ∷ [])
   -- a [Comment Char] line for another that sets the same character, however spelled
-  respelled : (x : ℕ) (v w : List ℕ) → is_change v ≡ true → change_of v ≡ says x → is_change w ≡ true → change_of w ≡ says x → Edit c (line_of v ∷ []) (line_of w ∷ [])
+  respelled : (x : ℕ) (v w : List ℕ) → is_change v ≡ true → change_of v ≡ Ok x → is_change w ≡ true → change_of w ≡ Ok x → Edit c (line_of v ∷ []) (line_of w ∷ [])
   -- a line that is blank, or a remark alone, put in, and taken out
   put_in : (r : List ℕ) → is_remark c r ≡ true → Edit c [] (line_of r ∷ [])
   taken_out : (r : List ℕ) → is_remark c r ≡ true → Edit c (line_of r ∷ []) []
@@ -54,7 +52,7 @@ EditedBy s (u ∷ us) t = Edited s u × EditedBy u us t
 
 abbrev pub EditsChangeNothing : Type 0
 EditsChangeNothing =
-    (s t : List ℕ) (us : List (List ℕ)) → EditedBy s us t → bytes_fault s ≡ Clean → bytes_fault t ≡ Clean → Unchanged s t
+    (s t : List ℕ) (us : List (List ℕ)) → EditedBy s us t → bytes_fault s ≡ Ok tt → bytes_fault t ≡ Ok tt → Unchanged s t
 
 -- ---- line ends: files with the same bytes, the CRs left out
 
@@ -64,4 +62,4 @@ without_returns (b ∷ bs) = cond (eqb b (code "\r")) (without_returns bs) (b �
 
 abbrev pub EndsChangeNothing : Type 0
 EndsChangeNothing =
-    (s t : List ℕ) → without_returns s ≡ without_returns t → bytes_fault s ≡ Clean → bytes_fault t ≡ Clean → Unchanged s t
+    (s t : List ℕ) → without_returns s ≡ without_returns t → bytes_fault s ≡ Ok tt → bytes_fault t ≡ Ok tt → Unchanged s t

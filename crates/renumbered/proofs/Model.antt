@@ -1,9 +1,9 @@
 -- A model's steps under a new numbering of lines.
+use Rattle.std.specs.Prelude.{Result, Ok, Err}
 use Prim.Native.Nat.{ℕ}
 use mathlib.Core.Path.{◌≡◌, refl, ap, ◌∙◌}
 use mathlib.Core.List.{List}
 use lib.Dec.{eqb}
-use Rattle.laws.specs.Said.{Result, says, fault}
 use Rattle.laws.proofs.Tests.{cond_map}
 use Rattle.words.specs.Words.{word, words}
 use Rattle.keywords.specs.declared.ModelPart.{ModelPart}
@@ -26,10 +26,10 @@ use Rattle.renumbered.proofs.Stages.{model_list_at, model_at, went_at, unless-at
 module _ (f : ℕ → ℕ) where
   -- ---- its lines
 
-  row_at : (on on_at : RowsSeen → ModelList) → ((r : RowsSeen) → model_list_at f (on r) ≡ on_at r) → (m : ModelState) (r : RowsSeen) (k : ℕ) (x : Result LineFault Row)
+  row_at : (on on_at : RowsSeen → ModelList) → ((r : RowsSeen) → model_list_at f (on r) ≡ on_at r) → (m : ModelState) (r : RowsSeen) (k : ℕ) (x : Result Row LineFault)
       → went_at f (row_line on m r k x) ≡ row_line on_at (model_at f m) r (f k) x
-  row_at on on_at q m r k (fault x) = refl
-  row_at on on_at q m r k (says l) = simp (refuse-at f, q)
+  row_at on on_at q m r k (Err x) = refl
+  row_at on on_at q m r k (Ok l) = simp (refuse-at f, q)
 
   waveform-line-at : (m : ModelState) (o : ℕ) (g : Given) (r : RowsSeen) (k : ℕ) (w : List ℕ)
       → went_at f (waveform_line m o g r k w) ≡ waveform_line (model_at f m) (f o) g r (f k) w

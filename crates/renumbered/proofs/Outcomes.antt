@@ -1,12 +1,12 @@
 -- The outcome under a new numbering of lines: it is the same, and what it tells is numbered anew. By induction over the texts; what is named is looked up by
 -- names and kinds alone.
+use Rattle.std.specs.Prelude.{Result, Ok, Err}
 use Prim.Native.Nat.{ℕ, ◌+◌, min}
 use mathlib.Core.Path.{◌≡◌, refl, sym, ap, ◌∙◌}
 use mathlib.Core.List.{List, [], ◌∷◌, map, reverse_aux, reverse}
 use mathlib.Core.Bool.{Bool, cond, ◌||◌}
 use lib.Dec.{eqb, leb}
 use Rattle.laws.specs.Lists.{front}
-use Rattle.laws.specs.Said.{Result, says, fault}
 use Rattle.laws.proofs.Tests.{cond_map}
 use Rattle.laws.proofs.Fronts.{front-map}
 use Rattle.line_rules.specs.Fields.{needs_no_model}
@@ -26,15 +26,14 @@ use Rattle.rules.specs.declared.Stage.{Stage}
 use Rattle.rules.specs.declared.Stage.TheVariants.{BeforeVersion, InHeader, InComponent, InSelector, InModel, AfterEnd}
 use Rattle.rules.specs.declared.Event.{Event}
 use Rattle.rules.specs.declared.Event.TheVariants.{Quiet, Opened, PinRow, ChoiceRow, WaveformOpened, TableRow, Ended}
-use Rattle.rules.specs.declared.Went.{Went}
-use Rattle.rules.specs.declared.Went.TheVariants.{On, Stop}
+use Rattle.rules.specs.Going.{Went}
 use Rattle.renumbered.proofs.Stages.{stage_at, went_at}
 use Rattle.renumbered.proofs.Steps.{on-text-at}
 use Rattle.renumbered.proofs.Told.{entry_at, held_at, outcome_at}
 
-abbrev admitted_at : (ℕ → ℕ) → Result LineFault Held → Result LineFault Held
-admitted_at f (says h) = says (held_at f h)
-admitted_at f (fault x) = fault x
+abbrev admitted_at : (ℕ → ℕ) → Result Held LineFault → Result Held LineFault
+admitted_at f (Ok h) = Ok (held_at f h)
+admitted_at f (Err x) = Err x
 
 conds-map : {X Y : Type 0} (g : X → Y) (s t : Bool) (a b c : X) → g (cond s a (cond t b c)) ≡ cond s (g a) (cond t (g b) (g c))
 conds-map g s t a b c = cond_map g s a (cond t b c) ∙ ap (cond s (g a)) (cond_map g t b c)
@@ -103,7 +102,7 @@ module _ (f : ℕ → ℕ) where
     admit-at k w (Opened Model) = admit-entry-at _
     admit-at k w PinRow = admit-entry-at _
     admit-at k w ChoiceRow = admit-entry-at _
-    admit-at k w WaveformOpened = sym (cond_map (admitted_at f) (leb (min most_waveforms l.waveforms) h.waveforms) (fault (bare 17)) (says (record { entries = h.entries; waveforms = h.waveforms + 1 })))
+    admit-at k w WaveformOpened = sym (cond_map (admitted_at f) (leb (min most_waveforms l.waveforms) h.waveforms) (Err (bare 17)) (Ok (record { entries = h.entries; waveforms = h.waveforms + 1 })))
     admit-at k w TableRow = refl
     admit-at k w (Ended x) =
         rw (count_at (is OfComponent) (λ y. refl) h.entries)
@@ -111,10 +110,10 @@ module _ (f : ℕ → ℕ) where
 
   -- ---- lines from the top
 
-  admission-at : (k : ℕ) (go go_at : Held → Outcome) → ((h : Held) → go_at (held_at f h) ≡ outcome_at f (go h)) → (r : Result LineFault Held)
+  admission-at : (k : ℕ) (go go_at : Held → Outcome) → ((h : Held) → go_at (held_at f h) ≡ outcome_at f (go h)) → (r : Result Held LineFault)
       → after_admission (f k) go_at (admitted_at f r) ≡ outcome_at f (after_admission k go r)
-  admission-at k go go_at q (says h) = q h
-  admission-at k go go_at q (fault x) = refl
+  admission-at k go go_at q (Ok h) = q h
+  admission-at k go go_at q (Err x) = refl
 
   line-at : (t : Text) → line_of (text_at f t) ≡ f (line_of t)
   line-at (plain k w) = refl
@@ -126,9 +125,9 @@ module _ (f : ℕ → ℕ) where
 
   step-at : (l : Lengths) (h : Held) (t : Text) (go go_at : Stage → Held → Outcome) → ((s : Stage) (g : Held) → go_at (stage_at f s) (held_at f g) ≡ outcome_at f (go s g)) → (w : Went)
       → after_step l (held_at f h) (text_at f t) go_at (went_at f w) ≡ outcome_at f (after_step l h t go w)
-  step-at l h t go go_at q (On s e) =
+  step-at l h t go go_at q (Ok (s, e)) =
       rw (line-at t, text_at_lem t, admit-at l h (line_of t) (text_of t) e) (admission-at (line_of t) (go s) (go_at (stage_at f s)) (q s) (admit l h (line_of t) (text_of t) e))
-  step-at l h t go go_at q (Stop x) = refl
+  step-at l h t go go_at q (Err x) = refl
 
   ended_at : (s : Stage) → is_ended (stage_at f s) ≡ is_ended s
   ended_at BeforeVersion = refl

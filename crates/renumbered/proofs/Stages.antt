@@ -1,17 +1,16 @@
 -- A reading with its lines numbered anew: stages and steps, and how the checks of one line go through that.
+use Rattle.std.specs.Prelude.{Option, Some, None, Err, Ok}
 use Prim.Native.Nat.{ℕ}
 use mathlib.Core.Path.{◌≡◌, refl}
 use mathlib.Core.List.{List}
 use mathlib.Core.Bool.{Bool}
 use lib.Dec.{eqb}
 use Rattle.laws.proofs.Tests.{cond_map}
-use Rattle.name_table.specs.declared.Found.{Found}
-use Rattle.name_table.specs.declared.Found.TheVariants.{At, Nothing}
 use Rattle.records.specs.Flaws.{Flaw}
 use Rattle.records.specs.declared.Fault.{Fault}
 use Rattle.records.specs.declared.LineFault.{LineFault}
 use Rattle.given.specs.declared.Given.{Given}
-use Rattle.rules.specs.Going.{stop, stop_at, unless, passes, refuse, named_line, and_then}
+use Rattle.rules.specs.Going.{stop, stop_at, unless, passes, refuse, named_line, and_then, Went}
 use Rattle.rules.specs.declared.HeaderState.{HeaderState}
 use Rattle.rules.specs.declared.ComponentList.{ComponentList}
 use Rattle.rules.specs.declared.ComponentList.TheVariants.{ComponentFirst, ComponentShut, PackageLines, PinRows}
@@ -22,8 +21,6 @@ use Rattle.rules.specs.declared.ModelList.TheVariants.{ModelFirst, ModelShut, Cu
 use Rattle.rules.specs.declared.ModelState.{ModelState}
 use Rattle.rules.specs.declared.Stage.{Stage}
 use Rattle.rules.specs.declared.Stage.TheVariants.{BeforeVersion, InHeader, InComponent, InSelector, InModel, AfterEnd}
-use Rattle.rules.specs.declared.Went.{Went}
-use Rattle.rules.specs.declared.Went.TheVariants.{On, Stop}
 
 -- ---- f is the new number of each line
 
@@ -65,8 +62,8 @@ abbrev pub fault_at : (ℕ → ℕ) → Fault → Fault
 fault_at f x = record { number = x.number; line = f x.line; column = x.column }
 
 abbrev pub went_at : (ℕ → ℕ) → Went → Went
-went_at f (On s e) = On (stage_at f s) e
-went_at f (Stop x) = Stop (fault_at f x)
+went_at f (Ok (s, e)) = Ok (stage_at f s, e)
+went_at f (Err x) = Err (fault_at f x)
 
 -- ---- the checks of one line
 
@@ -83,11 +80,11 @@ module _ (f : ℕ → ℕ) where
   unfolding refuse
   refuse-at t n k w = cond_map (went_at f) t (stop n k) w
 
-  pub named-at : (g : Given) (x : Found) (y : Flaw) (k : ℕ) (w : List ℕ) (on on_at : Given → Stage) → ((h : Given) → stage_at f (on h) ≡ on_at h)
+  pub named-at : (g : Given) (x : Option ℕ) (y : Flaw) (k : ℕ) (w : List ℕ) (on on_at : Given → Stage) → ((h : Given) → stage_at f (on h) ≡ on_at h)
       → went_at f (named_line g x y k w on) ≡ named_line g x y (f k) w on_at
-  named-at g Nothing y k w on on_at q = refl
-  named-at g (At i) y k w on on_at q = simp (refuse-at, passes_at, q)
+  named-at g None y k w on on_at q = refl
+  named-at g (Some i) y k w on on_at q = simp (refuse-at, passes_at, q)
 
   pub then_at : (w : Went) (g h : Stage → Went) → ((s : Stage) → went_at f (g s) ≡ h (stage_at f s)) → went_at f (and_then w g) ≡ and_then (went_at f w) h
-  then_at (On s e) g h q = q s
-  then_at (Stop x) g h q = refl
+  then_at (Ok (s, e)) g h q = q s
+  then_at (Err x) g h q = refl

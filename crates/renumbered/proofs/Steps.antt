@@ -1,8 +1,9 @@
 -- Every step under a new numbering of lines: it goes the same way, and what it tells is numbered anew. By cases, definition by definition.
+use Rattle.std.specs.Prelude.{Ok, Err}
 use Prim.Native.Nat.{ℕ}
 use mathlib.Core.Path.{◌≡◌, refl, ◌∙◌}
 use mathlib.Core.List.{List}
-use Rattle.laws.specs.Said.{Said, says, fault}
+use Rattle.laws.specs.Said.{Said}
 use Rattle.laws.proofs.Tests.{cond_map}
 use Rattle.keywords.specs.Form.{argument}
 use Rattle.keywords.specs.Carried.{key_of}
@@ -21,8 +22,7 @@ use Rattle.rules.specs.Steps.{shut, done, section_stage, opened, on_version, on_
 use Rattle.rules.specs.declared.Stage.{Stage}
 use Rattle.rules.specs.declared.Stage.TheVariants.{BeforeVersion, InHeader, InComponent, InSelector, InModel, AfterEnd}
 use Rattle.rules.specs.declared.Event.TheVariants.{Ended}
-use Rattle.rules.specs.declared.Went.{Went}
-use Rattle.rules.specs.declared.Went.TheVariants.{On}
+use Rattle.rules.specs.Going.{Went}
 use Rattle.renumbered.proofs.Stages.{stage_at, went_at, unless-at, passes_at, refuse-at, then_at}
 use Rattle.cut_lines.proofs.Renumbered.{text_at}
 use Rattle.renumbered.proofs.Header.{version-at, header-part-at, header-line-at, header-done-at, selector-line-at, selector-shut-at}
@@ -100,12 +100,12 @@ module _ (f : ℕ → ℕ) where
   on-keyword-at s k w (key.InComponent p) = in-component-at s k w p
   on-keyword-at s k w (key.InModel p) = in-model-at s k w p
   on-keyword-at s k w key.End =
-      let ended : Stage → Went = λ t. On AfterEnd (Ended (told w (no_argument (argument w)))) in
+      let ended : Stage → Went = λ t. Ok (AfterEnd, Ended (told w (no_argument (argument w)))) in
       then_at f (done k s) ended ended (λ t. refl) ∙ rw (done_at k s)
 
   keyed-at : (s : Stage) (k : ℕ) (w : List ℕ) (x : Said Keyword) → went_at f (keyed s k w x) ≡ keyed (stage_at f s) (f k) w x
-  keyed-at s k w (fault n) = refl
-  keyed-at s k w (says x) = on-keyword-at s k w x
+  keyed-at s k w (Err n) = refl
+  keyed-at s k w (Ok x) = on-keyword-at s k w x
 
   -- ---- a line
 

@@ -1,8 +1,8 @@
 -- What is read under a new numbering of lines: the header and the tables are the same. By induction over the texts; each part of a section reads no number.
+use Rattle.std.specs.Prelude.{Option, None, Some}
 use Prim.Native.Nat.{ℕ, ◌+◌}
 use mathlib.Core.Path.{◌≡◌, refl, sym, ap, ◌∙◌}
 use mathlib.Core.List.{List, [], ◌∷◌, map}
-use mathlib.Core.Option.{Option, none, some}
 use Rattle.laws.specs.Lists.{front}
 use Rattle.words.specs.Words.{word, words}
 use Rattle.cut_lines.specs.Texts.{Text, plain, change}
@@ -47,10 +47,10 @@ module _ (f : ℕ → ℕ) where
   onto-lies : (l : Laid) (n : ℕ) (w : List ℕ) (ts : List Text) → ((m : Laid) (k : ℕ) → laid_from m k (sections_in (map (text_at f) ts)) ≡ laid_from m k (sections_in ts)) → (o : Option Section)
       → laid_from l n (onto_sections w (front is_within (map (text_at f) ts)) (sections_in (map (text_at f) ts)) o) ≡ laid_from l n (onto_sections w (front is_within ts) (sections_in ts) o)
   unfolding laid_from
-  onto-lies l n w ts more none = more l n
-  onto-lies l n w ts more (some Component) = ap (λ (m : Laid). laid_from m (n + 1) (sections_in (map (text_at f) ts))) (component-lies f l n w ts) ∙ more _ (n + 1)
-  onto-lies l n w ts more (some Selector) = ap (λ (m : Laid). laid_from m (n + 1) (sections_in (map (text_at f) ts))) (selector-lies f l n (word 0 (words w)) ts) ∙ more _ (n + 1)
-  onto-lies l n w ts more (some Model) = ap (λ (m : Laid). laid_from m (n + 1) (sections_in (map (text_at f) ts))) (model-lies f l n (word 0 (words w)) ts) ∙ more _ (n + 1)
+  onto-lies l n w ts more None = more l n
+  onto-lies l n w ts more (Some Component) = ap (λ (m : Laid). laid_from m (n + 1) (sections_in (map (text_at f) ts))) (component-lies f l n w ts) ∙ more _ (n + 1)
+  onto-lies l n w ts more (Some Selector) = ap (λ (m : Laid). laid_from m (n + 1) (sections_in (map (text_at f) ts))) (selector-lies f l n (word 0 (words w)) ts) ∙ more _ (n + 1)
+  onto-lies l n w ts more (Some Model) = ap (λ (m : Laid). laid_from m (n + 1) (sections_in (map (text_at f) ts))) (model-lies f l n (word 0 (words w)) ts) ∙ more _ (n + 1)
 
   sections-lie : (l : Laid) (n : ℕ) (ts : List Text) → laid_from l n (sections_in (map (text_at f) ts)) ≡ laid_from l n (sections_in ts)
   unfolding sections_in

@@ -1,5 +1,6 @@
 -- What the laws speak of is there, by computing: a row of eight bytes and none of seven, so that eight is the most that can be said; and a file
 -- whose rows are read and laid.
+use Rattle.std.specs.Prelude.{Ok}
 use Prim.Native.Nat.{ℕ}
 use Prim.Native.Char.{code}
 use Prim.Native.String.{String, ◌++◌ as ◌++ˢ◌}
@@ -9,7 +10,6 @@ use mathlib.Core.Bool.{true, false}
 use lib.ListN.{length}
 use Rattle.laws.specs.Bytes.{bytes}
 use Rattle.lines.specs.Lines.{lines_of, fault_from, bytes_fault}
-use Rattle.lines.specs.declared.Bytes.TheVariants.{Clean}
 use Rattle.cut_lines.specs.Texts.{texts_from}
 use Rattle.rules.specs.Whole.{texts_of}
 use Rattle.rules.specs.Reading.{file_in}
@@ -38,7 +38,7 @@ five-characters = refl
 
 -- n rows stand in m bytes
 pub record Stands (s : List ℕ) (n m : ℕ) : Type 0 where
-  pub clean : fault_from 1 (lines_of s) ≡ Clean
+  pub clean : fault_from 1 (lines_of s) ≡ Ok tt
   pub rows : rows_among (texts_from (code "|") 1 (lines_of s)) ≡ n
   pub size : length s ≡ m
 
@@ -60,7 +60,7 @@ file rows =
 
 -- n rows are read, and m rows lie in the tables
 pub record Has (s : List ℕ) (n m : ℕ) : Type 0 where
-  pub clean : bytes_fault s ≡ Clean
+  pub clean : bytes_fault s ≡ Ok tt
   pub read : rows_read BeforeVersion (texts_of s) ≡ n
   pub lie : length (laid (file_in (texts_of s))).rows ≡ m
 

@@ -1,14 +1,13 @@
 -- The rows in the tables stand in lines, each in one of its own, and the first text is none of them: text by text, by what its keyword opens.
+use Rattle.std.specs.Prelude.{Ok, Err, Option, None, Some}
 use Prim.Native.Nat.{ℕ, ◌+◌, ◌≤◌}
 use mathlib.Core.Path.{◌≡◌, refl, ap}
 use mathlib.Core.List.{List, [], ◌∷◌, ◌++◌, flat_map}
 use mathlib.Core.Bool.{Bool, true, false, cond, not}
-use mathlib.Core.Option.{Option, none, some}
 use native.Mathlib.Omega.{arith}
 use lib.ListN.{length, drop, length-append}
 use Rattle.laws.specs.Bytes.{bytes}
 use Rattle.laws.specs.Lists.{front, one_of}
-use Rattle.laws.specs.Said.{says, fault}
 use Rattle.laws.proofs.Tests.{by-test, cond_yes, cond_no, cond-all}
 use Rattle.words.specs.Words.{words}
 use Rattle.keywords.specs.declared.Section.{Section}
@@ -32,8 +31,8 @@ use Rattle.room_for_rows.proofs.Lines.{behind-first}
 -- ---- a model's tables: what stands under a keyword is under no other
 
 row-onto : (r : Reads Row) (rs : List Row) → length (onto_rows r rs) ≡ cond (is_said r) 1 0 + length rs
-row-onto (says r) rs = omega arith
-row-onto (fault f) rs = omega arith
+row-onto (Ok r) rs = omega arith
+row-onto (Err f) rs = omega arith
 
 module _ (ts : List Text) where
   -- the rows of the tables from here on, and those under the last keyword
@@ -51,7 +50,7 @@ table_more t ts =
     (λ h. omega (arith, length-append (rows_in (under ts)) (flat_map rows_of (tables_in ts))))
     (λ h. omega arith)
 
-table_none : (t : Text) (ts : List Text) → key_at t ≡ none → rows_from (t ∷ ts) ≡ rows_from ts
+table_none : (t : Text) (ts : List Text) → key_at t ≡ None → rows_from (t ∷ ts) ≡ rows_from ts
 table_none t ts h = ap (λ (us : List TableIs). length (flat_map rows_of us)) (tables-skip t ts h)
 
 tables-hold : (ts : List Text) → rows_from ts + rows_under ts ≤ rows_among ts
@@ -75,15 +74,15 @@ section-holds l n w ts Selector = omega arith
 section-holds l n w ts Model = omega (arith, length-append l.rows (flat_map rows_of (tables_in ts)), tables-hold ts)
 
 -- a keyword opens no section and ends none, or opens one and so ends the one above it, or is [End]
-by-bound : (P : Option Section → Bool → Type 0) → P none false → ((o : Section) → P (some o) true) → P none true
+by-bound : (P : Option Section → Bool → Type 0) → P None false → ((o : Section) → P (Some o) true) → P None true
     → (x : Option Keyword) → P (opens x) (is_end x)
-by-bound P p q r none = p
-by-bound P p q r (some key.IbisVer) = p
-by-bound P p q r (some (key.InHeader h)) = p
-by-bound P p q r (some (key.Opens o)) = q o
-by-bound P p q r (some (key.InComponent c)) = p
-by-bound P p q r (some (key.InModel m)) = p
-by-bound P p q r (some key.End) = r
+by-bound P p q r None = p
+by-bound P p q r (Some key.IbisVer) = p
+by-bound P p q r (Some (key.InHeader h)) = p
+by-bound P p q r (Some (key.Opens o)) = q o
+by-bound P p q r (Some (key.InComponent c)) = p
+by-bound P p q r (Some (key.InModel m)) = p
+by-bound P p q r (Some key.End) = r
 
 -- the rows of the sections from ts on, and those that may stand in the section above them
 abbrev Apart : List Text → Type 0
@@ -96,8 +95,8 @@ module _ (t : Text) (ts : List Text) (apart : Apart ts) (l : Laid) (n : ℕ) whe
 
   rows-with : (x : Option Section) → rows_with x ≤ length l.rows + rows_among ts
   unfolding laid_from
-  rows-with none = omega (arith, apart l n)
-  rows-with (some o) =
+  rows-with None = omega (arith, apart l n)
+  rows-with (Some o) =
       omega
       (arith, apart (with_section l n (section_in (argument_at t) (front is_within ts) o)) (n + 1), section-holds l n (argument_at t) (front is_within ts) o)
 
@@ -116,7 +115,7 @@ module _ (t : Text) (ts : List Text) (apart : Apart ts) (l : Laid) (n : ℕ) whe
         ap (λ (b : Bool). rows_among (cond b (t ∷ front is_within ts) [])) (within-key t),
         by-bound
             (λ (x : Option Section) (b : Bool). rows_with x + rows_among (cond (not b) (t ∷ front is_within ts) []) ≤ length l.rows + rows_among (t ∷ ts))
-            (omega (arith, apart l n)) (λ o. omega (arith, rows-with (some o))) (omega (arith, rows-with none)) (key_at t),
+            (omega (arith, apart l n)) (λ o. omega (arith, rows-with (Some o))) (omega (arith, rows-with None)) (key_at t),
       )
 
 apart : (ts : List Text) → Apart ts

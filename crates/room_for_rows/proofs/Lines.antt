@@ -1,4 +1,5 @@
 -- Every text takes a byte of its own line, and a row seven more: line by line, where each line's bytes and its end are its own.
+use Rattle.std.specs.Prelude.{Ok}
 use Prim.Native.Nat.{ℕ, suc, ◌+◌, ◌*◌, ◌≤◌, ◌<◌}
 use Prim.Native.Char.{code}
 use mathlib.Core.Path.{◌≡◌}
@@ -10,7 +11,6 @@ use lib.Dec.{eqb}
 use Rattle.laws.specs.Said.{or_else}
 use Rattle.laws.proofs.Tests.{by-test, cond_yes, cond-all}
 use Rattle.lines.specs.Lines.{Physical, is_return, onto_line, lines_of, fault_from, bytes_fault, cut}
-use Rattle.lines.specs.declared.Bytes.TheVariants.{Clean}
 use Rattle.lines.proofs.Numbers.{line-sound, line_clean, others-clean, cut_short}
 use Rattle.lines.proofs.Clean.{file-passes}
 use Rattle.cut_lines.specs.Change.{is_change, change_of}
@@ -55,7 +55,7 @@ unfolding onto_texts rows_among
 onto-text k n [] ts h = omega arith
 onto-text k n (b ∷ bs) ts h = omega (arith, row-takes (b ∷ bs))
 
-texts-take : (c k : ℕ) (ls : List Physical) → fault_from k ls ≡ Clean
+texts-take : (c k : ℕ) (ls : List Physical) → fault_from k ls ≡ Ok tt
     → length (texts_from c k ls) + 7 * rows_among (texts_from c k ls) ≤ bytes_in ls
 unfolding bytes_in texts_from rows_among
 texts-take c k [] h = omega arith
@@ -84,7 +84,7 @@ unfolding rows_among
 first-takes [] n h k = omega arith
 first-takes (t ∷ ts) n h k = omega (arith, rows-fewer ts)
 
-pub behind-first : (s : List ℕ) → bytes_fault s ≡ Clean → rows_among (drop 1 (texts_of s)) < most_rows
+pub behind-first : (s : List ℕ) → bytes_fault s ≡ Ok tt → rows_among (drop 1 (texts_of s)) < most_rows
 unfolding texts_of
 behind-first s h =
     let passes = file-passes s h in

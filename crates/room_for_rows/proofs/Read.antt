@@ -1,17 +1,15 @@
 -- A step gives a row only of a line that reads as one, and none before [IBIS Ver]: by cases on the stage, past each check of `rules/specs/Steps.antt`.
+use Rattle.std.specs.Prelude.{Ok, Err, Option, None, Some}
 use Prim.Native.Nat.{ℕ, ◌+◌, ◌≤◌}
 use mathlib.Core.Path.{◌≡◌, refl}
 use mathlib.Core.List.{List, [], ◌∷◌}
 use mathlib.Core.Bool.{Bool, cond}
-use mathlib.Core.Option.{Option, none, some}
 use native.Mathlib.Omega.{arith}
 use lib.ListN.{drop}
 use lib.Dec.{eqb}
-use Rattle.laws.specs.Said.{Said, says, fault}
+use Rattle.laws.specs.Said.{Said}
 use Rattle.laws.proofs.Tests.{cond-all}
 use Rattle.words.specs.Words.{word, words}
-use Rattle.name_table.specs.declared.Found.{Found}
-use Rattle.name_table.specs.declared.Found.TheVariants.{At, Nothing}
 use Rattle.keywords.specs.Carried.{key_of}
 use Rattle.keywords.specs.declared.Keyword.{Keyword}
 use Rattle.keywords.specs.declared.Keyword.TheVariants as key
@@ -27,7 +25,7 @@ use Rattle.records.specs.declared.Fault.{Fault}
 use Rattle.records.specs.declared.LineFault.{LineFault}
 use Rattle.records.specs.declared.Row.{Row}
 use Rattle.records.specs.declared.Edge.TheVariants.{Rising}
-use Rattle.rules.specs.Going.{stop, stop_at, passes, refuse, quietly, named_line, and_then}
+use Rattle.rules.specs.Going.{stop, stop_at, passes, refuse, quietly, named_line, and_then, Went}
 use Rattle.rules.specs.Header.{version, header_part, header_line}
 use Rattle.rules.specs.Component.{component_part, component_line}
 use Rattle.rules.specs.Selector.{selector_line}
@@ -44,17 +42,15 @@ use Rattle.rules.specs.declared.ModelState.{ModelState}
 use Rattle.rules.specs.declared.Stage.{Stage}
 use Rattle.rules.specs.declared.Stage.TheVariants.{BeforeVersion, InHeader, InComponent, InSelector, InModel, AfterEnd}
 use Rattle.rules.specs.declared.Event.{Event}
-use Rattle.rules.specs.declared.Went.{Went}
-use Rattle.rules.specs.declared.Went.TheVariants.{On, Stop}
 use Rattle.room_for_rows.specs.Rows.{is_said, is_row, rows_on, rows_among, rows_said, with_rows, rows_read, ReadFit}
 use Rattle.room_for_rows.proofs.Lines.{behind-first}
 
 -- a step that refuses its line, or gives at most n rows
 data Gives (n : ℕ) : Went → Type 0 where
-  stops : {f : Fault} → Gives n (Stop f)
-  goes : {s : Stage} {e : Event} → rows_said e ≤ n → Gives n (On s e)
+  stops : {f : Fault} → Gives n (Err f)
+  goes : {s : Stage} {e : Event} → rows_said e ≤ n → Gives n (Ok (s, e))
 
-quiet : {n : ℕ} {s : Stage} {e : Event} → rows_said e ≡ 0 → Gives n (On s e)
+quiet : {n : ℕ} {s : Stage} {e : Event} → rows_said e ≡ 0 → Gives n (Ok (s, e))
 quiet {n} {s} {e} h = goes {e = e} (omega arith)
 
 -- ---- checks: what is refused gives none
@@ -74,17 +70,17 @@ module _ {n : ℕ} where
   once_gives : (t : Bool) (f : LineFault) (k : ℕ) (s : Stage) → Gives n (refuse t 8 k (passes f k (quietly s)))
   once_gives t f k s = refuse-gives t 8 k _ (passes-gives f k _ (quiet refl))
 
-  named-gives : (g : Given) (x : Found) (f : Flaw) (k : ℕ) (w : List ℕ) (on : Given → Stage) → Gives n (named_line g x f k w on)
-  named-gives g Nothing f k w on = stops
-  named-gives g (At i) f k w on = once_gives (has g i) (told w f) k (on (with g i))
+  named-gives : (g : Given) (x : Option ℕ) (f : Flaw) (k : ℕ) (w : List ℕ) (on : Given → Stage) → Gives n (named_line g x f k w on)
+  named-gives g None f k w on = stops
+  named-gives g (Some i) f k w on = once_gives (has g i) (told w f) k (on (with g i))
 
   then-gives : (x : Went) (f : Stage → Went) → ((s : Stage) → Gives n (f s)) → Gives n (and_then x f)
-  then-gives (On s e) f h = h s
-  then-gives (Stop y) f h = stops
+  then-gives (Ok (s, e)) f h = h s
+  then-gives (Err y) f h = stops
 
   within-gives : {A : Type 0} (k : ℕ) (x : Option A) (go : A → Went) → ((a : A) → Gives n (go a)) → Gives n (within k x go)
-  within-gives k none go h = stops
-  within-gives k (some a) go h = h a
+  within-gives k None go h = stops
+  within-gives k (Some a) go h = h a
 
   -- ---- keyword lines and [Comment Char] lines
 
@@ -104,8 +100,8 @@ module _ {n : ℕ} where
   keyword-gives s k w key.End = then-gives (done k s) _ (λ t. quiet refl)
 
   keyed-gives : (s : Stage) (k : ℕ) (w : List ℕ) (x : Said Keyword) → Gives n (keyed s k w x)
-  keyed-gives s k w (says x) = keyword-gives s k w x
-  keyed-gives s k w (fault m) = stops
+  keyed-gives s k w (Ok x) = keyword-gives s k w x
+  keyed-gives s k w (Err m) = stops
 
   change-gives : (s : Stage) (k : ℕ) (f : LineFault) → Gives n (on_change s k f)
   unfolding on_change
@@ -127,8 +123,8 @@ component-gives c k w (PinRows o long any) = passes-gives _ k _ (quiet refl)
 
 row_gives : (on : RowsSeen → ModelList) (m : ModelState) (r : RowsSeen) (k : ℕ) (w : List ℕ) (x : Reads Row)
     → Gives (cond (is_said x) 1 0) (row_line on m r k (told_in w x))
-row_gives on m r k w (says y) = refuse-gives _ 13 k _ (goes (omega arith))
-row_gives on m r k w (fault f) = stops
+row_gives on m r k w (Ok y) = refuse-gives _ 13 k _ (goes (omega arith))
+row_gives on m r k w (Err f) = stops
 
 model-gives : (m : ModelState) (k : ℕ) (w : List ℕ) (l : ModelList) → Gives (cond (is_row w) 1 0) (model_line m k w l)
 unfolding is_row waveform_line

@@ -1,10 +1,8 @@
 -- Document 02, "No surprise halfway through loading": "A row takes at least eight bytes of file, its line end counted. Show that no file then
 -- runs short". Said of rows that stand in lines, of rows that are read, and of rows that lie in the tables.
-use Rattle.std.specs.Prelude.{ℕ, ◌+◌, ◌*◌, ◌≤◌, ◌<◌, ◌≡◌, List, [], ◌∷◌, Bool, true, false, cond, length}
-use Rattle.laws.specs.Said.{Result, says, fault}
+use Rattle.std.specs.Prelude.{ℕ, ◌+◌, ◌*◌, ◌≤◌, ◌<◌, ◌≡◌, List, [], ◌∷◌, Bool, true, false, cond, length, Result, Ok, Err}
 use Rattle.records.specs.Bounds.{most_rows}
 use Rattle.lines.specs.Lines.{lines_of, fault_from, bytes_fault}
-use Rattle.lines.specs.declared.Bytes.TheVariants.{Clean}
 use Rattle.cut_lines.specs.Texts.{Text, plain, change, texts_from}
 use Rattle.line_rules.specs.Fields.{row_of}
 use Rattle.rules.specs.Steps.{on_text}
@@ -14,16 +12,15 @@ use Rattle.rules.specs.declared.Stage.{Stage}
 use Rattle.rules.specs.declared.Stage.TheVariants.{BeforeVersion}
 use Rattle.rules.specs.declared.Event.{Event}
 use Rattle.rules.specs.declared.Event.TheVariants.{Quiet, Opened, PinRow, ChoiceRow, WaveformOpened, TableRow, Ended}
-use Rattle.rules.specs.declared.Went.{Went}
-use Rattle.rules.specs.declared.Went.TheVariants.{On, Stop}
+use Rattle.rules.specs.Going.{Went}
 use Rattle.layout.specs.Laid.{laid}
 
 -- ---- rows that stand in lines
 
 -- something is said, and is no fault
-abbrev pub is_said : {F A : Type 0} → Result F A → Bool
-is_said (says a) = true
-is_said (fault f) = false
+abbrev pub is_said : {F A : Type 0} → Result A F → Bool
+is_said (Ok a) = true
+is_said (Err f) = false
 
 -- the text of a line that reads as a row: "A row is a number and three cells"
 unfoldable pub is_row : List ℕ → Bool
@@ -53,8 +50,8 @@ rows_said (Ended f) = 0
 
 -- the row of a line's step, if it gives one, and those behind the line; a step that refuses its line ends the reading
 abbrev pub with_rows : (Stage → ℕ) → Went → ℕ
-with_rows behind (On s e) = rows_said e + behind s
-with_rows behind (Stop f) = 0
+with_rows behind (Ok (s, e)) = rows_said e + behind s
+with_rows behind (Err f) = 0
 
 -- the rows that the steps read, from the top up to the first line that a step refuses; a name used twice or a bound passed (14, 17) would end
 -- the reading sooner
@@ -71,12 +68,12 @@ RowTakesEight = (w : List ℕ) → is_row w ≡ true → 7 ≤ length w
 -- no two rows share a byte: for any comment character c in force at the first line, also where a [Comment Char] line changes it, and whether
 -- lines are ended by LF or CR LF
 abbrev pub LinesHoldRows : Type 0
-LinesHoldRows = (c k : ℕ) (s : List ℕ) → fault_from k (lines_of s) ≡ Clean → 8 * rows_among (texts_from c k (lines_of s)) ≤ length s
+LinesHoldRows = (c k : ℕ) (s : List ℕ) → fault_from k (lines_of s) ≡ Ok tt → 8 * rows_among (texts_from c k (lines_of s)) ≤ length s
 
 -- every row that is reached, in refused files too
 abbrev pub ReadFit : Type 0
-ReadFit = (s : List ℕ) → bytes_fault s ≡ Clean → rows_read BeforeVersion (texts_of s) < most_rows
+ReadFit = (s : List ℕ) → bytes_fault s ≡ Ok tt → rows_read BeforeVersion (texts_of s) < most_rows
 
 -- every row that lies in the tables, whether the file is accepted or not
 abbrev pub LaidFit : Type 0
-LaidFit = (s : List ℕ) → bytes_fault s ≡ Clean → length (laid (file_in (texts_of s))).rows < most_rows
+LaidFit = (s : List ℕ) → bytes_fault s ≡ Ok tt → length (laid (file_in (texts_of s))).rows < most_rows

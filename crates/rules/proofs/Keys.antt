@@ -1,10 +1,10 @@
 -- Keywords by name and by case: a text has a keyword exactly if its name is that keyword's spelling.
+use Rattle.std.specs.Prelude.{Option, None, Some}
 use Prim.Native.Nat.{ℕ}
 use Prim.Native.String.{String}
 use mathlib.Core.Path.{◌≡◌, refl, sym, ap, ◌∙◌}
 use mathlib.Core.List.{List, [], ◌∷◌, ◌++◌}
 use mathlib.Core.Bool.{Bool, false, cond, not, ◌&&◌}
-use mathlib.Core.Option.{Option, none, some}
 use Rattle.laws.specs.Bytes.{bytes, is_blank}
 use Rattle.laws.specs.Lists.{eqs, front, one_of}
 use Rattle.laws.specs.Said.{or_fault}
@@ -68,23 +68,23 @@ module _ (P : Keyword → Type 0) where
 -- ---- a keyword line is one that is bracketed and well formed
 
 key_in_lem : (n : ℕ) (x : Option Keyword) → key_in (or_fault n x) ≡ x
-key_in_lem n none = refl
-key_in_lem n (some k) = refl
+key_in_lem n None = refl
+key_in_lem n (Some k) = refl
 
 is_keyed : List ℕ → Bool
 is_keyed w = is_bracketed w && is_formed w
 
-key-open : (j : ℕ) (w : List ℕ) → key_at (plain j w) ≡ cond (is_keyed w) (meaning (spelled (inside w)) carried) none
+key-open : (j : ℕ) (w : List ℕ) → key_at (plain j w) ≡ cond (is_keyed w) (meaning (spelled (inside w)) carried) None
 unfolding key_of is_keyed
 key-open j w =
     by-test (is_bracketed w)
     (λ b. by-test (is_formed w) (λ f. rw (b, f) (key_in_lem _ _)) (λ f. rw (b, f)))
     (λ b. rw b)
 
-some-none : {A : Type 0} {X : Type 0} (a : A) → some a ≡ none → X
+some-none : {A : Type 0} {X : Type 0} (a : A) → Some a ≡ None → X
 some-none a e = let z : ◌≡◌ {A = ℕ} 0 1 = cc in impossible z
 
-pub key-named : (t : Text) (k : Keyword) → key_at t ≡ some k → key_name t ≡ bytes (spelling k)
+pub key-named : (t : Text) (k : Keyword) → key_at t ≡ Some k → key_name t ≡ bytes (spelling k)
 unfolding is_keyed
 key-named (plain j w) k e =
     by-test (is_keyed w)
@@ -97,24 +97,24 @@ unfolding eqs
 spelling-some = each-keyword _ refl refl refl refl refl refl refl refl refl refl refl refl refl refl refl refl refl refl refl refl refl refl refl refl
 
 -- a text without a keyword has no keyword's name
-pub key-unnamed : (t : Text) (k : Keyword) → key_at t ≡ none → is_key (spelling k) t ≡ false
+pub key-unnamed : (t : Text) (k : Keyword) → key_at t ≡ None → is_key (spelling k) t ≡ false
 unfolding is_keyed
 key-unnamed (plain j w) k e =
     by-test (is_keyed w)
     (λ b.
     by-test (eqs (spelled (inside w)) (bytes (spelling k)))
     (λ q.
-    let known : meaning (spelled (inside w)) carried ≡ some k = ap (λ (x : List ℕ). meaning x carried) (eqs-eq _ _ q) ∙ spelling-known k in
+    let known : meaning (spelled (inside w)) carried ≡ Some k = ap (λ (x : List ℕ). meaning x carried) (eqs-eq _ _ q) ∙ spelling-known k in
     some-none k (sym known ∙ sym (cond_yes _ _ b) ∙ sym (key-open j w) ∙ e))
     (λ q. ap (λ (x : List ℕ). eqs x (bytes (spelling k))) (cond_yes _ _ b) ∙ q))
     (λ b. ap (λ (x : List ℕ). eqs x (bytes (spelling k))) (cond_no _ _ b) ∙ spelling-some k)
 key-unnamed (change j n) k e = spelling-some k
 
 -- a text's name, as one of a list of names
-pub key-one_of : (t : Text) (k : Keyword) (names : List (List ℕ)) → key_at t ≡ some k → one_of (key_name t) names ≡ one_of (bytes (spelling k)) names
+pub key-one_of : (t : Text) (k : Keyword) (names : List (List ℕ)) → key_at t ≡ Some k → one_of (key_name t) names ≡ one_of (bytes (spelling k)) names
 key-one_of t k names e = ap (λ (x : List ℕ). one_of x names) (key-named t k e)
 
-pub key-is : (t : Text) (k : Keyword) (name : String) → key_at t ≡ some k → is_key name t ≡ eqs (bytes (spelling k)) (bytes name)
+pub key-is : (t : Text) (k : Keyword) (name : String) → key_at t ≡ Some k → is_key name t ≡ eqs (bytes (spelling k)) (bytes name)
 key-is t k name e = ap (λ (x : List ℕ). eqs x (bytes name)) (key-named t k e)
 
 -- ---- the end of a section, and what a keyword opens
@@ -122,7 +122,7 @@ key-is t k name e = ap (λ (x : List ℕ). eqs x (bytes name)) (key-named t k e)
 abbrev bounds : List (List ℕ)
 bounds = words (bytes "component model_selector model end")
 
-spelling-within : (k : Keyword) → one_of (bytes (spelling k)) bounds ≡ is_end (some k)
+spelling-within : (k : Keyword) → one_of (bytes (spelling k)) bounds ≡ is_end (Some k)
 unfolding one_of eqs words grown onto_word is_blank
 spelling-within = each-keyword _ refl refl refl refl refl refl refl refl refl refl refl refl refl refl refl refl refl refl refl refl refl refl refl refl
 
@@ -131,7 +131,7 @@ abbrev pub are_spellings : List Keyword → List (List ℕ)
 are_spellings [] = []
 are_spellings (k ∷ ks) = bytes (spelling k) ∷ are_spellings ks
 
-pub none-of-spellings : (t : Text) (ks : List Keyword) → key_at t ≡ none → one_of (key_name t) (are_spellings ks) ≡ false
+pub none-of-spellings : (t : Text) (ks : List Keyword) → key_at t ≡ None → one_of (key_name t) (are_spellings ks) ≡ false
 unfolding one_of
 none-of-spellings t [] e = refl
 none-of-spellings t (k ∷ ks) e = rw (key-unnamed t k e) (none-of-spellings t ks e)
@@ -141,8 +141,8 @@ unfolding words grown onto_word is_blank
 bounds-are = refl
 
 within_by : (t : Text) (x : Option Keyword) → key_at t ≡ x → is_within t ≡ not (is_end x)
-within_by t none e = ap not (ap (one_of (key_name t)) bounds-are ∙ none-of-spellings t (Opens Component ∷ Opens Selector ∷ Opens Model ∷ End ∷ []) e)
-within_by t (some k) e = ap not (key-one_of t k bounds e ∙ spelling-within k)
+within_by t None e = ap not (ap (one_of (key_name t)) bounds-are ∙ none-of-spellings t (Opens Component ∷ Opens Selector ∷ Opens Model ∷ End ∷ []) e)
+within_by t (Some k) e = ap not (key-one_of t k bounds e ∙ spelling-within k)
 
 pub within-key : (t : Text) → is_within t ≡ not (is_end (key_at t))
 within-key t = within_by t (key_at t) refl
@@ -155,16 +155,16 @@ by_name name w ts more =
     (cond (eqs name (bytes "model_selector")) (selector (word 0 (words w)) ts ∷ more)
     (cond (eqs name (bytes "model")) (model (word 0 (words w)) ts ∷ more) more))
 
-spelling-opens : (w : List ℕ) (ts : List Text) (more : List SectionIs) (k : Keyword) → by_name (bytes (spelling k)) w ts more ≡ onto_sections w ts more (opens (some k))
+spelling-opens : (w : List ℕ) (ts : List Text) (more : List SectionIs) (k : Keyword) → by_name (bytes (spelling k)) w ts more ≡ onto_sections w ts more (opens (Some k))
 unfolding eqs
 spelling-opens w ts more = each-keyword _ refl refl refl refl refl refl refl refl refl refl refl refl refl refl refl refl refl refl refl refl refl refl refl refl
 
 section-by : (t : Text) (ts : List Text) (x : Option Keyword) → key_at t ≡ x
     → sections_in (t ∷ ts) ≡ onto_sections (argument_at t) (front is_within ts) (sections_in ts) (opens x)
 unfolding sections_in
-section-by t ts none e =
+section-by t ts None e =
     rw (key-unnamed t (Opens Component) e, key-unnamed t (Opens Selector) e, key-unnamed t (Opens Model) e)
-section-by t ts (some k) e =
+section-by t ts (Some k) e =
     ap (λ (x : List ℕ). by_name x (argument_at t) (front is_within ts) (sections_in ts)) (key-named t k e) ∙ spelling-opens _ _ _ k
 
 pub section-at : (t : Text) (ts : List Text)
@@ -174,21 +174,21 @@ section-at t ts = section-by t ts (key_at t) refl
 -- ---- what is read by name, a text more: of a text without a keyword nothing, else by its keyword
 
 module _ {A : Type 0} (read : List ℕ → List (List ℕ) → A) (x : A) (t : Text) (ts : List Text) where
-  pub says-skip : (k : Keyword) → key_at t ≡ none → key_says (spelling k) read x (t ∷ ts) ≡ key_says (spelling k) read x ts
+  pub says-skip : (k : Keyword) → key_at t ≡ None → key_says (spelling k) read x (t ∷ ts) ≡ key_says (spelling k) read x ts
   unfolding key_says
   says-skip k e = rw (key-unnamed t k e)
 
-  pub says-key : (name : String) (k : Keyword) → key_at t ≡ some k
+  pub says-key : (name : String) (k : Keyword) → key_at t ≡ Some k
       → key_says name read x (t ∷ ts) ≡ key_says name read (cond (eqs (bytes (spelling k)) (bytes name)) (read (argument_at t) (under ts)) x) ts
   unfolding key_says
   says-key name k e = rw (key-is t k name e)
 
 module _ (t : Text) (ts : List Text) where
-  pub lines-skip : (k : Keyword) → key_at t ≡ none → lines_under (spelling k) (t ∷ ts) ≡ lines_under (spelling k) ts
+  pub lines-skip : (k : Keyword) → key_at t ≡ None → lines_under (spelling k) (t ∷ ts) ≡ lines_under (spelling k) ts
   unfolding lines_under
   lines-skip k e = rw (key-unnamed t k e)
 
-  pub lines-key : (name : String) (k : Keyword) → key_at t ≡ some k
+  pub lines-key : (name : String) (k : Keyword) → key_at t ≡ Some k
       → lines_under name (t ∷ ts) ≡ cond (eqs (bytes (spelling k)) (bytes name)) (under ts) [] ++ lines_under name ts
   unfolding lines_under
   lines-key name k e = rw (key-is t k name e)

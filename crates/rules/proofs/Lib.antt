@@ -8,3 +8,5 @@ pub mod Tables
 pub mod Sanity
 pub mod Same
 pub mod Outcomes
+pub mod Went
+pub mod Fair

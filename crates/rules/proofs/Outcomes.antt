@@ -1,21 +1,21 @@
 -- Laws of `specs/Whole.antt`: what an outcome says of what led to it, by cases; and of a file that is loaded, by whether enough rows are lent.
+use Rattle.std.specs.Prelude.{Result, Ok, Err}
 use Prim.Native.Nat.{ℕ, ◌≤◌, ◌<◌}
 use mathlib.Core.Path.{◌≡◌, refl, sym, ◌∙◌}
 use mathlib.Core.Logic.{◌⊎◌, inl, inr}
 use mathlib.Core.List.{List}
 use borrow.Author.Tests.{le-leb, lt-leb}
 use Rattle.laws.proofs.Tests.{by_order, cond_yes, cond_no, impossible}
-use Rattle.lines.specs.declared.Bytes.{Bytes}
-use Rattle.lines.specs.declared.Bytes.TheVariants.{Clean, Faulty}
 use Rattle.records.specs.Bounds.{most_rows}
 use Rattle.records.specs.declared.Lending.{Lending}
+use Rattle.records.specs.declared.Fault.{Fault}
 use Rattle.rules.specs.Whole.{Held, Outcome, passed, refused, concluded, after_bytes, outcome, loading}
 
 -- ---- a file that is checked
 
-pub bytes-passed : (go : Outcome) (b : Bytes) (z : Held) → after_bytes go b ≡ passed z → (b ≡ Clean) × (go ≡ passed z)
-bytes-passed go Clean z q = (refl, q)
-bytes-passed go (Faulty x) z q = impossible (cc)
+pub bytes-passed : (go : Outcome) (b : Result (Unit {0}) Fault) (z : Held) → after_bytes go b ≡ passed z → (b ≡ Ok tt) × (go ≡ passed z)
+bytes-passed go (Ok tt) z q = (refl, q)
+bytes-passed go (Err x) z q = impossible (cc)
 
 pub concluded-passed : (o : Outcome) (z : Held) → concluded o ≡ passed z → (h : Held) × (o ≡ passed h)
 concluded-passed (passed h) z q = (h, refl)

@@ -1,8 +1,8 @@
 -- A model's tables by its keywords: a text without a keyword opens none, and a keyword opens one if its spelling is among those of the tables.
+use Rattle.std.specs.Prelude.{None, Some}
 use mathlib.Core.Path.{◌≡◌, refl, ap, ◌∙◌}
 use mathlib.Core.List.{List, [], ◌∷◌, ◌++◌}
 use mathlib.Core.Bool.{Bool, cond}
-use mathlib.Core.Option.{none, some}
 use Prim.Native.Nat.{ℕ}
 use Rattle.laws.specs.Bytes.{bytes, is_blank}
 use Rattle.laws.specs.Lists.{one_of}
@@ -34,12 +34,12 @@ abbrev pub table_under : List ℕ → List (List ℕ) → List TableIs
 table_under name ls = cond (one_of name (words (bytes table_keywords))) (record { key = name; lines = ls } ∷ []) []
 
 module _ (t : Text) (ts : List Text) where
-  pub tables-skip : key_at t ≡ none → tables_in (t ∷ ts) ≡ tables_in ts
+  pub tables-skip : key_at t ≡ None → tables_in (t ∷ ts) ≡ tables_in ts
   unfolding tables_in
   tables-skip e =
       ap (λ (is : Bool). cond is (record { key = key_name t; lines = under ts } ∷ []) [] ++ tables_in ts)
       (ap (one_of (key_name t)) tables-are ∙ none-of-spellings t table_keys e)
 
-  pub tables-key : (k : Keyword) → key_at t ≡ some k → tables_in (t ∷ ts) ≡ table_under (bytes (spelling k)) (under ts) ++ tables_in ts
+  pub tables-key : (k : Keyword) → key_at t ≡ Some k → tables_in (t ∷ ts) ≡ table_under (bytes (spelling k)) (under ts) ++ tables_in ts
   unfolding tables_in
   tables-key k e = ap (λ (name : List ℕ). table_under name (under ts) ++ tables_in ts) (key-named t k e)

@@ -1,7 +1,7 @@
 -- Document 01, "Sections": [Component] with [Manufacturer], [Package] and [Pin].
-use Rattle.std.specs.Prelude.{ℕ, List, map, Bool, true, false, cond, not, ◌&&◌, ◌||◌, length, eqb, leb}
+use Rattle.std.specs.Prelude.{ℕ, List, map, Bool, true, false, cond, not, ◌&&◌, ◌||◌, length, eqb, leb, Ok}
 use Rattle.laws.specs.Bytes.{capital}
-use Rattle.laws.specs.Said.{says, or_else}
+use Rattle.laws.specs.Said.{or_else}
 use Rattle.decimal.specs.Decimal.{cell_of}
 use Rattle.words.specs.Words.{word, words, rest_from}
 use Rattle.keywords.specs.Form.{argument}
@@ -14,14 +14,12 @@ use Rattle.records.specs.declared.Pin as pin
 use Rattle.line_rules.specs.Fields.{is_sized, is_pin_name, is_pin_model, needs_no_model, cells_by, no_argument, line_at, word_line, cells_line, heading}
 use Rattle.line_rules.specs.Tables.{component_lines, locations, package_lines}
 use Rattle.given.specs.Given.{none_given, has, gave}
-use Rattle.rules.specs.Going.{stop, passes, refuse, quietly, once, named_line}
+use Rattle.rules.specs.Going.{stop, passes, refuse, quietly, once, named_line, Went}
 use Rattle.rules.specs.declared.ComponentList.{ComponentList}
 use Rattle.rules.specs.declared.ComponentList.TheVariants.{ComponentFirst, ComponentShut, PackageLines, PinRows}
 use Rattle.rules.specs.declared.ComponentState.{ComponentState}
 use Rattle.rules.specs.declared.Stage.TheVariants.{InComponent}
 use Rattle.rules.specs.declared.Event.TheVariants.{PinRow}
-use Rattle.rules.specs.declared.Went.{Went}
-use Rattle.rules.specs.declared.Went.TheVariants.{On}
 
 -- the same with another list open
 abbrev pub with_list : ComponentState → ComponentList → ComponentState
@@ -34,7 +32,7 @@ kept_model w = cond (needs_no_model w) (map capital w) w
 
 -- the cells behind the three names; where none stand, they are missing
 unfoldable pub pin_cells : List ℕ → Reads Triple
-pin_cells v = cond (eqb (length (words v)) 0) (says no_cells) (cells_by cell_of v)
+pin_cells v = cond (eqb (length (words v)) 0) (Ok no_cells) (cells_by cell_of v)
 
 abbrev pub pin_from : List (List ℕ) → Triple → pin.Pin
 pin_from ws c =
@@ -60,7 +58,7 @@ component_line c k w ComponentFirst =
 component_line c k w ComponentShut = stop 7 k
 component_line c k w (PackageLines o g) =
     named_line g (line_at package_lines w) (flaw_in (cells_line w)) k w (λ h. InComponent (with_list c (PackageLines o h)))
-component_line c k w (PinRows o long any) = passes (told w (pin_flaw long w)) k (On (InComponent (with_list c (PinRows o long true))) PinRow)
+component_line c k w (PinRows o long any) = passes (told w (pin_flaw long w)) k (Ok (InComponent (with_list c (PinRows o long true)), PinRow))
 
 -- ---- "[Manufacturer] (1 to 40 characters), [Package], [Pin]: each once, any order"
 

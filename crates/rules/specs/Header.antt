@@ -7,10 +7,9 @@ use Rattle.keywords.specs.declared.HeaderText.TheVariants.{Date, Source, Notes, 
 use Rattle.records.specs.Flaws.{Flaw, flaw, sound, flaw_in, told}
 use Rattle.line_rules.specs.Fields.{is_file_name, is_version, alone, passing}
 use Rattle.given.specs.Given.{none_given, has}
-use Rattle.rules.specs.Going.{stop, passes, quietly, once}
+use Rattle.rules.specs.Going.{stop, passes, quietly, once, Went}
 use Rattle.rules.specs.declared.HeaderState.{HeaderState}
 use Rattle.rules.specs.declared.Stage.TheVariants.{InHeader}
-use Rattle.rules.specs.declared.Went.{Went}
 
 -- [IBIS Ver] on line k, which has the text w
 unfoldable pub version : ℕ → List ℕ → Went

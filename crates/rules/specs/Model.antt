@@ -1,8 +1,7 @@
 -- Document 01, "Sections": [Model] with its first lines, its ranges, current tables, ramp and waveforms.
-use Rattle.std.specs.Prelude.{ℕ, ◌+◌, min, List, [], ◌∷◌, Bool, true, false, cond, not, ◌&&◌, ◌||◌, eqb, leb}
+use Rattle.std.specs.Prelude.{ℕ, ◌+◌, min, List, [], ◌∷◌, Bool, true, false, cond, not, ◌&&◌, ◌||◌, eqb, leb, Result, Ok, Err}
 use Rattle.laws.specs.Bytes.{bytes, is_letter}
 use Rattle.laws.specs.Lists.{one_of}
-use Rattle.laws.specs.Said.{Result, says, fault}
 use Rattle.decimal.specs.Decimal.{less_than, offset}
 use Rattle.decimal.specs.declared.Decimal.{Decimal}
 use Rattle.decimal.specs.declared.Cell.{Cell}
@@ -22,15 +21,13 @@ use Rattle.line_rules.specs.Tables.{model_lines, capacitances, model_types, pola
 use Rattle.given.specs.Given.{none_given, has, gave}
 use Rattle.given.specs.declared.Given.{Given}
 use Rattle.rules.specs.Types.{is_input, is_driven, thresholds, is_below}
-use Rattle.rules.specs.Going.{stop, stop_at, unless, passes, refuse, quietly, once, named_line}
+use Rattle.rules.specs.Going.{stop, stop_at, unless, passes, refuse, quietly, once, named_line, Went}
 use Rattle.rules.specs.declared.RowsSeen.{RowsSeen}
 use Rattle.rules.specs.declared.ModelList.{ModelList}
 use Rattle.rules.specs.declared.ModelList.TheVariants.{ModelFirst, ModelShut, CurrentRows, RampLines, WaveformRows}
 use Rattle.rules.specs.declared.ModelState.{ModelState}
 use Rattle.rules.specs.declared.Stage.TheVariants.{InModel}
 use Rattle.rules.specs.declared.Event.TheVariants.{WaveformOpened, TableRow}
-use Rattle.rules.specs.declared.Went.{Went}
-use Rattle.rules.specs.declared.Went.TheVariants.{On}
 
 abbrev pub new_model : ℕ → ModelState
 new_model k =
@@ -86,11 +83,11 @@ abbrev pub with_row : RowsSeen → Decimal → Bool → RowsSeen
 with_row r d typ = record { count = min (r.count + 1) 1001; last = d; head = cond (eqb r.count 0) typ r.head; tail = typ }
 
 -- how a table goes on with more rows
-abbrev pub row_line : (RowsSeen → ModelList) → ModelState → RowsSeen → ℕ → Result LineFault Row → Went
-row_line on m r k (fault f) = stop_at f k
-row_line on m r k (says l) =
+abbrev pub row_line : (RowsSeen → ModelList) → ModelState → RowsSeen → ℕ → Result Row LineFault → Went
+row_line on m r k (Err f) = stop_at f k
+row_line on m r k (Ok l) =
     refuse (not (rises r l.number)) 13 k
-    (On (InModel (with_model_list m (on (with_row r l.number (is_number l.cells.typ))))) TableRow)
+    (Ok (InModel (with_model_list m (on (with_row r l.number (is_number l.cells.typ)))), TableRow))
 
 -- ---- [Ramp]: "dV/dt_r and dV/dt_f once each", "`R_load =` at most once"
 
@@ -153,7 +150,7 @@ unfoldable pub waveform_part : ModelState → ℕ → List ℕ → ModelPart →
 waveform_part m k w p =
     passes (told w (model_flaw (argument w) p)) k
     (refuse (leb 16 m.waveforms) 17 k
-    (On (InModel (with_parts m m.parts (m.waveforms + 1) (model_opens k p))) WaveformOpened))
+    (Ok (InModel (with_parts m m.parts (m.waveforms + 1) (model_opens k p)), WaveformOpened)))
 
 -- "each at most once; waveforms"
 abbrev pub model_part : ModelState → ℕ → List ℕ → ModelPart → Went

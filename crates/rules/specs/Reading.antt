@@ -1,9 +1,9 @@
 -- What document 01 reads from a file's texts: its sections in file order, what each says, and its tables.
-use Rattle.std.specs.Prelude.{ℕ, List, [], ◌∷◌, ◌++◌, map, Bool, true, false, cond, not, ◌&&◌, length, drop}
+use Rattle.std.specs.Prelude.{ℕ, List, [], ◌∷◌, ◌++◌, map, Bool, true, false, cond, not, ◌&&◌, length, drop, Ok, Err, None}
 use Prim.Native.String.{String}
 use Rattle.laws.specs.Bytes.{bytes, is_blank}
 use Rattle.laws.specs.Lists.{front, after, eqs, one_of}
-use Rattle.laws.specs.Said.{says, fault, or_else}
+use Rattle.laws.specs.Said.{or_else}
 use Rattle.decimal.specs.declared.Cell.{Cell}
 use Rattle.decimal.specs.declared.Cell.TheVariants.{Missing}
 use Rattle.words.specs.Words.{word, words}
@@ -25,8 +25,6 @@ use Rattle.records.specs.declared.Waveform.{Waveform}
 use Rattle.records.specs.declared.Edge.{Edge}
 use Rattle.records.specs.declared.Edge.TheVariants.{Rising, Falling}
 use Rattle.records.specs.declared.Location.TheVariants.{AtPin}
-use Rattle.records.specs.declared.Polarity.TheVariants.{NoPolarity}
-use Rattle.records.specs.declared.Enable.TheVariants.{NoEnable}
 use Rattle.records.specs.declared.ModelType.TheVariants.{Terminator}
 use Rattle.records.specs.declared.Model.Model.{ground}
 use Rattle.line_rules.specs.Fields.{is_bracketed, three_cells, row_of, word_line, cells_line, group_line, slopes_line, number_line, line_says}
@@ -134,8 +132,8 @@ model_in n table waveforms name ts =
       section = n;
       name = name_laid name;
       kind = kind;
-      polarity = line_says "Polarity" (word_line polarities) NoPolarity first;
-      enable = line_says "Enable" (word_line enables) NoEnable first;
+      polarity = line_says "Polarity" (word_line polarities) None first;
+      enable = line_says "Enable" (word_line enables) None first;
       comp = line_says "C_comp" cells_line no_cells first;
       split = split_says no_split first;
       vinl = t.vinl;
@@ -166,8 +164,8 @@ tables_in (t ∷ ts) =
     cond (one_of (key_name t) (words (bytes table_keywords))) (record { key = key_name t; lines = under ts } ∷ []) [] ++ tables_in ts
 
 abbrev pub onto_rows : Reads Row → List Row → List Row
-onto_rows (says r) rs = r ∷ rs
-onto_rows (fault f) rs = rs
+onto_rows (Ok r) rs = r ∷ rs
+onto_rows (Err f) rs = rs
 
 -- a waveform's named lines are no rows: their first word is no number
 unfoldable pub rows_in : List (List ℕ) → List Row

@@ -1,7 +1,6 @@
 -- When two files say the same.
-use Rattle.std.specs.Prelude.{ℕ, List, [], ◌∷◌, ◌++◌, false, cond, ◌≡◌}
+use Rattle.std.specs.Prelude.{ℕ, List, [], ◌∷◌, ◌++◌, false, cond, ◌≡◌, Option, None, Some}
 use Prim.Native.String.{String}
-use Rattle.std.proofs.Math.Option.{Option, none, some}
 use Rattle.laws.specs.Bytes.{bytes}
 use Rattle.laws.specs.Lists.{eqs, one_of}
 use Rattle.words.specs.Words.{words}
@@ -25,8 +24,8 @@ no_table key = record { given = false; rows = nowhere }
 
 -- the rows of a current table, if it is there
 unfoldable pub table_of : List TableIs → String → Option (List Row)
-table_of [] key = none
-table_of (t ∷ ts) key = cond (eqs t.key (bytes key)) (some (rows_in t.lines)) (table_of ts key)
+table_of [] key = None
+table_of (t ∷ ts) key = cond (eqs t.key (bytes key)) (Some (rows_in t.lines)) (table_of ts key)
 
 unfoldable pub waveforms_of : List TableIs → List (Waveform × List Row)
 waveforms_of [] = []

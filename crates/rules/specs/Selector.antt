@@ -1,18 +1,16 @@
 -- Document 01, "Sections": [Model Selector].
-use Rattle.std.specs.Prelude.{ℕ, List, true, not}
+use Rattle.std.specs.Prelude.{ℕ, List, true, not, Ok}
 use Rattle.records.specs.Flaws.{flaw_in, told}
 use Rattle.line_rules.specs.Fields.{is_model_name, word_by, passing}
-use Rattle.rules.specs.Going.{passes, refuse, quietly}
+use Rattle.rules.specs.Going.{passes, refuse, quietly, Went}
 use Rattle.rules.specs.declared.SelectorState.{SelectorState}
 use Rattle.rules.specs.declared.Stage.TheVariants.{InSelector}
 use Rattle.rules.specs.declared.Event.TheVariants.{ChoiceRow}
-use Rattle.rules.specs.declared.Went.{Went}
-use Rattle.rules.specs.declared.Went.TheVariants.{On}
 
 -- "rows of a model name (1 to 40) and a free description, maybe empty"
 unfoldable pub selector_line : SelectorState → ℕ → List ℕ → Went
 selector_line s k w =
-    passes (told w (flaw_in (word_by (passing is_model_name) 0 w))) k (On (InSelector (record { line = s.line; any = true })) ChoiceRow)
+    passes (told w (flaw_in (word_by (passing is_model_name) 0 w))) k (Ok (InSelector (record { line = s.line; any = true }), ChoiceRow))
 
 -- "at least one": the rows are a list, which any keyword line closes
 unfoldable pub selector_shut : SelectorState → Went

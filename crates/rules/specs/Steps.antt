@@ -1,18 +1,17 @@
 -- Document 01, "Faults", the order at a line: first what it closes, inner table before section, then the line itself.
-use Rattle.std.specs.Prelude.{ℕ, List, Bool, true, false, cond, eqb}
-use Rattle.std.proofs.Math.Option.{Option, none, some}
+use Rattle.std.specs.Prelude.{ℕ, List, Bool, true, false, cond, eqb, Ok, Err, Option, None, Some}
 use Rattle.keywords.specs.Form.{argument}
 use Rattle.keywords.specs.Carried.{key_of}
 use Rattle.keywords.specs.declared.Keyword.{Keyword}
 use Rattle.keywords.specs.declared.Keyword.TheVariants as key
 use Rattle.keywords.specs.declared.Section.{Section}
 use Rattle.keywords.specs.declared.Section.TheVariants.{Component, Selector, Model}
-use Rattle.laws.specs.Said.{Said, says, fault}
+use Rattle.laws.specs.Said.{Said}
 use Rattle.records.specs.Flaws.{Flaw, flaw, sound, flaw_in, told}
 use Rattle.records.specs.declared.LineFault.{LineFault}
 use Rattle.cut_lines.specs.Texts.{Text, plain, change}
 use Rattle.line_rules.specs.Fields.{is_sized, is_model_name, is_bracketed, alone, passing, no_argument}
-use Rattle.rules.specs.Going.{stop, unless, passes, refuse, and_then, quietly}
+use Rattle.rules.specs.Going.{stop, unless, passes, refuse, and_then, quietly, Went}
 use Rattle.rules.specs.Header.{version, header_part, header_line, header_shut, header_done}
 use Rattle.rules.specs.Component.{component_part, component_line, component_shut, component_done}
 use Rattle.rules.specs.Selector.{selector_line, selector_shut}
@@ -26,8 +25,6 @@ use Rattle.rules.specs.declared.ModelState.{ModelState}
 use Rattle.rules.specs.declared.Stage.{Stage}
 use Rattle.rules.specs.declared.Stage.TheVariants.{BeforeVersion, InHeader, InComponent, InSelector, InModel, AfterEnd}
 use Rattle.rules.specs.declared.Event.TheVariants.{Opened, Ended}
-use Rattle.rules.specs.declared.Went.{Went}
-use Rattle.rules.specs.declared.Went.TheVariants.{On}
 
 -- by what is open: nothing before [IBIS Ver], the header, a component, a selector, a model, nothing after [End]
 abbrev pub by_stage : {A : Type 0} → A → (HeaderState → A) → (ComponentState → A) → (SelectorState → A) → (ModelState → A) → A → Stage → A
@@ -40,13 +37,13 @@ by_stage before header component selector model after AfterEnd = after
 
 -- the header, the component or the model that is open
 abbrev pub header_of : Stage → Option HeaderState
-header_of s = by_stage none some (λ c. none) (λ l. none) (λ m. none) none s
+header_of s = by_stage None Some (λ c. None) (λ l. None) (λ m. None) None s
 
 abbrev pub component_of : Stage → Option ComponentState
-component_of s = by_stage none (λ h. none) some (λ l. none) (λ m. none) none s
+component_of s = by_stage None (λ h. None) Some (λ l. None) (λ m. None) None s
 
 abbrev pub model_of : Stage → Option ModelState
-model_of s = by_stage none (λ h. none) (λ c. none) (λ l. none) some none s
+model_of s = by_stage None (λ h. None) (λ c. None) (λ l. None) Some None s
 
 -- before [IBIS Ver]; after [End]
 abbrev pub is_before : Stage → Bool
@@ -90,12 +87,12 @@ section_stage k Selector = InSelector (record { line = k; any = false })
 section_stage k Model = InModel (new_model k)
 
 unfoldable pub opened : ℕ → List ℕ → Section → Went
-opened k w o = passes (told w (opened_flaw (argument w) o)) k (On (section_stage k o) (Opened o))
+opened k w o = passes (told w (opened_flaw (argument w) o)) k (Ok (section_stage k o, Opened o))
 
 -- has its place there alone: else 7
 abbrev pub within : {A : Type 0} → ℕ → Option A → (A → Went) → Went
-within k none go = stop 7 k
-within k (some a) go = go a
+within k None go = stop 7 k
+within k (Some a) go = go a
 
 -- "[IBIS Ver] is the first keyword"; "A second [IBIS Ver] is 8 in the header, 7 later"
 unfoldable pub on_version : Stage → ℕ → List ℕ → Went
@@ -108,12 +105,12 @@ on_keyword s k w (key.InHeader p) = within k (header_of s) (λ h. header_part h 
 on_keyword s k w (key.Opens o) = and_then (done k s) (λ (t : Stage). opened k w o)
 on_keyword s k w (key.InComponent p) = within k (component_of s) (λ c. component_part c k w p)
 on_keyword s k w (key.InModel p) = within k (model_of s) (λ m. model_part m k w p)
-on_keyword s k w key.End = and_then (done k s) (λ (t : Stage). On AfterEnd (Ended (told w (no_argument (argument w)))))
+on_keyword s k w key.End = and_then (done k s) (λ (t : Stage). Ok (AfterEnd, Ended (told w (no_argument (argument w)))))
 
 -- 5, 6 and 21, then the keyword
 abbrev pub keyed : Stage → ℕ → List ℕ → Said Keyword → Went
-keyed s k w (fault n) = stop n k
-keyed s k w (says key) = on_keyword s k w key
+keyed s k w (Err n) = stop n k
+keyed s k w (Ok key) = on_keyword s k w key
 
 -- ---- a line that is no keyword line
 

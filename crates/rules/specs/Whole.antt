@@ -1,11 +1,8 @@
 -- The whole file: the first fault in document 01's order, or that there is none, for given lengths of tables; and the same where rows are lent too.
-use Rattle.std.specs.Prelude.{ℕ, ◌+◌, min, List, [], ◌∷◌, reverse, cond, length, eqb, leb}
+use Rattle.std.specs.Prelude.{ℕ, ◌+◌, min, List, [], ◌∷◌, reverse, cond, length, eqb, leb, Result, Ok, Err}
 use Prim.Native.Char.{code}
-use Rattle.laws.specs.Said.{Result, says, fault}
 use Rattle.words.specs.Words.{word, words}
 use Rattle.lines.specs.Lines.{lines_of, bytes_fault}
-use Rattle.lines.specs.declared.Bytes.{Bytes}
-use Rattle.lines.specs.declared.Bytes.TheVariants.{Clean, Faulty}
 use Rattle.keywords.specs.Form.{argument}
 use Rattle.keywords.specs.declared.Section.{Section}
 use Rattle.keywords.specs.declared.Section.TheVariants.{Component, Selector, Model}
@@ -19,12 +16,12 @@ use Rattle.records.specs.declared.Kind.TheVariants.{OfComponent, OfPin, OfSelect
 use Rattle.records.specs.declared.LineFault.{LineFault}
 use Rattle.records.specs.declared.Lengths.{Lengths}
 use Rattle.records.specs.declared.Lending.{Lending}
+use Rattle.records.specs.declared.Fault.{Fault}
 use Rattle.rules.specs.declared.Stage.{Stage}
 use Rattle.rules.specs.declared.Stage.TheVariants.{BeforeVersion}
 use Rattle.rules.specs.declared.Event.{Event}
 use Rattle.rules.specs.declared.Event.TheVariants.{Quiet, Opened, PinRow, ChoiceRow, WaveformOpened, TableRow, Ended}
-use Rattle.rules.specs.declared.Went.{Went}
-use Rattle.rules.specs.declared.Went.TheVariants.{On, Stop}
+use Rattle.rules.specs.Going.{Went}
 
 -- ---- bounds: "A lent table other than the rows that is shorter than its bound has its length as the bound"
 
@@ -45,11 +42,11 @@ abbrev pub nothing_held : Held
 nothing_held = record { entries = []; waveforms = 0 }
 
 -- 14, then 17
-unfoldable pub admit_entry : Lengths → Held → Entry → Result LineFault Held
+unfoldable pub admit_entry : Lengths → Held → Entry → Result Held LineFault
 admit_entry l h e =
-    cond (is_used e.kind e.name h.entries) (fault (bare 14))
-    (cond (leb (bound l e.kind) (count (is e.kind) h.entries)) (fault (bare 17))
-    (says (record { entries = e ∷ h.entries; waveforms = h.waveforms })))
+    cond (is_used e.kind e.name h.entries) (Err (bare 14))
+    (cond (leb (bound l e.kind) (count (is e.kind) h.entries)) (Err (bare 17))
+    (Ok (record { entries = e ∷ h.entries; waveforms = h.waveforms })))
 
 -- the entry of a section's keyword line, w being its argument
 abbrev pub section_entry : ℕ → List ℕ → Section → Entry
@@ -62,18 +59,18 @@ abbrev pub row_entry : Kind → ℕ → ℕ → List ℕ → Entry
 row_entry x k n w = record { kind = x; line = k; name = word 0 (words w); names = word n (words w) }
 
 -- line k, whose text is w, adds to the file; at [End] first "no component" (9), then its own 10
-abbrev pub admit : Lengths → Held → ℕ → List ℕ → Event → Result LineFault Held
-admit l h k w Quiet = says h
+abbrev pub admit : Lengths → Held → ℕ → List ℕ → Event → Result Held LineFault
+admit l h k w Quiet = Ok h
 admit l h k w (Opened s) = admit_entry l h (section_entry k (argument w) s)
 admit l h k w PinRow = admit_entry l h (row_entry OfPin k 2 w)
 admit l h k w ChoiceRow = admit_entry l h (row_entry OfChoice k 0 w)
 admit l h k w WaveformOpened =
-    cond (leb (min most_waveforms l.waveforms) h.waveforms) (fault (bare 17))
-    (says (record { entries = h.entries; waveforms = h.waveforms + 1 }))
-admit l h k w TableRow = says h
+    cond (leb (min most_waveforms l.waveforms) h.waveforms) (Err (bare 17))
+    (Ok (record { entries = h.entries; waveforms = h.waveforms + 1 }))
+admit l h k w TableRow = Ok h
 admit l h k w (Ended f) =
-    cond (eqb (count (is OfComponent) h.entries) 0) (fault (bare 9))
-    (cond (eqb f.number 0) (says h) (fault f))
+    cond (eqb (count (is OfComponent) h.entries) 0) (Err (bare 9))
+    (cond (eqb f.number 0) (Ok h) (Err f))
 
 -- ---- lines from the top
 
@@ -91,13 +88,13 @@ line_of (plain k w) = k
 line_of (change k f) = k
 
 -- a line's own fault is told there
-abbrev pub after_admission : ℕ → (Held → Outcome) → Result LineFault Held → Outcome
-after_admission k go (says h) = go h
-after_admission k go (fault f) = refused f.number k f.column
+abbrev pub after_admission : ℕ → (Held → Outcome) → Result Held LineFault → Outcome
+after_admission k go (Ok h) = go h
+after_admission k go (Err f) = refused f.number k f.column
 
 abbrev pub after_step : Lengths → Held → Text → (Stage → Held → Outcome) → Went → Outcome
-after_step l h t go (On s e) = after_admission (line_of t) (go s) (admit l h (line_of t) (text_of t) e)
-after_step l h t go (Stop f) = refused f.number f.line f.column
+after_step l h t go (Ok (s, e)) = after_admission (line_of t) (go s) (admit l h (line_of t) (text_of t) e)
+after_step l h t go (Err f) = refused f.number f.line f.column
 
 -- past is the number of the line after the last: "A file that runs out gives 19 before anything it would close"
 unfoldable pub runs : Lengths → ℕ → Stage → Held → List Text → Outcome
@@ -121,9 +118,9 @@ concluded (refused n k c) = refused n k c
 unfoldable pub texts_of : List ℕ → List Text
 texts_of s = texts_from (code "|") 1 (lines_of s)
 
-abbrev pub after_bytes : Outcome → Bytes → Outcome
-after_bytes go Clean = go
-after_bytes go (Faulty f) = refused f.number f.line f.column
+abbrev pub after_bytes : Outcome → Result (Unit {0}) Fault → Outcome
+after_bytes go (Ok tt) = go
+after_bytes go (Err f) = refused f.number f.line f.column
 
 -- "Order: 1; then 2, 3, 4 over all lines ..; then lines from the top .. Last, 15 .., then 16"
 unfoldable pub outcome : Lengths → List ℕ → Outcome

@@ -2,7 +2,7 @@
 #![tactic(auto)]
 
 ghost use Rattle.std.specs.Prelude.{◌≡◌};
-ghost use Rattle.rules.specs.Going.{stop, stop_at};
+ghost use Rattle.rules.specs.Going.{stop, stop_at, given_once};
 
 use decimal::{Cell, Decimal};
 use given::Given;
@@ -102,7 +102,7 @@ pub enum Stage {
 }
 
 // What a line adds to the file: nothing that is counted or named; a section; a pin row; a selector row; a waveform; a table row;
-// the end, with what its own line tells.
+// the end, with what its own line tells: number 0 for none, as the definitions have it (`on_keyword` and `admit` in specs/).
 #[derive(Clone, Copy)]
 pub enum Event {
     Quiet,
@@ -115,17 +115,13 @@ pub enum Event {
 }
 
 // A line's step: the next stage and what the line adds, or the fault.
-#[derive(Clone, Copy)]
-pub enum Went {
-    On(Stage, Event),
-    Stop(Fault),
-}
+pub type Went = Result<(Stage, Event), Fault>;
 
 // Fault n, told at line k.
 pub fn stopped(n: u8, k: u64) -> Went
     ensures { result ≡ stop n k }
 {
-    Went::Stop(Fault {
+    Err(Fault {
         number: n,
         line: k,
         column: 0,
@@ -136,9 +132,20 @@ pub fn stopped(n: u8, k: u64) -> Went
 pub fn stopped_at(f: LineFault, k: u64) -> Went
     ensures { result ≡ stop_at f k }
 {
-    Went::Stop(Fault {
+    Err(Fault {
         number: f.number,
         line: k,
         column: f.column,
     })
+}
+
+// What is given with the thing at place n, which line k gives: fault 8 if it was given before, else the fault of its own check.
+pub fn once(g: Given, n: usize, k: u64, own: Result<(), LineFault>) -> Result<Given, Fault>
+    ensures { result ≡ given_once g n k own }
+{
+    if g.is_given(n) {
+        return Err(records::bare_fault(8).at_line(k));
+    }
+    records::at_line(own, k)?;
+    Ok(g.also(n))
 }

@@ -1,9 +1,9 @@
 -- The same of a model's record: it holds what the keywords so far say.
+use Rattle.std.specs.Prelude.{Some}
 use Prim.Native.Nat.{ℕ, ◌+◌, ◌-◌, ◌/◌, ◌^◌, ◌≤◌, ◌<◌}
 use mathlib.Core.Path.{◌≡◌, refl, sym, ap, ◌∙◌, subst}
 use mathlib.Core.List.{List, ◌++◌}
 use mathlib.Core.Bool.{false}
-use mathlib.Core.Option.{some}
 use native.Mathlib.Omega.{arith}
 use lib.ListN.{length}
 use borrow.Rule.Slice.PartMut.{put_mid, mid_of}
@@ -49,7 +49,7 @@ row_step b w ls =
 -- a keyword more: whatever body stands in the record, so it is written
 module _ {s : List ℕ} {c d : Cursor} {row place : ℕ} {model₀ model waves₀ waves : List ℕ} {n : ℕ} {store₀ store : List ℕ} {m : ℕ}
     (p : Fills s c d row place model₀ model waves₀ waves n store₀ store m)
-    {k : Keyword} {a z : ℕ} {o : Cursor} (l : KeyIs s d k a z o) (q : is_end (some k) ≡ false) where
+    {k : Keyword} {a z : ℕ} {o : Cursor} (l : KeyIs s d k a z o) (q : is_end (Some k) ≡ false) where
   abbrev stepped : Body
   stepped = body_step p.body k (part a z s) (under (rest s o))
 

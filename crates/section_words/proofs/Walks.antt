@@ -1,9 +1,9 @@
 -- A model written keyword by keyword: the keywords so far made a body, and their words lie over the two tables as they were.
+use Rattle.std.specs.Prelude.{Some}
 use Prim.Native.Nat.{ℕ, ◌+◌, ◌-◌, ◌^◌, ◌≤◌, ◌<◌}
 use mathlib.Core.Path.{◌≡◌, refl, ap, subst}
 use mathlib.Core.List.{List, [], ◌++◌}
 use mathlib.Core.Bool.{true, false}
-use mathlib.Core.Option.{some}
 use native.Mathlib.Omega.{arith}
 use lib.ListN.{length}
 use borrow.Rule.Slice.PartMut.{put_mid, mid_of}
@@ -59,7 +59,7 @@ module _ {s : List ℕ} {c d : Cursor} {row : ℕ} {b : Body} {waves₀ waves : 
   pub rows-length : length store ≡ length store₀
   rows-length = lies-length p.rows_lie g (rows_behind (rest s d)) (ap (λ (x : Filling ℕ). x.rows) p.follows.same)
 
-  module _ {k : Keyword} {a e : ℕ} {o : Cursor} (l : KeyIs s d k a e o) (q : is_end (some k) ≡ false) where
+  module _ {k : Keyword} {a e : ℕ} {o : Cursor} (l : KeyIs s d k a e o) (q : is_end (Some k) ≡ false) where
     abbrev wave : List ℕ
     wave = waveform_under s o k b.row
 
@@ -121,7 +121,7 @@ module _ {s : List ℕ} {c d : Cursor} {row : ℕ} {b : Body} {waves₀ waves : 
         rows = subst (Lies store₀ store m) (ap (λ (x : Filling ℕ). x.rows) e) p.rows_lie;
       }
 
-  pub walks-end : {k : Keyword} {a e : ℕ} {o : Cursor} → KeyIs s d k a e o → is_end (some k) ≡ true → All
+  pub walks-end : {k : Keyword} {a e : ℕ} {o : Cursor} → KeyIs s d k a e o → is_end (Some k) ≡ true → All
   walks-end l q = whole (follows-end (fill-fold waveform_words) p.follows l q)
 
   pub walks-out : after is_keyless (rest s d) ≡ [] → All

@@ -10,7 +10,7 @@ use Rattle.rules.specs.Reading.{under, is_within, tables_in, model_in}
 use Rattle.layout.specs.Laid.{rows_of, table_at, waveforms_laid}
 use Rattle.records.specs.Stored.{stored}
 use Rattle.records.specs.declared.Model.{Model}
-use Rattle.records.specs.declared.Name.{Name}
+use Rattle.records.specs.Texts.{Name}
 use Rattle.records.specs.declared.Model.Model.{ground}
 use Rattle.record_words.specs.Records.{model_words, waveform_words}
 use Rattle.table_rows.specs.Rows.{Lies}

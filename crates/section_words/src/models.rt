@@ -12,7 +12,7 @@ use crate::Used;
 use crate::keys::fill_key;
 use crate::puts::put_model;
 use cut_lines::Cursor;
-use lines_under::KeyNext;
+use lines_under::Key;
 use model_record::bodies::bare_body;
 use model_record::firsts::first_lines;
 use model_record::record::model_over;
@@ -39,12 +39,14 @@ fn fill_body(
     let mut words: usize = 0;
     loop {
         match lines_under::next_key(src, d) {
-            KeyNext::Key {
-                keyword,
-                start,
-                end,
-                next,
-            } => {
+            Some(
+                Key {
+                    keyword,
+                    start,
+                    end,
+                    next,
+                },
+            ) => {
                 if lines_under::ends(keyword) {
                     return Used {
                         waveforms: waves,
@@ -66,7 +68,7 @@ fn fill_body(
                 waves += filled.used.waveforms;
                 words += filled.used.rows;
             }
-            KeyNext::NoKey => {
+            None => {
                 return Used {
                     waveforms: waves,
                     rows: words,

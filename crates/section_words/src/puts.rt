@@ -20,11 +20,7 @@ pub fn put(out: &mut [u64], at: usize, words: &[u64])
     requires { at + length words.now ≤ length out.old }
     ensures { out.new ≡ sets out.old at words.now }
 {
-    let mut i = 0;
-    while i < words.len() {
-        out[at + i] = words[i];
-        i += 1;
-    }
+    out[at..at + words.len()].copy_from_slice(words);
 }
 
 // A model's lines before its tables.

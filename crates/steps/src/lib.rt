@@ -2,12 +2,12 @@
 #![tactic(auto)]
 
 ghost use Rattle.std.specs.Prelude.{◌≡◌, ◌≤◌, length, drop};
-ghost use Rattle.records.specs.Flaws.{told};
+ghost use Rattle.records.specs.Flaws.{told, checked};
 ghost use Rattle.keywords.specs.Form.{argument};
 ghost use Rattle.line_rules.specs.Fields.{no_argument};
 ghost use Rattle.keywords.specs.Answers.{ArgumentFrom};
 ghost use Rattle.keywords.specs.Carried.{key_of};
-ghost use Rattle.rules.specs.Going.{unless, and_then, quietly};
+ghost use Rattle.rules.specs.Going.{and_then, quietly};
 ghost use Rattle.rules.specs.Header.{header_part};
 ghost use Rattle.rules.specs.Component.{component_part};
 ghost use Rattle.rules.specs.Model.{model_part};
@@ -15,55 +15,30 @@ ghost use Rattle.rules.specs.Steps.{header_of, component_of, model_of, is_before
 ghost use Rattle.rules.specs.declared.Stage.{Stage};
 ghost use Rattle.rules.specs.declared.Stage.TheVariants.{AfterEnd};
 ghost use Rattle.rules.specs.declared.Event.TheVariants.{Ended};
-ghost use Rattle.rules.specs.declared.Went.TheVariants.{On};
 
-use keywords::{ComponentPart, HeaderPart, KeyRead, Keyword, ModelPart, Section};
+use keywords::{ComponentPart, HeaderPart, Keyword, ModelPart, Section};
 use named_lines::Form;
-use records::LineFault;
+use records::{LineFault, at_line};
 use rules::{Event, Stage, Went};
 
 // The next stage, with nothing added to the file.
 fn quiet(s: Stage) -> Went
     ensures { result ≡ quietly s }
 {
-    Went::On(s, Event::Quiet)
-}
-
-// The next stage, unless n is a fault, which is told at line k.
-fn quiet_unless(n: u8, k: u64, s: Stage) -> Went
-    ensures { result ≡ unless n k (quietly s) }
-{
-    if n == 0 {
-        return quiet(s);
-    }
-    rules::stopped(n, k)
+    Ok((s, Event::Quiet))
 }
 
 // Before [IBIS Ver]; after [End].
 fn is_before(s: Stage) -> bool
     ensures { result ≡ is_before s }
 {
-    match s {
-        Stage::BeforeVersion => true,
-        Stage::InHeader(_) => false,
-        Stage::InComponent(_) => false,
-        Stage::InSelector(_) => false,
-        Stage::InModel(_) => false,
-        Stage::AfterEnd => false,
-    }
+    matches!(s, Stage::BeforeVersion)
 }
 
 fn is_ended(s: Stage) -> bool
     ensures { result ≡ is_ended s }
 {
-    match s {
-        Stage::BeforeVersion => false,
-        Stage::InHeader(_) => false,
-        Stage::InComponent(_) => false,
-        Stage::InSelector(_) => false,
-        Stage::InModel(_) => false,
-        Stage::AfterEnd => true,
-    }
+    matches!(s, Stage::AfterEnd)
 }
 
 // Closes the table or list above the keyword line k.
@@ -85,37 +60,31 @@ fn close_section(k: u64, s: Stage) -> Went
     ensures { result ≡ done k s }
 {
     match s {
-        Stage::BeforeVersion => rules::stopped(7, k),
+        Stage::BeforeVersion | Stage::AfterEnd => rules::stopped(7, k),
         Stage::InHeader(h) => {
-            let line = h.line;
-            quiet_unless(header_steps::header_done(h), line, Stage::InHeader(h))
+            at_line(header_steps::header_done(h), h.line)?;
+            quiet(s)
         }
         Stage::InComponent(c) => {
-            let line = c.line;
-            quiet_unless(
-                component_steps::component_done(c),
-                line,
-                Stage::InComponent(c),
-            )
+            at_line(component_steps::component_done(c), c.line)?;
+            quiet(s)
         }
-        Stage::InSelector(c) => quiet(Stage::InSelector(c)),
+        Stage::InSelector(_) => quiet(s),
         Stage::InModel(m) => {
-            let line = m.line;
-            quiet_unless(model_steps::model_done(m), line, Stage::InModel(m))
+            at_line(model_steps::model_done(m), m.line)?;
+            quiet(s)
         }
-        Stage::AfterEnd => rules::stopped(7, k),
     }
 }
 
 // What is wrong with the argument of a section's keyword, which begins at a place.
-fn section_fault(w: &[u8], at: usize, o: Section) -> LineFault
+fn section_fault(w: &[u8], at: usize, o: Section) -> Result<(), LineFault>
     requires { at ≤ length w.now }
-    ensures { result ≡ told w.now (opened_flaw (drop at w.now) o) }
+    ensures { result ≡ checked (told w.now (opened_flaw (drop at w.now) o)) }
 {
     match o {
         Section::Component => named_lines::sized_fault(w, at, 40),
-        Section::Selector => named_lines::argument_fault(w, at, Form::ModelName),
-        Section::Model => named_lines::argument_fault(w, at, Form::ModelName),
+        Section::Selector | Section::Model => named_lines::argument_fault(w, at, Form::ModelName),
     }
 }
 
@@ -135,11 +104,8 @@ fn open_section(k: u64, w: &[u8], at: usize, o: Section) -> Went
     requires { ArgumentFrom w.now at }
     ensures { result ≡ opened k w.now o }
 {
-    let fault = section_fault(w, at, o);
-    if fault.number != 0 {
-        return rules::stopped_at(fault, k);
-    }
-    Went::On(section_stage(k, o), Event::Opened(o))
+    at_line(section_fault(w, at, o), k)?;
+    Ok((section_stage(k, o), Event::Opened(o)))
 }
 
 // [IBIS Ver], the first or a second one.
@@ -192,24 +158,19 @@ fn section_key(s: Stage, k: u64, w: &[u8], at: usize, o: Section) -> Went
     requires { ArgumentFrom w.now at }
     ensures { result ≡ and_then (done k s) (λ (t : Stage). opened k w.now o) }
 {
-    match close_section(k, s) {
-        Went::On(_, _) => open_section(k, w, at, o),
-        Went::Stop(f) => Went::Stop(f),
-    }
+    close_section(k, s)?;
+    open_section(k, w, at, o)
 }
 
 // The last section closes, and the file ends.
 fn end_key(s: Stage, k: u64, w: &[u8], at: usize) -> Went
     requires { ArgumentFrom w.now at }
-    ensures { result ≡ and_then (done k s) (λ (t : Stage). On AfterEnd (Ended (told w.now (no_argument (argument w.now))))) }
+    ensures { result ≡ and_then (done k s) (λ (t : Stage). Ok (AfterEnd, Ended (told w.now (no_argument (argument w.now))))) }
 {
-    match close_section(k, s) {
-        Went::On(_, _) => Went::On(
-            Stage::AfterEnd,
-            Event::Ended(named_lines::surplus_fault(w, at)),
-        ),
-        Went::Stop(fault) => Went::Stop(fault),
-    }
+    close_section(k, s)?;
+    let fault = named_lines::surplus_fault(w, at).err();
+    let told = fault.unwrap_or(records::bare_fault(0));
+    Ok((Stage::AfterEnd, Event::Ended(told)))
 }
 
 fn on_keyword(s: Stage, k: u64, w: &[u8], at: usize, key: Keyword) -> Went
@@ -231,10 +192,8 @@ fn keyword_line(s: Stage, k: u64, w: &[u8]) -> Went
     ensures { result ≡ keyed s k w.now (key_of w.now) }
 {
     match keywords::key_of(w) {
-        KeyRead::Known { keyword, argument } => on_keyword(s, k, w, argument, keyword),
-        KeyRead::Gap => rules::stopped(6, k),
-        KeyRead::Slip => rules::stopped(21, k),
-        KeyRead::Malformed => rules::stopped(5, k),
+        Ok((keyword, argument)) => on_keyword(s, k, w, argument, keyword),
+        Err(fault) => rules::stopped(fault.number(), k),
     }
 }
 
@@ -243,12 +202,11 @@ fn on_line(s: Stage, k: u64, w: &[u8]) -> Went
     ensures { result ≡ on_line s k w.now }
 {
     match s {
-        Stage::BeforeVersion => rules::stopped(7, k),
+        Stage::BeforeVersion | Stage::AfterEnd => rules::stopped(7, k),
         Stage::InHeader(h) => header_steps::header_line(h, k),
         Stage::InComponent(c) => component_steps::component_line(c, k, w),
         Stage::InSelector(c) => component_steps::selector_line(c, k, w),
         Stage::InModel(m) => model_steps::model_line(m, k, w),
-        Stage::AfterEnd => rules::stopped(7, k),
     }
 }
 
@@ -259,13 +217,11 @@ pub fn on_plain(s: Stage, k: u64, w: &[u8]) -> Went
     if !named_lines::bracketed(w) {
         return on_line(s, k, w);
     }
-    match shut_list(k, s) {
-        Went::On(t, _) => keyword_line(t, k, w),
-        Went::Stop(fault) => Went::Stop(fault),
-    }
+    let (t, _) = shut_list(k, s)?;
+    keyword_line(t, k, w)
 }
 
-// A [Comment Char] line with its fault, or none.
+// A [Comment Char] line with its fault, number 0 for none, as `on_change` of the rules has it.
 pub fn on_change(s: Stage, k: u64, fault: LineFault) -> Went
     ensures { result ≡ on_change s k fault }
 {

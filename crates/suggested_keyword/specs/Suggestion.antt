@@ -1,10 +1,8 @@
 -- The keyword that a person may have meant by one that nobody has: the nearest of the hierarchy, if one is within two letters.
-use Rattle.std.specs.Prelude.{ℕ, List, [], ◌∷◌, ◌++◌, map}
+use Rattle.std.specs.Prelude.{ℕ, List, [], ◌∷◌, ◌++◌, map, Option, Some, None}
 use Prim.Native.String.{String}
 use Rattle.laws.specs.Bytes.{bytes}
 use Rattle.words.specs.Words.{word}
-use Rattle.name_table.specs.declared.Found.{Found}
-use Rattle.name_table.specs.declared.Found.TheVariants.{At, Nothing}
 use Rattle.near_names.specs.Near.{nearest}
 use Rattle.hierarchy.specs.Hierarchy.{hierarchy}
 use Rattle.keywords.specs.Form.{inside, spelled}
@@ -38,9 +36,9 @@ written_names = map bytes written
 unfoldable pub question : ℕ → List ℕ
 question k = bytes " Did you mean [" ++ word k written_names ++ bytes "]?"
 
-abbrev pub asked : Found → List ℕ
-asked Nothing = []
-asked (At k) = question k
+abbrev pub asked : Option ℕ → List ℕ
+asked None = []
+asked (Some k) = question k
 
 -- of a line that begins with a keyword in brackets
 unfoldable pub suggestion : List ℕ → List ℕ

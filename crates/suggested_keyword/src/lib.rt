@@ -1,14 +1,13 @@
 // The keyword that a person may have meant by one that nobody has, as a question in a lent buffer.
 #![tactic(auto)]
 
-ghost use Rattle.text_buffer.specs.Put.{Put};
+ghost use Rattle.text_buffer.specs.Pages.{Writes};
 ghost use Rattle.near_names.specs.Near.{nearest};
 ghost use Rattle.hierarchy.specs.Hierarchy.{hierarchy};
 ghost use Rattle.keywords.specs.Form.{spelled};
 ghost use Rattle.suggested_keyword.specs.Suggestion.{question, asked, suggestion};
 
-use name_table::Found;
-use text_buffer::{put_bytes, put_part};
+use text_buffer::Page;
 
 // The keywords as the standard writes them, a line each, in the order of `hierarchy::NAMES`.
 const WRITTEN: [u8; 1525] = *b"\
@@ -33,31 +32,31 @@ const WRITTEN: [u8; 1525] = *b"\
     Test Data\nTest Load\nTTgnd\nTTpower\nVoltage Range";
 
 // The question for the keyword at a place, from 0.
-fn put_question(out: &mut [u8], at: usize, k: usize) -> usize
-    ensures { Put out.old out.new at (question k) result }
+fn put_question(page: &mut Page, k: usize)
+    ensures { Writes page.old page.new (question k) }
 {
-    let label = put_bytes(out, at, b" Did you mean [");
-    let name = put_part(out, label, &WRITTEN, b'\n', k);
-    put_bytes(out, name, b"]?")
+    page.put_bytes(b" Did you mean [");
+    page.put_part(&WRITTEN, b'\n', k);
+    page.put_bytes(b"]?");
 }
 
 // The question for the nearest keyword, if there is one.
-fn put_nearest(out: &mut [u8], at: usize, w: &[u8]) -> usize
-    ensures { Put out.old out.new at (asked (nearest (spelled w.now) hierarchy)) result }
+fn put_nearest(page: &mut Page, w: &[u8])
+    ensures { Writes page.old page.new (asked (nearest (spelled w.now) hierarchy)) }
 {
-    match near_names::nearest(w, &hierarchy::NAMES) {
-        Found::At(k) => put_question(out, at, k),
-        Found::Nothing => put_bytes(out, at, b""),
+    if let Some(k) = near_names::nearest(w, &hierarchy::NAMES) {
+        put_question(page, k);
     }
 }
 
 // The question for a line that begins with a keyword in brackets; nothing where no keyword is near.
-pub fn put_suggestion(out: &mut [u8], at: usize, line: &[u8]) -> usize
-    ensures { Put out.old out.new at (suggestion line.now) result }
+pub fn put_suggestion(page: &mut Page, line: &[u8])
+    ensures { Writes page.old page.new (suggestion line.now) }
 {
-    if line.len() == 0 {
-        return put_nearest(out, at, line);
+    if line.is_empty() {
+        put_nearest(page, line);
+    } else {
+        let stop = words::find(line, 1, b']');
+        put_nearest(page, &line[1..stop]);
     }
-    let stop = words::find(line, 1, b']');
-    put_nearest(out, at, &line[1..stop])
 }

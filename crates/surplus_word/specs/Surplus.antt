@@ -1,13 +1,11 @@
 -- A word is too many exactly if the line is no 10 without it and what follows it: asked of the reader itself.
-use Rattle.std.specs.Prelude.{ℕ, ◌+◌, ◌-◌, List, Bool, false, cond, not, ◌&&◌, eqb, ltb, length, replicate}
+use Rattle.std.specs.Prelude.{ℕ, ◌+◌, ◌-◌, List, Bool, false, cond, not, ◌&&◌, eqb, ltb, length, replicate, Result, Ok, Err}
 use Prim.Native.Char.{code}
 use Rattle.std.proofs.lemmas.List.Edits.{sets}
 use Rattle.laws.specs.Bytes.{is_blank}
 use Rattle.laws.specs.Lists.{front, part}
 use Rattle.records.specs.declared.Fault.{Fault}
 use Rattle.records.specs.declared.Lengths.{Lengths}
-use Rattle.records.specs.declared.Verdict.{Verdict}
-use Rattle.records.specs.declared.Verdict.TheVariants.{Accepted, Refused}
 use Rattle.words.specs.declared.Word.{Word}
 use Rattle.lines.specs.Places.{line_from}
 use Rattle.file_answer.specs.Answered.{answer_of}
@@ -29,9 +27,9 @@ unfoldable pub blanked : List ℕ → Word → List ℕ
 blanked s r = sets s r.start (replicate (r.end - r.start) (code " "))
 
 -- 10 is told at this line
-abbrev pub is_ten : ℕ → Verdict → Bool
-is_ten line Accepted = false
-is_ten line (Refused f) = eqb f.number 10 && eqb f.line line
+abbrev pub is_ten : ℕ → Result (Unit {0}) Fault → Bool
+is_ten line (Ok tt) = false
+is_ten line (Err f) = eqb f.number 10 && eqb f.line line
 
 -- l are the lengths of the tables that would be lent
 unfoldable pub is_surplus : Lengths → List ℕ → Fault → Bool

@@ -4,22 +4,16 @@
 ghost use Rattle.std.specs.Prelude.{◌≡◌, ◌-◌, ◌≤◌, length};
 ghost use Rattle.surplus_word.specs.Surplus.{rest_in, rest_at, blanked, is_ten, is_surplus};
 
-use records::{Fault, Lengths, Verdict};
+use records::{Fault, Lengths};
+use text_buffer::Page;
 use words::Word;
-
-// n - 1, and 0 for 0.
-fn less_one(n: u64) -> u64
-    ensures { result ≡ n - 1 }
-{
-    if n == 0 { 0 } else { n - 1 }
-}
 
 // The place of a column in a line, if a word stands before it and something at it; else the line's end.
 fn rest_in(line: &[u8], column: u64) -> usize
     ensures value { result ≡ rest_in line.now column }
     ensures upper_bound { result ≤ length line.now }
 {
-    let place = less_one(column);
+    let place = column.saturating_sub(1);
     let first = words::skip_blanks(line, 0);
     if place <= first as u64 {
         return line.len();
@@ -34,22 +28,31 @@ fn rest_in(line: &[u8], column: u64) -> usize
 fn find_rest(src: &[u8], fault: Fault) -> Word
     ensures { result ≡ rest_at src.now fault }
 {
-    let start = refusal_text::places::skip_lines(src, less_one(fault.line));
+    let start = refusal_text::places::skip_lines(src, fault.line.saturating_sub(1));
     let line = lines::line_at(src, start);
-    let end = line.end;
-    let place = rest_in(&src[start..end], fault.column);
+    let place = rest_in(&src[start..line.end], fault.column);
     Word {
         start: start + place,
-        end: end,
+        end: line.end,
     }
 }
 
-fn is_ten(verdict: Verdict, line: u64) -> bool
+// Blanks where a word lies.
+fn put_blanks(file: &mut [u8], word: Word)
+    ensures { file.new ≡ blanked file.old word }
+{
+    if word.start < word.end {
+        let mut page = Page::at(file, word.start);
+        page.put_repeated(b' ', word.end - word.start);
+    }
+}
+
+fn is_ten(verdict: Result<(), Fault>, line: u64) -> bool
     ensures { result ≡ is_ten line verdict }
 {
     match verdict {
-        Verdict::Accepted => false,
-        Verdict::Refused(f) => {
+        Ok(()) => false,
+        Err(f) => {
             if f.number != 10 {
                 return false;
             }
@@ -64,13 +67,9 @@ pub fn is_surplus(file: &mut [u8], l: Lengths, fault: Fault) -> bool
     ensures file_after { file.new ≡ blanked file.old (rest_at file.old fault) }
 {
     let rest = find_rest(file, fault);
-    let start = rest.start;
-    let end = rest.end;
-    if end <= start {
+    if rest.end <= rest.start {
         return false;
     }
-    text_buffer::put_repeated(file, start, b' ', end - start);
-    let answer = file_answer::check(file, l);
-    let verdict = answer.verdict;
-    !is_ten(verdict, fault.line)
+    put_blanks(file, rest);
+    !is_ten(file_answer::check(file, l).verdict, fault.line)
 }

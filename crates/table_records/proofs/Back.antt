@@ -1,4 +1,5 @@
 -- What was written comes back: the values in a record's words. A byte by its place in its word, a case by its number.
+use Rattle.std.specs.Prelude.{Some, None, Option}
 use Prim.Native.Nat.{ℕ, zero, suc, ◌+◌, ◌*◌, ◌^◌, ◌/◌, ◌%◌, ◌≤◌, ◌<◌}
 use mathlib.Core.Path.{◌≡◌, refl, sym, ap, ap₂, ◌∙◌}
 use mathlib.Core.Bool.{Bool, true, false}
@@ -10,13 +11,12 @@ use lib.Seq.{take_all, take-suc}
 use Rattle.records.specs.declared.Location.{Location}
 use Rattle.records.specs.declared.Location.TheVariants.{AtPin, AtDie}
 use Rattle.records.specs.declared.Polarity.{Polarity}
-use Rattle.records.specs.declared.Polarity.TheVariants.{NoPolarity, Inverting, NonInverting}
+use Rattle.records.specs.declared.Polarity.TheVariants.{Inverting, NonInverting}
 use Rattle.records.specs.declared.Enable.{Enable}
-use Rattle.records.specs.declared.Enable.TheVariants.{NoEnable, ActiveHigh, ActiveLow}
+use Rattle.records.specs.declared.Enable.TheVariants.{ActiveHigh, ActiveLow}
 use Rattle.records.specs.declared.Edge.{Edge}
 use Rattle.records.specs.declared.Edge.TheVariants.{Rising, Falling}
-use Rattle.records.specs.declared.Name.{Name}
-use Rattle.records.specs.declared.Words.{Words}
+use Rattle.records.specs.Texts.{Name, Words}
 use Rattle.laws.specs.Eights.{byte_in, bytes_from}
 use Rattle.record_words.specs.Values.{eight_at, flag_number, location_number, polarity_number, enable_number, edge_number}
 use Rattle.record_words.specs.Records.{name_words, text_words}
@@ -36,17 +36,17 @@ unfolding location_in
 location-back AtPin = refl
 location-back AtDie = refl
 
-pub polarity-back : (p : Polarity) → polarity_in (polarity_number p) ≡ p
+pub polarity-back : (p : Option Polarity) → polarity_in (polarity_number p) ≡ p
 unfolding polarity_in
-polarity-back NoPolarity = refl
-polarity-back Inverting = refl
-polarity-back NonInverting = refl
+polarity-back None = refl
+polarity-back (Some Inverting) = refl
+polarity-back (Some NonInverting) = refl
 
-pub enable-back : (e : Enable) → enable_in (enable_number e) ≡ e
+pub enable-back : (e : Option Enable) → enable_in (enable_number e) ≡ e
 unfolding enable_in
-enable-back NoEnable = refl
-enable-back ActiveHigh = refl
-enable-back ActiveLow = refl
+enable-back None = refl
+enable-back (Some ActiveHigh) = refl
+enable-back (Some ActiveLow) = refl
 
 pub edge-back : (e : Edge) → edge_in (edge_number e) ≡ e
 unfolding edge_in

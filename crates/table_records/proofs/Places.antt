@@ -1,10 +1,10 @@
 -- Where the record at a place lies: by division.
-use Prim.Native.Nat.{ℕ, zero, suc, ◌+◌, ◌*◌, ◌/◌, ◌≤◌, ◌<◌}
+use Prim.Native.Nat.{ℕ, suc, ◌+◌, ◌*◌, ◌/◌, ◌≤◌, ◌<◌}
 use mathlib.Core.Path.{◌≡◌, refl, ap, ◌∙◌}
-use mathlib.Core.List.{List, [], ◌∷◌}
-use native.Mathlib.Nat.{mul-le-mul_right, div-mul-le_self, suc-mul, div-zero, not-suc-le-zero, le_of_suc-le-suc}
+use mathlib.Core.List.{List, []}
+use native.Mathlib.Nat.{mul-le-mul_right, div-mul-le_self, suc-mul, div-zero}
 use native.Mathlib.Omega.{arith}
-use lib.ListN.{length, take, drop, get_or}
+use lib.ListN.{length, take, drop}
 use borrow.Author.Tests.{lt-ltb, le-ltb}
 use Rattle.table_records.specs.Values.{record_at}
 
@@ -23,9 +23,3 @@ record-none size t k h = rw (le-ltb k (length t / size) h) refl
 
 pub no_size : (size : ℕ) (t : List ℕ) (k : ℕ) → size ≡ 0 → record_at size t k ≡ []
 no_size size t k e = record-none size t k (omega (arith, ap (λ (n : ℕ). length t / n) e ∙ div-zero (length t)))
-
--- where an element is there, the one that stands for none is not asked for
-pub get_d_any : (l : List ℕ) (i d e : ℕ) → i < length l → get_or l i d ≡ get_or l i e
-get_d_any [] i d e h = absurd (not-suc-le-zero h)
-get_d_any (x ∷ l) zero d e h = refl
-get_d_any (x ∷ l) (suc i) d e h = get_d_any l i d e (le_of_suc-le-suc h)

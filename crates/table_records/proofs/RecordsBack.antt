@@ -1,4 +1,5 @@
 -- What was written comes back: each record's words are read as the record, by its fields; and the record at a place, among records of so many words each.
+use Rattle.std.specs.Prelude.{Some}
 use Prim.Native.Nat.{ℕ}
 use mathlib.Core.Path.{◌≡◌, refl, sym, ap₂}
 use mathlib.Core.Bool.{Bool}
@@ -27,7 +28,6 @@ use Rattle.records.specs.declared.Split.{Split}
 use Rattle.records.specs.declared.RampTable.{RampTable}
 use Rattle.record_words.specs.Values.{dividend_word, divisor_word}
 use Rattle.record_words.specs.Records.{span_words, triple_words, range_words, slope_words, ramp_words, table_words, component_words, pin_words, selector_words, choice_words, model_words, waveform_words}
-use Rattle.table_records.specs.declared.StoredRow.TheVariants.{Kept}
 use Rattle.table_records.specs.Values.{cell_at, slope_in}
 use Rattle.table_records.specs.Records.{span_from, triple_from, slopes_from, table_from, range_from, split_from, ramp_from, component_from, pin_from, selector_from, choice_from, model_from, waveform_from, row_from}
 use Rattle.table_records.specs.Fine.{FineTriple, FineSplit, FineSlope, FineSlopes, FineComponent, FinePin, FineSelector, FineChoice, FineModel, FineWaveform, FineRow}
@@ -82,7 +82,7 @@ waveform-back w f =
     sym (waveform-is (waveform_words w) _ _ _ _ _ _ _ _ _ _ _ (sym (edge-back w.edge)) (sym (kept w.rfixture f.rfixture)) (sym (kept w.vfixture f.vfixture)) (sym (kept w.vmin f.vmin)) (sym (kept w.vmax f.vmax))
     (sym (kept w.cfixture f.cfixture)) (sym (kept w.lfixture f.lfixture)) (sym (kept w.rdut f.rdut)) (sym (kept w.ldut f.ldut)) (sym (kept w.cdut f.cdut)) (sym (span-back w.rows _)))
 
-pub row_back : (r : Row) → FineRow r → row_from (row_words r) ≡ Kept r
+pub row_back : (r : Row) → FineRow r → row_from (row_words r) ≡ Some r
 unfolding row_from cell_at triple_from
 row_back r f = rw (kept (Number r.number) f.number, kept r.cells.typ f.cells.typ, kept r.cells.min f.cells.min, kept r.cells.max f.cells.max) refl
 

@@ -7,8 +7,7 @@ use Rattle.records.specs.declared.RampCell.TheVariants.{Ratio, Absent}
 use Rattle.records.specs.declared.RampTriple.{RampTriple}
 use Rattle.records.specs.declared.Split.{Split}
 use Rattle.records.specs.declared.Row.{Row}
-use Rattle.records.specs.declared.Name.{Name}
-use Rattle.records.specs.declared.Words.{Words}
+use Rattle.records.specs.Texts.{Name, Words}
 use Rattle.records.specs.declared.Component.{Component}
 use Rattle.records.specs.declared.Pin.{Pin}
 use Rattle.records.specs.declared.Selector.{Selector}

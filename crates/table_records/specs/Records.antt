@@ -1,5 +1,5 @@
 -- Records read back from their words, in the order of their fields.
-use Rattle.std.specs.Prelude.{ℕ, min, List, drop}
+use Rattle.std.specs.Prelude.{ℕ, ◌/◌, min, List, drop, Option, Some, None}
 use Rattle.laws.specs.Eights.{bytes_from}
 use Rattle.decimal.specs.declared.Cell.{Cell}
 use Rattle.decimal.specs.declared.Cell.TheVariants.{Number, Missing}
@@ -10,8 +10,8 @@ use Rattle.records.specs.declared.Range.{Range}
 use Rattle.records.specs.declared.Split.{Split}
 use Rattle.records.specs.declared.Span.{Span}
 use Rattle.records.specs.declared.Table.{Table}
-use Rattle.records.specs.declared.Name.{Name}
-use Rattle.records.specs.declared.Words.{Words}
+use Rattle.records.specs.declared.Text.{Text}
+use Rattle.records.specs.Texts.{Name, Words}
 use Rattle.records.specs.declared.Component.{Component}
 use Rattle.records.specs.declared.Pin.{Pin}
 use Rattle.records.specs.declared.Selector.{Selector}
@@ -19,19 +19,22 @@ use Rattle.records.specs.declared.Choice.{Choice}
 use Rattle.records.specs.declared.Model.{Model}
 use Rattle.records.specs.declared.Waveform.{Waveform}
 use Rattle.records.specs.declared.Model.Model.{ground}
-use Rattle.table_records.specs.declared.StoredRow.{StoredRow}
-use Rattle.table_records.specs.declared.StoredRow.TheVariants.{Kept, NoRow}
+use Rattle.records.specs.declared.Row.{Row}
 use Rattle.table_records.specs.Values.{number_at, cell_at, flag_in, location_in, polarity_in, enable_in, edge_in, type_in, slope_in}
 
 -- ---- parts of records
 
--- 40 bytes in five words, and how many of them are the name's
-unfoldable pub name_from : List ℕ → Name
-name_from ws = record { bytes = bytes_from ws 40; len = min (number_at ws 5) 40 }
+-- n bytes, eight to a word, and behind them how many of them are the text's
+abbrev pub text_in : (n : ℕ) → List ℕ → Text n
+text_in n ws = record { bytes = bytes_from ws n; len = min (number_at ws (n / 8)) n }
 
--- 120 bytes in fifteen words, and how many of them are the text's
+-- 40 bytes in five words
+unfoldable pub name_from : List ℕ → Name
+name_from ws = text_in 40 ws
+
+-- 120 bytes in fifteen words
 unfoldable pub text_from : List ℕ → Words
-text_from ws = record { bytes = bytes_from ws 120; len = min (number_at ws 15) 120 }
+text_from ws = text_in 120 ws
 
 unfoldable pub span_from : List ℕ → Span
 span_from ws = record { start = number_at ws 0; count = number_at ws 1 }
@@ -125,9 +128,9 @@ waveform_from ws =
     }
 
 -- a row's first word is a number
-abbrev pub as_row : Cell → Triple → StoredRow
-as_row (Number d) t = Kept (record { number = d; cells = t })
-as_row Missing t = NoRow
+abbrev pub as_row : Cell → Triple → Option Row
+as_row (Number d) t = Some (record { number = d; cells = t })
+as_row Missing t = None
 
-unfoldable pub row_from : List ℕ → StoredRow
+unfoldable pub row_from : List ℕ → Option Row
 row_from ws = as_row (cell_at ws 0) (triple_from (drop 1 ws))

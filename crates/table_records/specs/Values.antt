@@ -1,5 +1,5 @@
 -- Values read back from the words of a record, from its front on. A word that is not there is 0, a cell that is not there is missing.
-use Rattle.std.specs.Prelude.{ℕ, ◌*◌, ◌/◌, Bool, cond, not, List, [], ◌∷◌, eqb, ltb, length, take, drop, get_or}
+use Rattle.std.specs.Prelude.{ℕ, ◌*◌, ◌/◌, Bool, cond, not, List, [], ◌∷◌, eqb, ltb, length, take, drop, get_or, Some, None, Option}
 use Rattle.decimal.specs.Decimal.{missing_word}
 use Rattle.decimal.specs.Answers.{cell_in}
 use Rattle.decimal.specs.declared.Cell.{Cell}
@@ -9,9 +9,9 @@ use Rattle.records.specs.declared.Edge.TheVariants.{Rising, Falling}
 use Rattle.records.specs.declared.Location.{Location}
 use Rattle.records.specs.declared.Location.TheVariants.{AtPin, AtDie}
 use Rattle.records.specs.declared.Polarity.{Polarity}
-use Rattle.records.specs.declared.Polarity.TheVariants.{NoPolarity, Inverting, NonInverting}
+use Rattle.records.specs.declared.Polarity.TheVariants.{Inverting, NonInverting}
 use Rattle.records.specs.declared.Enable.{Enable}
-use Rattle.records.specs.declared.Enable.TheVariants.{NoEnable, ActiveHigh, ActiveLow}
+use Rattle.records.specs.declared.Enable.TheVariants.{ActiveHigh, ActiveLow}
 use Rattle.records.specs.declared.ModelType.{ModelType}
 use Rattle.records.specs.declared.ModelType.TheVariants.{Input, Output, InputOutput, ThreeState, OpenDrain, InputOutputOpenDrain, OpenSink, InputOutputOpenSink, OpenSource, InputOutputOpenSource, InputEcl, OutputEcl, InputOutputEcl, ThreeStateEcl, Terminator}
 use Rattle.records.specs.declared.RampCell.{RampCell}
@@ -38,11 +38,11 @@ flag_in n = not (eqb n 0)
 unfoldable pub location_in : ℕ → Location
 location_in n = cond (eqb n 1) AtDie AtPin
 
-unfoldable pub polarity_in : ℕ → Polarity
-polarity_in n = cond (eqb n 1) Inverting (cond (eqb n 2) NonInverting NoPolarity)
+unfoldable pub polarity_in : ℕ → Option Polarity
+polarity_in n = cond (eqb n 1) (Some Inverting) (cond (eqb n 2) (Some NonInverting) None)
 
-unfoldable pub enable_in : ℕ → Enable
-enable_in n = cond (eqb n 1) ActiveHigh (cond (eqb n 2) ActiveLow NoEnable)
+unfoldable pub enable_in : ℕ → Option Enable
+enable_in n = cond (eqb n 1) (Some ActiveHigh) (cond (eqb n 2) (Some ActiveLow) None)
 
 unfoldable pub edge_in : ℕ → Edge
 edge_in n = cond (eqb n 1) Falling Rising

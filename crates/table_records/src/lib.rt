@@ -2,15 +2,6 @@
 // its names are empty, its cells missing, its numbers 0.
 #![tactic(auto)]
 
-use records::Row;
-
 pub mod values; // values.rt: values in the words of a record
 pub mod parts; // parts.rt: parts of records in their words
 pub mod tables; // tables.rt: the record at a place of each table
-
-// A row of the row store, or none.
-#[derive(Clone, Copy)]
-pub enum StoredRow {
-    Kept(Row),
-    NoRow,
-}

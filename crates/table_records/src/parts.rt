@@ -1,39 +1,34 @@
 // Parts of records in their words, from the front of what is lent.
-ghost use Rattle.std.specs.Prelude.{◌≡◌, min, drop};
-ghost use Rattle.table_records.specs.Records.{name_from, text_from, span_from, triple_from, slopes_from, table_from, range_from, split_from, ramp_from};
+ghost use Rattle.std.specs.Prelude.{◌≡◌, ◌<◌, drop};
+ghost use Rattle.table_records.specs.Records.{text_in, name_from, text_from, span_from, triple_from, slopes_from, table_from, range_from, split_from, ramp_from};
 
 use crate::values::{cell_at, flag_in, number_at, put_bytes, slope_in, words_from};
-use records::{Name, RampTable, RampTriple, Range, Span, Split, Table, Triple, Words};
+use records::{Name, RampTable, RampTriple, Range, Span, Split, Table, Text, Triple, Words};
 
-fn at_most(n: u64, most: u8) -> u8
-    ensures { result ≡ min n most }
+// A text of N bytes, eight to a word; behind them stands how many of them are the text's.
+fn text_in<const N: usize>(words: &[u64]) -> Text<N>
+    requires { N < 256 }
+    ensures { result ≡ text_in N words.now }
 {
-    if n < most as u64 {
-        return n as u8;
+    let mut bytes = [0u8; N];
+    put_bytes(&mut bytes, words);
+    let len = number_at(words, N / 8).min(N as u64);
+    Text {
+        bytes: bytes,
+        len: len as u8,
     }
-    most
 }
 
 pub fn name_from(words: &[u64]) -> Name
     ensures { result ≡ name_from words.now }
 {
-    let mut bytes = [0u8; 40];
-    put_bytes(&mut bytes, words);
-    Name {
-        bytes: bytes,
-        len: at_most(number_at(words, 5), 40),
-    }
+    text_in(words)
 }
 
 pub(crate) fn text_from(words: &[u64]) -> Words
     ensures { result ≡ text_from words.now }
 {
-    let mut bytes = [0u8; 120];
-    put_bytes(&mut bytes, words);
-    Words {
-        bytes: bytes,
-        len: at_most(number_at(words, 15), 120),
-    }
+    text_in(words)
 }
 
 pub fn span_from(words: &[u64]) -> Span

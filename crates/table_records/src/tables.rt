@@ -4,7 +4,6 @@ ghost use Rattle.record_words.specs.Records.{component_size, pin_size, selector_
 ghost use Rattle.table_records.specs.Values.{record_at};
 ghost use Rattle.table_records.specs.Records.{component_from, pin_from, selector_from, choice_from, model_from, waveform_from, as_row, row_from};
 
-use crate::StoredRow;
 use crate::parts::{
     name_at, name_from, ramp_from, range_from, span_at, split_from, table_at, text_from, triple_at,
 };
@@ -149,25 +148,25 @@ pub fn model_in(models: &[u64], k: usize) -> Model
     model_from(record_at(models, MODEL_WORDS, k))
 }
 
-fn as_row(number: Cell, cells: Triple) -> StoredRow
+fn as_row(number: Cell, cells: Triple) -> Option<Row>
     ensures { result ≡ as_row number cells }
 {
     match number {
-        Cell::Number(d) => StoredRow::Kept(Row {
+        Cell::Number(d) => Some(Row {
             number: d,
             cells: cells,
         }),
-        Cell::Missing => StoredRow::NoRow,
+        Cell::Missing => None,
     }
 }
 
-fn row_from(words: &[u64]) -> StoredRow
+fn row_from(words: &[u64]) -> Option<Row>
     ensures { result ≡ row_from words.now }
 {
     as_row(cell_at(words, 0), triple_at(words, 1))
 }
 
-pub fn row_in(rows: &[u64], k: usize) -> StoredRow
+pub fn row_in(rows: &[u64], k: usize) -> Option<Row>
     ensures { result ≡ row_from (record_at row_size rows.now k) }
 {
     row_from(record_at(rows, ROW_WORDS, k))

@@ -27,29 +27,22 @@ pub fn record_at(table: &[u64], size: usize, k: usize) -> &[u64]
 pub fn words_from(words: &[u64], k: usize) -> &[u64]
     ensures { result.now ≡ drop k words.now }
 {
-    let n = words.len();
-    if k < n {
-        return &words[k..];
-    }
-    &words[n..]
+    &words[k.min(words.len())..]
 }
 
 pub fn number_at(words: &[u64], k: usize) -> u64
     ensures { result ≡ get_or words.now k 0 }
 {
-    if k < words.len() {
-        return words[k];
-    }
-    0
+    words.get(k).copied().unwrap_or(0)
 }
 
 pub fn cell_at(words: &[u64], k: usize) -> Cell
     ensures { result ≡ cell_at words.now k }
 {
-    if k < words.len() {
-        return decimal::cell_in(words[k]);
+    match words.get(k) {
+        Some(word) => decimal::cell_in(*word),
+        None => Cell::Missing,
     }
-    Cell::Missing
 }
 
 // Byte k of a text: eight lie in a word, the first one lowest.
@@ -63,10 +56,8 @@ pub fn byte_in(words: &[u64], k: usize) -> u8
 pub(crate) fn put_bytes(out: &mut [u8], words: &[u64])
     ensures { out.new ≡ bytes_from words.now (length out.old) }
 {
-    let mut i = 0;
-    while i < out.len() {
-        out[i] = byte_in(words, i);
-        i += 1;
+    for (i, byte) in out.iter_mut().enumerate() {
+        *byte = byte_in(words, i);
     }
 }
 
@@ -81,79 +72,75 @@ pub(crate) fn flag_in(n: u64) -> bool
 pub(crate) fn location_in(n: u64) -> Location
     ensures { result ≡ location_in n }
 {
-    if n == 1 {
-        return Location::AtDie;
+    match n {
+        1 => Location::AtDie,
+        _ => Location::AtPin,
     }
-    Location::AtPin
 }
 
-pub(crate) fn polarity_in(n: u64) -> Polarity
+pub(crate) fn polarity_in(n: u64) -> Option<Polarity>
     ensures { result ≡ polarity_in n }
 {
-    if n == 1 {
-        return Polarity::Inverting;
+    match n {
+        1 => Some(Polarity::Inverting),
+        2 => Some(Polarity::NonInverting),
+        _ => None,
     }
-    if n == 2 {
-        return Polarity::NonInverting;
-    }
-    Polarity::NoPolarity
 }
 
-pub(crate) fn enable_in(n: u64) -> Enable
+pub(crate) fn enable_in(n: u64) -> Option<Enable>
     ensures { result ≡ enable_in n }
 {
-    if n == 1 {
-        return Enable::ActiveHigh;
+    match n {
+        1 => Some(Enable::ActiveHigh),
+        2 => Some(Enable::ActiveLow),
+        _ => None,
     }
-    if n == 2 {
-        return Enable::ActiveLow;
-    }
-    Enable::NoEnable
 }
 
 pub(crate) fn edge_in(n: u64) -> Edge
     ensures { result ≡ edge_in n }
 {
-    if n == 1 {
-        return Edge::Falling;
+    match n {
+        1 => Edge::Falling,
+        _ => Edge::Rising,
     }
-    Edge::Rising
 }
+
+// Document 01's list of model types.
+const TYPES: [ModelType; 15] = [
+    ModelType::Input,
+    ModelType::Output,
+    ModelType::InputOutput,
+    ModelType::ThreeState,
+    ModelType::OpenDrain,
+    ModelType::InputOutputOpenDrain,
+    ModelType::OpenSink,
+    ModelType::InputOutputOpenSink,
+    ModelType::OpenSource,
+    ModelType::InputOutputOpenSource,
+    ModelType::InputEcl,
+    ModelType::OutputEcl,
+    ModelType::InputOutputEcl,
+    ModelType::ThreeStateEcl,
+    ModelType::Terminator,
+];
 
 pub(crate) fn type_in(n: u64) -> ModelType
     ensures { result ≡ type_in n }
 {
-    match n {
-        0 => ModelType::Input,
-        1 => ModelType::Output,
-        2 => ModelType::InputOutput,
-        3 => ModelType::ThreeState,
-        4 => ModelType::OpenDrain,
-        5 => ModelType::InputOutputOpenDrain,
-        6 => ModelType::OpenSink,
-        7 => ModelType::InputOutputOpenSink,
-        8 => ModelType::OpenSource,
-        9 => ModelType::InputOutputOpenSource,
-        10 => ModelType::InputEcl,
-        11 => ModelType::OutputEcl,
-        12 => ModelType::InputOutputEcl,
-        13 => ModelType::ThreeStateEcl,
-        _ => ModelType::Terminator,
-    }
+    TYPES
+        .get(n as usize)
+        .copied()
+        .unwrap_or(ModelType::Terminator)
 }
 
 // A slope's dividend and divisor, or none.
 pub(crate) fn slope_in(a: Cell, b: Cell) -> RampCell
     ensures { result ≡ slope_in a b }
 {
-    let Cell::Number(dividend) = a else {
-        return RampCell::Absent;
-    };
-    match b {
-        Cell::Number(divisor) => RampCell::Ratio {
-            dividend: dividend,
-            divisor: divisor,
-        },
-        Cell::Missing => RampCell::Absent,
+    match (a, b) {
+        (Cell::Number(dividend), Cell::Number(divisor)) => RampCell::Ratio { dividend, divisor },
+        _ => RampCell::Absent,
     }
 }

@@ -1,9 +1,9 @@
 -- The rows of a model as a fold over its keywords: one that opens a table adds the words of its rows.
+use Rattle.std.specs.Prelude.{None, Some}
 use Prim.Native.Nat.{ℕ}
 use mathlib.Core.Path.{◌≡◌, refl, sym, ap, ◌∙◌}
 use mathlib.Core.List.{List, [], ◌∷◌, ◌++◌, append_assoc, append-nil, flat_map}
 use mathlib.Core.Bool.{Bool, true, false, cond}
-use mathlib.Core.Option.{none, some}
 use Rattle.laws.specs.Bytes.{bytes, is_blank}
 use Rattle.laws.specs.Lists.{eqs, one_of}
 use Rattle.words.specs.Words.{words, grown, onto_word}
@@ -30,7 +30,7 @@ spelling-table = each-keyword _ refl refl refl refl refl refl refl refl refl ref
 abbrev pub more_tables : Bool → TableIs → List TableIs → List TableIs
 more_tables t x more = cond t (x ∷ []) [] ++ more
 
-pub tables_more : (t : Text) (ts : List Text) (k : Keyword) → key_at t ≡ some k
+pub tables_more : (t : Text) (ts : List Text) (k : Keyword) → key_at t ≡ Some k
     → tables_in (t ∷ ts) ≡ more_tables (opens_table k) (record { key = bytes (spelling k); lines = under ts }) (tables_in ts)
 tables_more t ts k e =
     tables-key t ts k e
@@ -49,10 +49,10 @@ words_on v ts = v ++ model_words ts
 abbrev pub words_step : List ℕ → Keyword → List ℕ → List (List ℕ) → List ℕ
 words_step v k w ls = v ++ stored (key_rows k ls)
 
-words-skip : (v : List ℕ) (t : Text) (ts : List Text) → key_at t ≡ none → words_on v (t ∷ ts) ≡ words_on v ts
+words-skip : (v : List ℕ) (t : Text) (ts : List Text) → key_at t ≡ None → words_on v (t ∷ ts) ≡ words_on v ts
 words-skip v t ts e = ap (λ (l : List TableIs). v ++ stored (flat_map rows_of l)) (tables-skip t ts e)
 
-words_more : (v : List ℕ) (t : Text) (ts : List Text) (k : Keyword) → key_at t ≡ some k → words_on v (t ∷ ts) ≡ words_on (words_step v k (argument_at t) (under ts)) ts
+words_more : (v : List ℕ) (t : Text) (ts : List Text) (k : Keyword) → key_at t ≡ Some k → words_on v (t ∷ ts) ≡ words_on (words_step v k (argument_at t) (under ts)) ts
 words_more v t ts k e =
     ap (λ (l : List TableIs). v ++ stored (flat_map rows_of l)) (tables_more t ts k e)
     ∙ ap (λ (l : List ℕ). v ++ l) (rows_more (opens_table k) _ (tables_in ts))

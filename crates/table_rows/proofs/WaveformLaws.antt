@@ -1,4 +1,5 @@
 -- A waveform's record as a fold over its lines; and a line more: a row, which has no name, or a number at its place.
+use Rattle.std.specs.Prelude.{Ok, Err, Some, None}
 use Prim.Native.Nat.{ℕ, ◌+◌}
 use Prim.Native.String.{String}
 use mathlib.Core.Path.{◌≡◌, refl, sym, ap, ◌∙◌}
@@ -8,13 +9,11 @@ use native.Mathlib.Omega.{arith}
 use lib.ListN.{length}
 use Rattle.laws.specs.Bytes.{bytes, is_blank, is_capital, is_small, is_letter}
 use Rattle.laws.specs.Lists.{front, eqs}
-use Rattle.laws.specs.Said.{says, fault}
 use Rattle.laws.proofs.Tests.{by-test, cond_yes, cond_no, impossible}
 use Rattle.laws.proofs.Same.{eqs-eq}
 use Rattle.decimal.specs.declared.Cell.{Cell}
 use Rattle.words.specs.Words.{word, words, grown, onto_word}
 use Rattle.name_table.specs.Names.{place_from}
-use Rattle.name_table.specs.declared.Found.TheVariants.{At, Nothing}
 use Rattle.line_rules.specs.Fields.{name_of, is_named, line_at, number_line, row_of, takes, line_says}
 use Rattle.line_rules.specs.Tables.{fixtures}
 use Rattle.line_rules.proofs.Places.{takes_at, takes-nothing}
@@ -52,7 +51,7 @@ waveform-is e n ls = let z : 0 + length (rows_in ls) ≡ length (rows_in ls) = o
 -- ---- a number
 
 module _ (x : Waveform) (w : List ℕ) where
-  pub fixture-named : (n : ℕ) (v : Cell) → line_at fixtures w ≡ At n → number_line w ≡ says v → fixture_at x n v ≡ fixture_line x w
+  pub fixture-named : (n : ℕ) (v : Cell) → line_at fixtures w ≡ Some n → number_line w ≡ Ok v → fixture_at x n v ≡ fixture_line x w
   unfolding place_from words grown onto_word is_blank eqs
   fixture-named n v e q =
       rw (
@@ -83,10 +82,10 @@ module _ (x : Waveform) (w : List ℕ) where
         h "C_dut" x.cdut refl,
       )
 
-  pub fixture-bad : {f : LineFault} → told_in w (number_line w) ≡ fault f → x ≡ fixture_line x w
+  pub fixture-bad : {f : LineFault} → told_in w (number_line w) ≡ Err f → x ≡ fixture_line x w
   fixture-bad q = fixture-kept (λ name v h. takes-flawed name number_line v w q)
 
-  pub fixture-nothing : line_at fixtures w ≡ Nothing → x ≡ fixture_line x w
+  pub fixture-nothing : line_at fixtures w ≡ None → x ≡ fixture_line x w
   unfolding place_from words grown onto_word is_blank eqs
   fixture-nothing e =
       rw (
@@ -115,18 +114,18 @@ named-letter : (name : String) (w : List ℕ) → is_named name w ≡ true → b
 unfolding is_named name_of
 named-letter name w e h = begins-front _ (word 0 (words w)) (ap begins_letter (eqs-eq (name_of w) (bytes name) e) ∙ h)
 
-takes-row : (w : List ℕ) (r : Row) → says r ≡ row_of w → (name : String) (v : Cell) → begins_letter (bytes name) ≡ true → takes name number_line v w ≡ v
+takes-row : (w : List ℕ) (r : Row) → Ok r ≡ row_of w → (name : String) (v : Cell) → begins_letter (bytes name) ≡ true → takes name number_line v w ≡ v
 unfolding takes
 takes-row w r e name v h =
     by-test (is_named name w)
-    (λ q. let z : says r ≡ fault _ = e ∙ letter-no-row w (named-letter name w q h) in let y : ◌≡◌ {A = ℕ} 0 1 = cc in impossible y)
+    (λ q. let z : Ok r ≡ Err _ = e ∙ letter-no-row w (named-letter name w q h) in let y : ◌≡◌ {A = ℕ} 0 1 = cc in impossible y)
     (λ q. cond_no _ _ q)
 
 module _ (x : Waveform) (w : List ℕ) where
-  pub line_row : (r : Row) → says r ≡ row_of w → with_count x (x.rows.count + 1) ≡ with_waveform_line x w
+  pub line_row : (r : Row) → Ok r ≡ row_of w → with_count x (x.rows.count + 1) ≡ with_waveform_line x w
   line_row r e =
       ap (λ (y : Waveform). with_count y (x.rows.count + 1)) (fixture-kept x w (takes-row w r e))
       ∙ ap (λ read. with_count (fixture_line x w) (counted x.rows.count read)) e
 
-  pub line-fixture : {f : LineFault} → fault f ≡ told_in w (row_of w) → fixture_line x w ≡ with_waveform_line x w
+  pub line-fixture : {f : LineFault} → Err f ≡ told_in w (row_of w) → fixture_line x w ≡ with_waveform_line x w
   line-fixture e = ap (with_count (fixture_line x w)) (row_kept (λ (n : ℕ) (y : Row). n + 1) x.rows.count w (row_of w) e)

@@ -1,7 +1,6 @@
 -- The rows of a model, keyword by keyword.
-use Rattle.std.specs.Prelude.{ℕ, Bool, true, false, cond}
+use Rattle.std.specs.Prelude.{ℕ, Bool, true, false, cond, Some}
 use mathlib.Core.List.{List, [], flat_map}
-use Rattle.std.proofs.Math.Option.{some}
 use Rattle.keywords.specs.declared.Keyword.{Keyword}
 use Rattle.keywords.specs.declared.ModelPart.{ModelPart}
 use Rattle.keywords.specs.declared.ModelPart.TheVariants.{VoltageRange, TemperatureRange, Current, Ramp, Waveform}
@@ -25,7 +24,7 @@ is_table Ramp = false
 is_table (Waveform e) = true
 
 abbrev pub opens_table : Keyword → Bool
-opens_table k = by_keyword false (λ p. false) (λ o. false) (λ p. false) is_table false (some k)
+opens_table k = by_keyword false (λ p. false) (λ o. false) (λ p. false) is_table false (Some k)
 
 -- the rows under a keyword, ls being the lines under it
 abbrev pub key_rows : Keyword → List (List ℕ) → List Row

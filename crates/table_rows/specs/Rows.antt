@@ -1,6 +1,5 @@
 -- The rows of a table, and what the function that writes them answers.
-use Rattle.std.specs.Prelude.{ℕ, ◌+◌, ◌≤◌, ◌≡◌, List, [], ◌∷◌, length}
-use Rattle.laws.specs.Said.{says, fault}
+use Rattle.std.specs.Prelude.{ℕ, ◌+◌, ◌≤◌, ◌≡◌, List, [], ◌∷◌, length, Ok, Err}
 use Rattle.cut_lines.specs.Cursors.{rest}
 use Rattle.cut_lines.specs.declared.Cursor.{Cursor}
 use Rattle.rules.specs.Reading.{under, rows_in}
@@ -26,8 +25,8 @@ four_words r = r.number ∷ r.typ ∷ r.min ∷ r.max ∷ []
 
 -- a line more: it has a row, or nothing
 abbrev pub with_said_row : {X : Type 0} → (X → Row → X) → X → Reads Row → X
-with_said_row add x (says r) = add x r
-with_said_row add x (fault f) = x
+with_said_row add x (Ok r) = add x r
+with_said_row add x (Err f) = x
 
 abbrev pub counted : ℕ → Reads Row → ℕ
 counted = with_said_row (λ (n : ℕ) (r : Row). n + 1)

@@ -20,7 +20,8 @@ pub(crate) fn put_row(rows: &mut [u64], r: RowWords)
     rows[3] = r.max;
 }
 
-// Writes the rows of the table whose lines begin at a cursor at the front of the row store.
+// Writes the rows of the table whose lines begin at a cursor at the front of the row store. The loop matches both cases of a line, and writes as it goes, for the
+// reason at fill_waveform.
 pub fn fill_table(rows: &mut [u64], src: &[u8], c: Cursor) -> Filled
     requires placed { Placed src.now c }
     requires c_in_bounds { length (stored (rows_at src.now c)) ≤ length rows.old }
@@ -39,10 +40,7 @@ pub fn fill_table(rows: &mut [u64], src: &[u8], c: Cursor) -> Filled
                 }
             }
             LineNext::NoLine { next } => {
-                return Filled {
-                    words: used,
-                    next: next,
-                };
+                return Filled { words: used, next };
             }
         }
     }

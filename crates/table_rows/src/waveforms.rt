@@ -1,5 +1,5 @@
 // A waveform: its record, with its edge, the numbers of its named lines and where its rows lie, and its rows.
-ghost use Rattle.std.specs.Prelude.{cond, ◌≡◌, ◌≤◌, eqb, length};
+ghost use Rattle.std.specs.Prelude.{◌≡◌, ◌≤◌, length};
 ghost use Rattle.cut_lines.specs.Cursors.{rest, Placed};
 ghost use Rattle.rules.specs.Reading.{under, waveform_in};
 ghost use Rattle.records.specs.Stored.{stored};
@@ -10,27 +10,15 @@ use crate::rows::put_row;
 use crate::{Filled, WaveformFilled};
 use cut_lines::Cursor;
 use decimal::Cell;
-use line_rules::LineCell;
 use lines_under::LineNext;
-use name_table::Found;
 use records::{Edge, Span, Waveform};
-
-// The cell at a place, after a number came to place n.
-fn cell_at(place: usize, n: usize, number: Cell, before: Cell) -> Cell
-    ensures { result ≡ cond (eqb n place) number before }
-{
-    if n == place {
-        return number;
-    }
-    before
-}
 
 // Before its first line.
 pub fn bare_waveform(edge: Edge, row: usize) -> Waveform
     ensures { result ≡ bare_waveform edge row }
 {
     Waveform {
-        edge: edge,
+        edge,
         rfixture: Cell::Missing,
         vfixture: Cell::Missing,
         vmin: Cell::Missing,
@@ -51,42 +39,32 @@ pub fn bare_waveform(edge: Edge, row: usize) -> Waveform
 fn fixture_at(x: Waveform, n: usize, number: Cell) -> Waveform
     ensures { result ≡ fixture_at x n number }
 {
-    let edge = x.edge;
-    let rfixture = x.rfixture;
-    let vfixture = x.vfixture;
-    let vmin = x.vmin;
-    let vmax = x.vmax;
-    let cfixture = x.cfixture;
-    let lfixture = x.lfixture;
-    let rdut = x.rdut;
-    let ldut = x.ldut;
-    let cdut = x.cdut;
-    let rows = x.rows;
-    Waveform {
-        edge: edge,
-        rfixture: cell_at(0, n, number, rfixture),
-        vfixture: cell_at(1, n, number, vfixture),
-        vmin: cell_at(2, n, number, vmin),
-        vmax: cell_at(3, n, number, vmax),
-        cfixture: cell_at(4, n, number, cfixture),
-        lfixture: cell_at(5, n, number, lfixture),
-        rdut: cell_at(6, n, number, rdut),
-        ldut: cell_at(7, n, number, ldut),
-        cdut: cell_at(8, n, number, cdut),
-        rows: rows,
+    let mut next = x;
+    match n {
+        0 => next.rfixture = number,
+        1 => next.vfixture = number,
+        2 => next.vmin = number,
+        3 => next.vmax = number,
+        4 => next.cfixture = number,
+        5 => next.lfixture = number,
+        6 => next.rdut = number,
+        7 => next.ldut = number,
+        8 => next.cdut = number,
+        _ => {}
     }
+    next
 }
 
 fn with_fixture(x: Waveform, w: &[u8]) -> Waveform
     ensures { result ≡ fixture_line x w.now }
 {
-    match named_lines::fixture_line(w) {
-        Found::At(n) => match named_lines::number_line(w) {
-            LineCell::Stated(number) => fixture_at(x, n, number),
-            LineCell::Misstated(_) => x,
-        },
-        Found::Nothing => x,
-    }
+    let Some(n) = named_lines::fixture_line(w) else {
+        return x;
+    };
+    let Ok(number) = named_lines::number_line(w) else {
+        return x;
+    };
+    fixture_at(x, n, number)
 }
 
 fn with_rows(x: Waveform, count: usize) -> Waveform
@@ -98,7 +76,8 @@ fn with_rows(x: Waveform, count: usize) -> Waveform
 }
 
 // The waveform whose lines begin at a cursor, the place of its first row being row; its rows are written at the front of the row store. They are counted
-// aside: the record is copied at its named lines only.
+// aside: the record is copied at its named lines only. The line at which the loop ends says where the reading goes on, so it matches both cases; and it writes
+// the rows as it goes, which lines_under::fold_lines, whose step hands on a value, does not.
 pub fn fill_waveform(
     rows: &mut [u64],
     src: &[u8],
@@ -129,10 +108,7 @@ pub fn fill_waveform(
             LineNext::NoLine { next } => {
                 return WaveformFilled {
                     waveform: with_rows(x, used / 4),
-                    filled: Filled {
-                        words: used,
-                        next: next,
-                    },
+                    filled: Filled { words: used, next },
                 };
             }
         }

@@ -1,14 +1,13 @@
 -- The answer and the tables in words.
-use Rattle.std.specs.Prelude.{ℕ, ◌*◌, ◌≤◌, length}
+use Rattle.std.specs.Prelude.{ℕ, ◌*◌, ◌≤◌, length, Result, Ok, Err}
 use mathlib.Core.List.{List, [], ◌∷◌, ◌++◌, flat_map}
 use Rattle.records.specs.declared.Counts.{Counts}
 use Rattle.records.specs.Stored.{stored, over}
 use Rattle.records.specs.declared.Kind.TheVariants.{OfModel}
 use Rattle.layout_by_notes.specs.Lies.{waveforms_noted, rows_noted}
 use Rattle.from_notes.specs.Made.{joined_to, note_by, component_at, pin_at, selector_at, choice_at, model_at, rows_at}
-use Rattle.records.specs.declared.Verdict.{Verdict}
-use Rattle.records.specs.declared.Verdict.TheVariants.{Accepted, Refused}
 use Rattle.records.specs.declared.Answer.{Answer}
+use Rattle.records.specs.declared.Fault.{Fault}
 use Rattle.record_words.specs.Records.{text_words, component_words, pin_words, selector_words, choice_words, model_words, waveform_words, component_size, pin_size, selector_size, choice_size, model_size}
 use Rattle.section_words.specs.Listed.{listed_words}
 
@@ -29,17 +28,17 @@ row_words_at s ns k = stored (rows_noted (note_by s ns OfModel k))
 
 -- ---- the answer
 
-abbrev pub fault_number : Verdict → ℕ
-fault_number Accepted = 0
-fault_number (Refused f) = f.number
+abbrev pub fault_number : Result (Unit {0}) Fault → ℕ
+fault_number (Ok tt) = 0
+fault_number (Err f) = f.number
 
-abbrev pub fault_line : Verdict → ℕ
-fault_line Accepted = 0
-fault_line (Refused f) = f.line
+abbrev pub fault_line : Result (Unit {0}) Fault → ℕ
+fault_line (Ok tt) = 0
+fault_line (Err f) = f.line
 
-abbrev pub fault_column : Verdict → ℕ
-fault_column Accepted = 0
-fault_column (Refused f) = f.column
+abbrev pub fault_column : Result (Unit {0}) Fault → ℕ
+fault_column (Ok tt) = 0
+fault_column (Err f) = f.column
 
 -- line, column and counts
 abbrev pub count_words : ℕ → ℕ → Counts → List ℕ

@@ -5,7 +5,7 @@ ghost use Rattle.std.specs.Prelude.{◌≡◌};
 ghost use Rattle.table_words.specs.Packed.{fault_number, fault_line, fault_column, count_words, answer_words, word_tables, Room, filled};
 
 use record_words::{ANSWER_WORDS, COUNT_WORDS, TEXT_WORDS};
-use records::{Answer, Counts, Verdict};
+use records::{Answer, Counts, Fault};
 
 pub mod fills; // fills.rt: tables as words
 pub mod lists; // lists.rt: those of a listing
@@ -15,30 +15,30 @@ pub use lists::list_tables;
 // Where the words of the revision begin, behind those of the counts and the file's name.
 const REVISION_FROM: usize = COUNT_WORDS + TEXT_WORDS;
 
-pub fn fault_number(v: Verdict) -> u8
+pub fn fault_number(v: Result<(), Fault>) -> u8
     ensures { result ≡ fault_number v }
 {
     match v {
-        Verdict::Accepted => 0,
-        Verdict::Refused(f) => f.number,
+        Ok(()) => 0,
+        Err(f) => f.number,
     }
 }
 
-fn fault_line(v: Verdict) -> u64
+fn fault_line(v: Result<(), Fault>) -> u64
     ensures { result ≡ fault_line v }
 {
     match v {
-        Verdict::Accepted => 0,
-        Verdict::Refused(f) => f.line,
+        Ok(()) => 0,
+        Err(f) => f.line,
     }
 }
 
-fn fault_column(v: Verdict) -> u64
+fn fault_column(v: Result<(), Fault>) -> u64
     ensures { result ≡ fault_column v }
 {
     match v {
-        Verdict::Accepted => 0,
-        Verdict::Refused(f) => f.column,
+        Ok(()) => 0,
+        Err(f) => f.column,
     }
 }
 

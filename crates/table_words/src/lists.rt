@@ -34,10 +34,8 @@ fn list_models(models: &mut [u64], src: &[u8], notes: &[u16], n: usize)
     requires { model_size * n ≤ length models.old }
     ensures { models.new ≡ over models.old (joined_to (listed_words_at src.now notes.now) n) }
 {
-    let mut i: usize = 0;
-    while i < n {
+    for i in 0..n {
         list_model(&mut models[MODEL_WORDS * i..], src, notes, i);
-        i += 1;
     }
 }
 

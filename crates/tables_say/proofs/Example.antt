@@ -1,11 +1,11 @@
 -- What counts and what does not, by computing: files that differ in the order of two tables say the same, though their rows lie elsewhere; files that
 -- differ in one digit do not, nor do an absent part of C_comp and one of zero; files that differ in all else that is not kept have equal tables, so they say the same by `kept`.
+use Rattle.std.specs.Prelude.{Option, None, Some, Ok}
 use Prim.Native.Nat.{ℕ}
 use Prim.Native.String.{String, ◌++◌ as ◌++ˢ◌}
 use mathlib.Core.Path.{◌≡◌, refl, ap}
 use mathlib.Core.List.{List, [], ◌∷◌}
 use mathlib.Core.Bool.{cond}
-use mathlib.Core.Option.{Option, none, some}
 use native.Mathlib.Omega.{arith}
 use lib.ListN.{drop}
 use Rattle.laws.specs.Bytes.{bytes}
@@ -22,7 +22,6 @@ use Rattle.records.specs.declared.Row.{Row}
 use Rattle.records.specs.declared.Model.{Model}
 use Rattle.examples.specs.Computing.{computing}
 use Rattle.examples.specs.Starred.{verdict, at_bounds}
-use Rattle.records.specs.declared.Verdict.TheVariants.{Accepted}
 use Rattle.tables_say.specs.Kept.{header_answered}
 use Rattle.tables_say.proofs.Kept.{kept}
 
@@ -65,7 +64,7 @@ oddly =
     ++ˢ "[Comment Char] #_char\n[Model] end # the only one\nC_comp .005nF NA NA\nModel_type Terminator\n[Pullup]\n-1.0 4e-2 NA NA\n5 -70000uA NA NA\n[Voltage Range] 3300m NA NA\n[End]\n"
 
 abbrev Passes : String → Type 0
-Passes s = verdict (outcome at_bounds (bytes s)) ≡ Accepted
+Passes s = verdict (outcome at_bounds (bytes s)) ≡ Ok tt
 
 pub all-accepted : Passes down_first × Passes up_first × Passes other_digit × Passes plainly × Passes zero_pullup × Passes oddly
 unfolding computing
@@ -95,8 +94,8 @@ order-free =
             model = refl {a = model_in 0 no_table nowhere (bytes "end") us};
             pulldown = refl {a = table_of (tables_in us) "pulldown"};
             pullup = refl {a = table_of (tables_in us) "pullup"};
-            ground = refl {a = none};
-            power = refl {a = none};
+            ground = refl {a = None};
+            power = refl {a = None};
             waveforms = refl {a = []};
           },
           tt,
@@ -123,10 +122,10 @@ digits_in Missing = 0
 
 -- the digits of the second row's typ
 abbrev second_typ : Option (List Row) → ℕ
-second_typ none = 0
-second_typ (some []) = 0
-second_typ (some (r ∷ [])) = 0
-second_typ (some (r ∷ q ∷ rs)) = digits_in q.cells.typ
+second_typ None = 0
+second_typ (Some []) = 0
+second_typ (Some (r ∷ [])) = 0
+second_typ (Some (r ∷ q ∷ rs)) = digits_in q.cells.typ
 
 pub digit-counts : SaysTheSame (read down_first) (read other_digit) → ⊥
 unfolding computing

@@ -1,10 +1,10 @@
 -- A model's rows by its record: the row store holds them at the place that the record names, whatever lies around them.
+use Rattle.std.specs.Prelude.{Option, None, Some}
 use Prim.Native.Nat.{ℕ, ◌+◌}
 use Prim.Native.String.{String}
 use mathlib.Core.Path.{◌≡◌, refl, sym, ap, ap₂, ◌∙◌}
 use mathlib.Core.List.{List, [], ◌∷◌, ◌++◌, map, flat_map, append_assoc}
 use mathlib.Core.Bool.{cond}
-use mathlib.Core.Option.{Option, none, some}
 use lib.ListN.{length, take, drop}
 use lib.Seq.{take-append_seam, drop-append_seam, drop-drop}
 use Rattle.laws.specs.Bytes.{bytes}
@@ -25,7 +25,7 @@ module _ (store : List Row) where
   rows_at s = take s.count (drop s.start store)
 
   abbrev pub table_from : Table → Option (List Row)
-  table_from t = cond t.given (some (rows_at t.rows)) none
+  table_from t = cond t.given (Some (rows_at t.rows)) None
 
   -- a waveform wherever its rows lie, and its rows
   abbrev pub waveform_from : Waveform → Waveform × List Row
@@ -69,7 +69,7 @@ module _ (store : List Row) where
   table-from n [] key h = refl
   table-from n (t ∷ ts) key h =
       by-test (eqs t.key (bytes key))
-      (λ e. rw e (ap some (sym (first_rows n t ts h))))
+      (λ e. rw e (ap Some (sym (first_rows n t ts h))))
       (λ e. rw e (table-from (n + length (rows_of t)) ts key (other-rows n t ts h)))
 
   pub waveforms-from : (n : ℕ) (ts : List TableIs) → LieAt n ts → waveforms_of ts ≡ map waveform_from (waveforms_laid ts n)

@@ -1,9 +1,10 @@
 -- Rows that are read come back from their words: every number that is read fits its word, so no two rows have the same four.
+use Rattle.std.specs.Prelude.{Ok, Err}
 use Prim.Native.Nat.{ℕ, ◌+◌}
 use mathlib.Core.Path.{◌≡◌, refl, ap₂}
 use mathlib.Core.List.{List, [], ◌∷◌, ◌++◌, flat_map}
 use mathlib.Core.Bool.{false}
-use Rattle.laws.specs.Said.{Said, says, fault}
+use Rattle.laws.specs.Said.{Said}
 use Rattle.decimal.specs.Decimal.{word_of, number_of, cell_of}
 use Rattle.decimal.specs.Answers.{cell_in}
 use Rattle.decimal.specs.Fine.{FineNumber, FineRead}
@@ -57,12 +58,12 @@ row_back d t h k =
 -- ---- what is read comes back
 
 fine-number : (r : Said Decimal) → FineNumber r → Says NumberBack r
-fine-number (says d) h = kept (Number d) h
-fine-number (fault n) h = tt
+fine-number (Ok d) h = kept (Number d) h
+fine-number (Err n) h = tt
 
 fine-cell : (r : Said Cell) → FineRead r → Says CellBack r
-fine-cell (says c) h = kept c h
-fine-cell (fault n) h = tt
+fine-cell (Ok c) h = kept c h
+fine-cell (Err n) h = tt
 
 number-back : (w : List ℕ) → Says NumberBack (number_of w)
 number-back w = fine-number (number_of w) (number-fine w)
@@ -100,8 +101,8 @@ back-both [] ys h k = k
 back-both (x ∷ xs) ys h k = (h.0, back-both xs ys h.1 k)
 
 back-onto : (x : Reads Row) (rs : List Row) → Says RowBack x → AllBack rs → AllBack (onto_rows x rs)
-back-onto (says r) rs h k = (h, k)
-back-onto (fault f) rs h k = k
+back-onto (Ok r) rs h k = (h, k)
+back-onto (Err f) rs h k = k
 
 back_read : (ls : List (List ℕ)) → AllBack (rows_in ls)
 unfolding rows_in

@@ -46,8 +46,8 @@ no_digit (suc j) n l h = absurd (not-suc-le-zero h)
 -- ---- the parts of the digits that are lent
 
 module _ (n : ℕ) (r : Digits) (d : DigitsAre n r) where
-  pub digits-all : take (20 - r.first) (drop r.first r.bytes) ≡ numeral_of n
-  digits-all = (rw (sym d.room) (part-rest r.bytes r.first)) ∙ d.digits
+  pub digits-rest : take (length r.bytes - r.first) (drop r.first r.bytes) ≡ numeral_of n
+  digits-rest = part-rest r.bytes r.first ∙ d.digits
 
   pub digits-count : length (numeral_of n) ≡ 20 - r.first
   digits-count = ap length (sym d.digits) ∙ length-drop r.first r.bytes ∙ ap (λ (k : ℕ). k - r.first) d.room

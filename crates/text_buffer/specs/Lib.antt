@@ -2,4 +2,5 @@
 pub mod Lines
 pub mod Numerals
 pub mod Parts
+pub mod Pages
 pub mod Put

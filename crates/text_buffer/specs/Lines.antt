@@ -3,8 +3,7 @@ use Rattle.std.specs.Prelude.{ℕ, List, ◌++◌, take}
 use Rattle.laws.specs.Bytes.{bytes}
 use Rattle.records.specs.declared.Fault.{Fault}
 use Rattle.decimal.specs.declared.Cell.{Cell}
-use Rattle.records.specs.declared.Name.{Name}
-use Rattle.records.specs.declared.Words.{Words}
+use Rattle.records.specs.Texts.{Name, Words}
 use Rattle.records.specs.declared.Counts.{Counts}
 use Rattle.text_buffer.specs.Numerals.{numeral_of, cell_text}
 

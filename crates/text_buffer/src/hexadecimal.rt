@@ -1,9 +1,9 @@
 // Numbers in hexadecimal digits, in small letters.
 ghost use Rattle.std.specs.Prelude.{◌≡◌, ◌/◌, ◌%◌, ◌^◌};
-ghost use Rattle.text_buffer.specs.Put.{Put};
+ghost use Rattle.text_buffer.specs.Pages.{Writes};
 ghost use Rattle.text_buffer.specs.Numerals.{hex_digit, hexadecimal};
 
-use crate::bytes::{put_byte, put_bytes};
+use crate::page::Page;
 
 const DIGITS: [u8; 16] = *b"0123456789abcdef";
 
@@ -17,15 +17,13 @@ fn digit_before(number: u64, behind: usize) -> u8
     b'0'
 }
 
-// So many digits, the last ones, the highest first; zeros before those that a number has.
-pub fn put_hexadecimal(out: &mut [u8], at: usize, number: u64, count: usize) -> usize
-    ensures { Put out.old out.new at (hexadecimal count number) result }
-{
-    let mut next = put_bytes(out, at, b"");
-    let mut left = count;
-    while 0 < left {
-        left -= 1;
-        next = put_byte(out, next, digit_before(number, left));
+impl Page<'_> {
+    // So many digits, the last ones, the highest first; zeros before those that a number has.
+    pub fn put_hexadecimal(&mut self, number: u64, count: usize)
+        ensures { Writes self.old self.new (hexadecimal count number) }
+    {
+        for behind in (0..count).rev() {
+            self.put_byte(digit_before(number, behind));
+        }
     }
-    next
 }

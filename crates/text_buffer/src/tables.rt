@@ -1,9 +1,9 @@
 // Texts that stand one after another in one table of bytes, each ended by a separator.
 ghost use Rattle.std.specs.Prelude.{[], get_or};
 ghost use Rattle.text_buffer.specs.Parts.{parts, PartAt};
-ghost use Rattle.text_buffer.specs.Put.{Put};
+ghost use Rattle.text_buffer.specs.Pages.{Writes};
 
-use crate::bytes::put_bytes;
+use crate::page::Page;
 use words::Word;
 
 // The text at a place of a table, from 0.
@@ -30,12 +30,12 @@ pub fn part_at(table: &[u8], separator: u8, place: usize) -> Word
     }
 }
 
-// The same into the buffer; of a place past the last text nothing.
-pub fn put_part(out: &mut [u8], at: usize, table: &[u8], separator: u8, place: usize) -> usize
-    ensures { Put out.old out.new at (get_or (parts separator table.now) place []) result }
-{
-    let found = part_at(table, separator, place);
-    let start = found.start;
-    let end = found.end;
-    put_bytes(out, at, &table[start..end])
+impl Page<'_> {
+    // The same onto the page; of a place past the last text nothing.
+    pub fn put_part(&mut self, table: &[u8], separator: u8, place: usize)
+        ensures { Writes self.old self.new (get_or (parts separator table.now) place []) }
+    {
+        let found = part_at(table, separator, place);
+        self.put_bytes(&table[found.start..found.end]);
+    }
 }

@@ -9,7 +9,7 @@ use Rattle.layout.specs.Laid.{Laid, laid, counts_of}
 use Rattle.records.specs.declared.Answer.{Answer}
 use Rattle.records.specs.declared.Lending.{Lending}
 use Rattle.records.specs.declared.Header.{Header}
-use Rattle.records.specs.declared.Words.{Words}
+use Rattle.records.specs.Texts.{Words}
 use Rattle.file_answer.specs.Answered.{answer_for, answer_of, answer_in}
 use Rattle.remarks.specs.Alike.{Alike, Agree}
 use Rattle.remarks.proofs.Alike.{checked-alike, loaded-alike}

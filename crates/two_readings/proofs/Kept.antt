@@ -1,13 +1,14 @@
 -- An accepted file's answer has its header and its counts, and its tables lie over what was lent; the rest is `kept-in-tables`.
+use Rattle.std.specs.Prelude.{Ok, Err, Result}
 use Prim.Native.Nat.{ℕ}
 use mathlib.Core.Path.{◌≡◌, sym, ap, ◌∙◌, refl, subst}
 use mathlib.Core.List.{List}
 use Rattle.laws.proofs.Tests.{impossible}
+use Rattle.records.specs.declared.Fault.{Fault}
 use Rattle.rules.specs.Whole.{Outcome, passed, refused, loading, texts_of}
 use Rattle.rules.specs.Reading.{FileIs, file_in}
 use Rattle.layout.specs.Laid.{laid, counts_of}
 use Rattle.records.specs.declared.Answer.{Answer}
-use Rattle.records.specs.declared.Verdict.TheVariants.{Accepted, Refused}
 use Rattle.file_answer.specs.Answered.{answer_for, answer_in}
 use Rattle.tables_say.specs.Kept.{header_answered, Holds}
 use Rattle.tables_say.proofs.Kept.{kept-in-tables, over-holds}
@@ -22,7 +23,7 @@ record Left (s : List ℕ) (r : Answer) (u : Lent) : Type 0 where
   counts : r.counts ≡ counts_of (laid (read s))
   holds : Holds u (laid (read s))
 
-left_by : (s : List ℕ) (a u : Lent) (r : Answer) (o : Outcome) → loading (lending_in a) s ≡ o → Reads s a r u → r.verdict ≡ Accepted → Left s r u
+left_by : (s : List ℕ) (a u : Lent) (r : Answer) (o : Outcome) → loading (lending_in a) s ≡ o → Reads s a r u → r.verdict ≡ Ok tt → Left s r u
 unfolding answer_in
 left_by s a u r (passed h) e q v =
     let answer = q.answer ∙ ap (answer_for (read s)) e in
@@ -32,7 +33,7 @@ left_by s a u r (passed h) e q v =
       holds = subst (λ (x : Lent). Holds x (laid (read s))) (sym (q.tables ∙ ap (λ (y : Outcome). left y (laid (read s)) a) e)) (over-holds a (laid (read s)));
     }
 left_by s a u r (refused n k c) e q v =
-    let told : Refused (record { number = n; line = k; column = c }) ≡ Accepted = sym (ap (λ (x : Answer). x.verdict) (q.answer ∙ ap (answer_for (read s)) e)) ∙ v in
+    let told : ◌≡◌ {A = Result (Unit {0}) Fault} (Err (record { number = n; line = k; column = c })) (Ok tt) = sym (ap (λ (x : Answer). x.verdict) (q.answer ∙ ap (answer_for (read s)) e)) ∙ v in
     let z : ◌≡◌ {A = ℕ} 0 1 = cc in
     impossible z
 

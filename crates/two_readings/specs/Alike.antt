@@ -1,10 +1,9 @@
 -- Document 02, "Comments change nothing", over the promises: two files that are alike, checked, and "read into tables of like lengths", of records and of words.
-use Rattle.std.specs.Prelude.{ℕ, ◌≡◌, List}
+use Rattle.std.specs.Prelude.{ℕ, ◌≡◌, List, Result, Ok, Err}
 use Rattle.layout.specs.Laid.{Laid}
 use Rattle.records.specs.declared.Lengths.{Lengths}
 use Rattle.records.specs.declared.Answer.{Answer}
-use Rattle.records.specs.declared.Verdict.{Verdict}
-use Rattle.records.specs.declared.Verdict.TheVariants.{Accepted, Refused}
+use Rattle.records.specs.declared.Fault.{Fault}
 use Rattle.file_answer.specs.Answered.{answer_of}
 use Rattle.remarks.specs.Alike.{Alike, SameFault}
 use Rattle.rules.specs.Whole.{nothing_held, passed}
@@ -14,11 +13,11 @@ use Rattle.table_reader.specs.ReadInWords.{room_in, words_left, ReadInWords}
 
 -- ---- what is answered
 
-abbrev pub SameVerdict : List ℕ → List ℕ → Verdict → Verdict → Type 0
-SameVerdict s t Accepted Accepted = Unit {0}
-SameVerdict s t Accepted (Refused g) = ⊥
-SameVerdict s t (Refused f) Accepted = ⊥
-SameVerdict s t (Refused f) (Refused g) = SameFault s t f.number f.line f.column g.number g.line g.column
+abbrev pub SameVerdict : List ℕ → List ℕ → Result (Unit {0}) Fault → Result (Unit {0}) Fault → Type 0
+SameVerdict s t (Ok u) (Ok v) = Unit {0}
+SameVerdict s t (Ok u) (Err g) = ⊥
+SameVerdict s t (Err f) (Ok u) = ⊥
+SameVerdict s t (Err f) (Err g) = SameFault s t f.number f.line f.column g.number g.line g.column
 
 pub record SameAnswer (s t : List ℕ) (q r : Answer) : Type 0 where
   pub verdict : SameVerdict s t q.verdict r.verdict
@@ -32,7 +31,7 @@ CheckAlike = (s t : List ℕ) → Alike s t → (l : Lengths) → SameAnswer s t
 
 pub record SameLeft {T : Type 0} (lay : Laid → T → T) (q : Answer) (a b u v : T) : Type 0 where
   -- of accepted files the same is laid over both, whatever they held
-  pub lies : q.verdict ≡ Accepted → (x : Laid) × (u ≡ lay x a) × (v ≡ lay x b)
+  pub lies : q.verdict ≡ Ok tt → (x : Laid) × (u ≡ lay x a) × (v ≡ lay x b)
   -- and tables that were equal are equal again, after a fault too
   pub equal : a ≡ b → u ≡ v
 

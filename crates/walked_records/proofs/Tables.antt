@@ -1,4 +1,6 @@
 -- Each record of a table, a name, what is lent and the counts as plain data for the walks of `table_walks`; and the words of the row store.
+use denote.Param.{number}
+use mathlib.Core.Path.{refl}
 use mir.Syntax.{w64}
 use Rattle.table_walks.proofs.Elem.{Data, Elem, of_struct, struct-elem, of_number, number-elem}
 use Rattle.records.specs.contracts.Component as Component
@@ -13,8 +15,8 @@ use Rattle.records.specs.contracts.Model as Model
 use Rattle.records.proofs.Model.TheLaws as Model'
 use Rattle.records.specs.contracts.Waveform as Waveform
 use Rattle.records.proofs.Waveform.TheLaws as Waveform'
-use Rattle.records.specs.contracts.Name as Name
-use Rattle.records.proofs.Name.TheLaws as Name'
+use Rattle.records.specs.contracts.Text as Text
+use Rattle.records.proofs.Text.TheLaws as Text'
 use Rattle.records.specs.contracts.Lending as Lending
 use Rattle.records.proofs.Lending.TheLaws as Lending'
 use Rattle.records.specs.contracts.Counts as Counts
@@ -56,11 +58,12 @@ waveforms = of_struct Waveform.the_type Waveform'.the_laws
 pub waveforms-elem : Elem waveforms
 waveforms-elem = struct-elem Waveform.the_type Waveform'.the_laws Waveform'.the_copy Waveform'.the_plain
 
+-- a name is a text of 40 bytes
 abbrev pub names : Data
-names = of_struct Name.the_type Name'.the_laws
+names = of_struct (Text.the_type (number 40)) (Text'.the_laws (number 40) refl)
 
 pub names-elem : Elem names
-names-elem = struct-elem Name.the_type Name'.the_laws Name'.the_copy Name'.the_plain
+names-elem = struct-elem (Text.the_type (number 40)) (Text'.the_laws (number 40) refl) (Text'.the_copy (number 40) refl) (Text'.the_plain (number 40))
 
 abbrev pub lending : Data
 lending = of_struct Lending.the_type Lending'.the_laws

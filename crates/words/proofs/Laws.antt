@@ -38,6 +38,25 @@ words-ink b [] h = simp h
 words-ink b (x ∷ xs) h =
     by-test (is_blank x) (λ k. simp (h, k)) (λ k. words-onto b x xs h k ∙ ap (onto_word b) (words-ink x xs k) ∙ simp h)
 
+onto-le : (b : ℕ) (ws : List (List ℕ)) → length (onto_word b ws) ≤ suc (length ws)
+unfolding onto_word
+onto-le b [] = omega arith
+onto-le b (w ∷ ws) = omega arith
+
+grown-le : (b : ℕ) (bs : List ℕ) (ws : List (List ℕ)) → length (grown b bs ws) ≤ suc (length ws)
+unfolding grown
+grown-le b [] ws = omega arith
+grown-le b (x ∷ xs) ws = by-test (is_blank x) (λ h. rw h (omega arith)) (λ h. rw h (onto-le b ws))
+
+-- a word has a byte at least
+pub words-le : (l : List ℕ) → length (words l) ≤ length l
+unfolding words
+words-le [] = omega arith
+words-le (b ∷ bs) =
+    by-test (is_blank b)
+    (λ h. rw h (omega (arith, words-le bs)))
+    (λ h. rw h (omega (arith, words-le bs, grown-le b bs (words bs))))
+
 -- ---- the rest from a word on
 
 after-blank : (w : List ℕ) → after is_blank (after is_blank w) ≡ after is_blank w

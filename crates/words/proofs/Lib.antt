@@ -1,5 +1,6 @@
 -- Laws on words, cited by the crates above too.
 
 pub mod Scans
+pub mod ByPlaces
 pub mod Laws
 pub mod Chains

@@ -1,11 +1,12 @@
 // Blanks, words and names within a slice of bytes: scans that answer places, and comparisons.
 #![tactic(auto)]
 
-ghost use Rattle.std.specs.Prelude.{◌≡◌, map, ◌+◌, ◌≤◌, length, drop};
+ghost use Rattle.std.specs.Prelude.{◌≡◌, ◌<◌, ℕ, true, false, map, ◌+◌, ◌≤◌, length, drop, slice_index};
 ghost use Rattle.laws.specs.Bytes.{is_blank, capital, spelled_byte};
-ghost use Rattle.laws.specs.Lists.{front, trim, other, eqs};
+ghost use Rattle.laws.specs.Lists.{front, part, trim, other, eqs};
 ghost use Rattle.words.specs.Places.{WordAt};
-ghost use Rattle.words.specs.Words.{is_ink};
+ghost use Rattle.words.specs.Words.{words, is_ink};
+ghost use Rattle.std.specs.Iterator.{YieldsFirstBy, item_count};
 ghost use Rattle.words.specs.Spelled.{byte_as};
 
 // A word, from start up to end. Where no word is left, both are the end of the slice.
@@ -13,6 +14,16 @@ ghost use Rattle.words.specs.Spelled.{byte_as};
 pub struct Word {
     pub start: usize,
     pub end: usize,
+}
+
+impl Word {
+    // Its bytes in the text in which it lies.
+    pub fn of<'a>(self, s: &'a [u8]) -> &'a [u8]
+        requires { (self.start ≤ self.end) × (self.end ≤ length s.now) }
+        ensures { result.now ≡ part self.start self.end s.now }
+    {
+        &s[self.start..self.end]
+    }
 }
 
 // How a text is spelled when it is compared with a name: as it stands; small letters as capitals; or as a keyword, capitals as small letters and
@@ -24,7 +35,8 @@ pub enum Spelling {
     AsKeyword,
 }
 
-// Space and tab.
+// Space and tab. With `b == b' ' || b == b'\t'` lines cut into words take 21.7 instructions a byte in place of 19.7.
+#[tactic(auto, unfolding(laws::specs::Bytes::is_blank))]
 pub fn blank(b: u8) -> bool
     ensures { result ≡ is_blank b }
 {
@@ -37,88 +49,40 @@ pub fn blank(b: u8) -> bool
     b == b'\t'
 }
 
-// A small letter as its capital.
-fn raised(b: u8) -> u8
-    ensures { result ≡ capital b }
-{
-    if b < b'a' {
-        return b;
-    }
-    if b'z' < b {
-        return b;
-    }
-    b - 32
-}
-
-// A capital as its small letter, and a space as an underscore.
-fn lowered(b: u8) -> u8
-    ensures { result ≡ spelled_byte b }
-{
-    if b == b' ' {
-        return b'_';
-    }
-    if b < b'A' {
-        return b;
-    }
-    if b'Z' < b {
-        return b;
-    }
-    b + 32
-}
-
 // A byte so spelled.
+#[tactic(auto, unfolding(laws::specs::Bytes::capital, laws::specs::Bytes::is_small, laws::specs::Bytes::small, laws::specs::Bytes::is_capital, laws::specs::Bytes::spelled_byte))]
 pub fn byte_as(how: Spelling, b: u8) -> u8
     ensures { result ≡ byte_as how b }
 {
     match how {
         Spelling::AsItStands => b,
-        Spelling::InCapitals => raised(b),
-        Spelling::AsKeyword => lowered(b),
+        Spelling::InCapitals => b.to_ascii_uppercase(),
+        Spelling::AsKeyword if b == b' ' => b'_',
+        Spelling::AsKeyword => b.to_ascii_lowercase(),
     }
 }
 
-// Where the byte b first stands from at on, or the end: byte by byte.
-fn find_slowly(s: &[u8], at: usize, b: u8) -> usize
-    requires { at ≤ length s.now }
-    ensures value { result ≡ at + length (front (other b) (drop at s.now)) }
+// Where the bytes from at on that pass a test end.
+pub fn skip<F: Fn(u8) -> bool>(s: &[u8], at: usize, passes: F) -> usize
+    requires at_in_bounds { at ≤ length s.now }
+    requires callable { F.IsAlwaysCallable passes }
     ensures lower_bound { (at ≤ result) × (result ≤ length s.now) }
+    ensures passed { (k : ℕ) → at + k < result → F.post passes (slice_index s.now (at + k)) true }
+    ensures stopped { result < length s.now → F.post passes (slice_index s.now result) false }
 {
-    let mut i = at;
-    while i < s.len() {
-        if s[i] == b {
-            return i;
-        }
-        i += 1;
+    match s[at..].iter().position(|b| !passes(*b)) {
+        Some(k) => at + k,
+        None => s.len(),
     }
-    i
 }
 
-// The same, four bytes a turn as long as four are left.
+// Where the byte b first stands from at on, or the end.
 pub fn find(s: &[u8], at: usize, b: u8) -> usize
     requires { at ≤ length s.now }
     ensures value { result ≡ at + length (front (other b) (drop at s.now)) }
     ensures lower_bound { (at ≤ result) × (result ≤ length s.now) }
 {
-    let mut i = at;
-    while 4 <= s.len() - i {
-        if s[i] == b {
-            return i;
-        }
-        i += 1;
-        if s[i] == b {
-            return i;
-        }
-        i += 1;
-        if s[i] == b {
-            return i;
-        }
-        i += 1;
-        if s[i] == b {
-            return i;
-        }
-        i += 1;
-    }
-    find_slowly(s, i, b)
+    skip(s, at, |c| c != b)
 }
 
 // Where the blanks from at on end.
@@ -127,14 +91,7 @@ pub fn skip_blanks(s: &[u8], at: usize) -> usize
     ensures value { result ≡ at + length (front is_blank (drop at s.now)) }
     ensures lower_bound { (at ≤ result) × (result ≤ length s.now) }
 {
-    let mut i = at;
-    while i < s.len() {
-        if !blank(s[i]) {
-            return i;
-        }
-        i += 1;
-    }
-    i
+    skip(s, at, blank)
 }
 
 // Where the bytes other than blanks from at on end.
@@ -143,14 +100,7 @@ pub fn skip_ink(s: &[u8], at: usize) -> usize
     ensures value { result ≡ at + length (front is_ink (drop at s.now)) }
     ensures lower_bound { (at ≤ result) × (result ≤ length s.now) }
 {
-    let mut i = at;
-    while i < s.len() {
-        if blank(s[i]) {
-            return i;
-        }
-        i += 1;
-    }
-    i
+    skip(s, at, |b| !blank(b))
 }
 
 // How much of s is left without the blanks at its end.
@@ -158,14 +108,10 @@ pub fn trimmed(s: &[u8]) -> usize
     ensures value { result ≡ length (trim is_blank s.now) }
     ensures upper_bound { result ≤ length s.now }
 {
-    let mut i = s.len();
-    while 0 < i {
-        if !blank(s[i - 1]) {
-            return i;
-        }
-        i -= 1;
+    match s.iter().rposition(|b| !blank(*b)) {
+        Some(k) => k + 1,
+        None => 0,
     }
-    i
 }
 
 // The first word from a place on.
@@ -175,16 +121,34 @@ pub fn word_at(s: &[u8], at: usize) -> Word
 {
     let start = skip_blanks(s, at);
     if s.len() <= start {
-        return Word {
-            start: start,
-            end: start,
-        };
+        return Word { start, end: start };
     }
     // The byte at start is no blank.
     let end = skip_ink(s, start + 1);
-    Word {
-        start: start,
-        end: end,
+    Word { start, end }
+}
+
+// The words of a text, one after another.
+#[derive(Clone, Copy)]
+pub struct Words<'a> {
+    pub left: &'a [u8],
+}
+
+impl<'a> Iterator for Words<'a> {
+    type Item = &'a [u8];
+
+    ghost next_gives = { YieldsFirstBy (λ x. x.now) (λ s. words s.left.now) };
+
+    ghost remaining = { item_count (λ s. words s.left.now) };
+
+    fn next(&mut self) -> Option<&'a [u8]> {
+        let left = self.left;
+        let word = word_at(left, 0);
+        if left.len() <= word.start {
+            return None;
+        }
+        self.left = &left[word.end..];
+        Some(word.of(left))
     }
 }
 
@@ -192,24 +156,14 @@ pub fn word_at(s: &[u8], at: usize) -> Word
 pub fn same_as(how: Spelling, w: &[u8], name: &[u8]) -> bool
     ensures { result ≡ eqs (map (byte_as how) w.now) name.now }
 {
-    let mut i = 0;
-    while i < w.len() {
-        if name.len() <= i {
-            return false;
-        }
-        if byte_as(how, w[i]) != name[i] {
-            return false;
-        }
-        i += 1;
-    }
-    name.len() <= i
+    w.len() == name.len() && w.iter().zip(name).all(|(a, b)| byte_as(how, *a) == *b)
 }
 
 // The same bytes.
 pub fn same(w: &[u8], other: &[u8]) -> bool
     ensures { result ≡ eqs w.now other.now }
 {
-    same_as(Spelling::AsItStands, w, other)
+    w == other
 }
 
 // The same bytes, once small letters of w are capitals.

@@ -1,36 +1,29 @@
--- Given before, a fault of the argument, or on: `refused`, `flawed`, `flawless`.
+-- Given before, a fault of the argument, or on: `once-stopped`, `once-given`.
 use Prim.Native.Nat.{ℕ}
-use mathlib.Core.Path.{sym, ap, ◌∙◌}
+use mathlib.Core.Path.{ap, ◌∙◌}
 use mathlib.Core.List.{List}
-use Rattle.records.specs.Flaws.{told}
-use Rattle.given.specs.Given.{has}
+use Rattle.keywords.specs.Form.{argument}
+use Rattle.records.specs.Flaws.{told, checked}
+use Rattle.rules.specs.Going.{given_once}
 use Rattle.rules.specs.Component.{component_flaw, component_opens, component_part}
-use Rattle.rules.proofs.Going.{refused, passed, flawed, flawless}
+use Rattle.rules.specs.declared.Stage.TheVariants.{InComponent}
+use Rattle.rules.proofs.Going.{once-stopped, once-given}
 use Rattle.component_steps.proofs.component_part.Goals as goal
 
-pub returns-then-is_given : goal.returns-then-is_given
+pub returns-in_err-parts : goal.returns-in_err-parts
 unfolding component_part
-returns-then-is_given c = c.stopped.ensures ∙ refused 8 _ _ (sym (ap (has c.args.c.parts) c.part_place-place.ensures) ∙ sym c.is_given.ensures ∙ c.if-is_given.true)
-
-pub component_fault-fault-requires : goal.component_fault-fault-requires
-component_fault-fault-requires c = c.requires.within
-
-pub returns-then-fault-ne0 : goal.returns-then-fault-ne0
-unfolding component_part
-returns-then-fault-ne0 c =
-    let w = c.args.w.now in
-    c.stopped_at.ensures
-    ∙ flawed _ _ (c.component_fault-fault.ensures ∙ ap (λ (v : List ℕ). told w (component_flaw v c.args.p)) c.requires.text) c.if-fault-ne0.true
-    ∙ passed 8 _ _ (sym (ap (has c.args.c.parts) c.part_place-place.ensures) ∙ sym c.is_given.ensures ∙ c.if-is_given.false)
-
-pub part_opens-requires : goal.part_opens-requires
-part_opens-requires c = c.requires.within
+returns-in_err-parts c =
+    let a = c.args in
+    let e = c.component_fault-own.ensures ∙ ap (λ (v : List ℕ). checked (told a.w.now (component_flaw v a.p))) c.requires.text in
+    let t = c.once.ensures ∙ ap (λ (i : ℕ). given_once a.c.parts i a.k c.component_fault-own.result) c.part_place.ensures in
+    once-stopped _ _ _ _ (λ g. InComponent (record { line = a.c.line; first = a.c.first; parts = g; list = component_opens a.k (argument a.w.now) a.p })) e t _
+    c.from_residual.ensures.1 c.in_err-parts.was
 
 pub returns : goal.returns
 unfolding component_part
 returns c =
-    let w = c.args.w.now in
-    let opens = c.part_opens.ensures ∙ ap (λ (v : List ℕ). component_opens c.args.k v c.args.p) c.requires.text in
-    rw (c.also.ensures, opens, c.part_place-place.ensures)
-    (flawless _ _ (c.component_fault-fault.ensures ∙ ap (λ (v : List ℕ). told w (component_flaw v c.args.p)) c.requires.text) c.if-fault-ne0.false
-    ∙ passed 8 _ _ (sym (ap (has c.args.c.parts) c.part_place-place.ensures) ∙ sym c.is_given.ensures ∙ c.if-is_given.false))
+    let a = c.args in
+    let e = c.component_fault-own.ensures ∙ ap (λ (v : List ℕ). checked (told a.w.now (component_flaw v a.p))) c.requires.text in
+    let t = c.once.ensures ∙ ap (λ (i : ℕ). given_once a.c.parts i a.k c.component_fault-own.result) c.part_place.ensures in
+    rw (c.part_opens-list.ensures ∙ ap (λ (v : List ℕ). component_opens a.k v a.p) c.requires.text)
+    (once-given _ _ _ _ (λ g. InComponent (record { line = a.c.line; first = a.c.first; parts = g; list = component_opens a.k (argument a.w.now) a.p })) e t c.in_ok-parts.was)

@@ -1,26 +1,22 @@
--- Not such a line, given before, a fault of its word, or on: `refused`, `flawed`, `flawless`.
+-- Not such a line; else given before, a fault of its word, or on: `once-stopped`, `once-given`.
 use mathlib.Core.Path.{sym, ap, ◌∙◌}
 use Rattle.records.specs.declared.LineFault.{LineFault}
 use Rattle.rules.specs.Going.{stop_at}
-use Rattle.rules.proofs.Going.{refused, passed, flawed, flawless}
+use Rattle.rules.specs.declared.Stage.TheVariants.{InComponent}
+use Rattle.rules.proofs.Going.{once-stopped, once-given}
 use Rattle.component_steps.proofs.location_line.Goals as goal
 
 pub returns-in_default : goal.returns-in_default
-returns-in_default c = rw (sym c.component_line-found.ensures ∙ c.in_default.is) (c.stopped_at.ensures ∙ ap (λ (f : LineFault). stop_at f c.args.k) c.name_fault.ensures)
+returns-in_default c = rw (sym c.component_line.ensures ∙ c.in_default.is) (c.stopped_at.ensures ∙ ap (λ (f : LineFault). stop_at f c.args.k) c.name_fault.ensures)
 
-pub returns-then-is_given : goal.returns-then-is_given
-returns-then-is_given c =
-    rw (sym c.component_line-found.ensures ∙ c.in-At.is)
-    (c.stopped.ensures ∙ refused 8 _ _ (sym c.is_given.ensures ∙ c.if-is_given.true))
-
-pub returns-then-fault-ne0 : goal.returns-then-fault-ne0
-returns-then-fault-ne0 c =
-    rw (sym c.component_line-found.ensures ∙ c.in-At.is)
-    (c.stopped_at-then-fault-ne0.ensures ∙ flawed _ _ c.location_fault-fault.ensures c.if-fault-ne0.true
-    ∙ passed 8 _ _ (sym c.is_given.ensures ∙ c.if-is_given.false))
+pub returns-in_err-first : goal.returns-in_err-first
+returns-in_err-first c =
+    let a = c.args in
+    rw (sym c.component_line.ensures ∙ c.in-Some.is)
+    (once-stopped _ _ _ _ (λ g. InComponent (record { line = a.c.line; first = g; parts = a.c.parts; list = a.c.list })) c.location_fault.ensures c.once.ensures _ c.from_residual.ensures.1 c.in_err-first.was)
 
 pub returns : goal.returns
 returns c =
-    rw (sym c.component_line-found.ensures ∙ c.in-At.is, c.also.ensures)
-    (flawless _ _ c.location_fault-fault.ensures c.if-fault-ne0.false
-    ∙ passed 8 _ _ (sym c.is_given.ensures ∙ c.if-is_given.false))
+    let a = c.args in
+    rw (sym c.component_line.ensures ∙ c.in-Some.is)
+    (once-given _ _ _ _ (λ g. InComponent (record { line = a.c.line; first = g; parts = a.c.parts; list = a.c.list })) c.location_fault.ensures c.once.ensures c.in_ok-first.was)

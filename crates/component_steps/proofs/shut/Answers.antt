@@ -8,4 +8,4 @@ pub returns-then-not-whole : goal.returns-then-not-whole
 returns-then-not-whole c = c.stopped.ensures ∙ refused 9 _ _ (ap not c.if-not-whole.true)
 
 pub returns : goal.returns
-returns c = rw c.with_list.ensures (passed 9 _ _ (ap not c.if-not-whole.false))
+returns c = passed 9 _ _ (ap not c.if-not-whole.false)

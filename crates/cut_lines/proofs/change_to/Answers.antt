@@ -2,7 +2,6 @@
 use Prim.Native.Nat.{ℕ}
 use mathlib.Core.Path.{sym, ap, ◌∙◌}
 use Rattle.records.specs.Flaws.{Reads, told_in}
-use Rattle.cut_lines.specs.Cursors.{change_read}
 use Rattle.cut_lines.proofs.ChangeLaws.{to-wrong, to_none, to-unmarked, to-misspelled, to_end, to-remark, to-followed}
 use Rattle.cut_lines.proofs.change_to.Goals as goal
 
@@ -26,14 +25,14 @@ returns-then-w-behind c =
     let w = c.args.w.now in
     let marked = sym c.is_mark.ensures ∙ c.if-not-is_mark.false in
     let word = sym c.same.ensures ∙ c.if-not-same.false in
-    ap (λ (x : Reads ℕ). change_read (told_in w x)) (sym (to_end w _ c.if-w-at.false _ c.skip_ink-end.ensures.value marked word _ c.skip_blanks-behind.ensures.value c.if-w-behind.true))
+    ap (λ (x : Reads ℕ). told_in w x) (sym (to_end w _ c.if-w-at.false _ c.skip_ink-end.ensures.value marked word _ c.skip_blanks-behind.ensures.value c.if-w-behind.true))
 
 pub returns-then-w-behind-2 : goal.returns-then-w-behind-2
 returns-then-w-behind-2 c =
     let w = c.args.w.now in
     let marked = sym c.is_mark.ensures ∙ c.if-not-is_mark.false in
     let word = sym c.same.ensures ∙ c.if-not-same.false in
-    ap (λ (x : Reads ℕ). change_read (told_in w x)) (sym (to-remark w _ c.if-w-at.false _ c.skip_ink-end.ensures.value marked word _ c.skip_blanks-behind.ensures.value c.if-w-behind.false c.if-w-behind-2.true))
+    ap (λ (x : Reads ℕ). told_in w x) (sym (to-remark w _ c.if-w-at.false _ c.skip_ink-end.ensures.value marked word _ c.skip_blanks-behind.ensures.value c.if-w-behind.false c.if-w-behind-2.true))
 
 pub returns : goal.returns
 returns c =

@@ -1,8 +1,7 @@
 -- The lines passed so far left nothing: the texts from this line on are those from the first. Each way out is a law on one line more.
 use mathlib.Core.Path.{sym, ◌∙◌, subst}
 use native.Mathlib.Omega.{arith}
-use Rattle.cut_lines.specs.Cursors.{NextIs, change_says}
-use Rattle.cut_lines.proofs.ChangeLaws.{change-said}
+use Rattle.cut_lines.specs.Cursors.{NextIs}
 use Rattle.cut_lines.proofs.Laws.{read, cut-is, changed-is, passed_none, passed-empty, passed-text, passed-change, passed-out}
 use Rattle.cut_lines.proofs.text_from.Goals as goal
 
@@ -27,10 +26,10 @@ returns-then-changes c =
     let a = c.args in
     let l = c.loop-at in
     let r = c.cut_line-l in
-    let said = change-said _ _ c.change_of.ensures in
+    let said = c.change_of.ensures in
     subst (NextIs a.s.now (record { at = a.from; line = a.number; comment = a.comment })) (sym c.changed.ensures)
     (passed-change a.s.now _ _ l.invariant _ _
-    (changed-is a.s.now l.at l.line a.comment r.result c.loop-at-test.true r.ensures (change_says c.change_of.result) said (sym c.changes.ensures ∙ c.if-changes.true)))
+    (changed-is a.s.now l.at l.line a.comment r.result c.loop-at-test.true r.ensures c.change_of.result said (sym c.changes.ensures ∙ c.if-changes.true)))
 
 pub returns-then-at-l : goal.returns-then-at-l
 returns-then-at-l c =

@@ -1,7 +1,6 @@
 -- `decimal::any_number`: the laws of `number_of` from what its parts say. A slice has fewer than 2 ^ 63 bytes, so no sum wraps.
-use mathlib.Core.Path.{ap, sym, ◌∙◌}
+use mathlib.Core.Path.{sym, ◌∙◌}
 use native.Mathlib.Omega.{arith}
-use Rattle.decimal.specs.Answers.{number_read}
 use Rattle.decimal.proofs.Results.{number-none, number-bad, number-good, scale-up-small, scale-down-small}
 use Rattle.decimal.proofs.any_number.Goals as goal
 
@@ -9,7 +8,7 @@ pub returns-then-mantissa-eq0 : goal.returns-then-mantissa-eq0
 returns-then-mantissa-eq0 c =
     let s = c.sign_at-sign in
     let m = c.mantissa_at-mantissa in
-    ap number_read (sym (number-none _ s.result s.ensures m.result m.ensures.spans c.if-mantissa-eq0.true))
+    (sym (number-none _ s.result s.ensures m.result m.ensures.spans c.if-mantissa-eq0.true))
 
 pub returns-then-not-letters_from : goal.returns-then-not-letters_from
 returns-then-not-letters_from c =
@@ -17,8 +16,8 @@ returns-then-not-letters_from c =
     let m = c.mantissa_at-mantissa in
     let e = c.exponent_at-exponent in
     let l = c.letters_from in
-    ap number_read (sym (number-bad _ s.result s.ensures m.result m.ensures.spans c.if-mantissa-eq0.false e.result e.ensures
-    (sym l.ensures ∙ c.if-not-letters_from.true)))
+    sym (number-bad _ s.result s.ensures m.result m.ensures.spans c.if-mantissa-eq0.false e.result e.ensures
+    (sym l.ensures ∙ c.if-not-letters_from.true))
 
 pub overflow_add-up : goal.overflow_add-up
 overflow_add-up c = omega (arith, scale-up-small _ _ c.scale_up.ensures)
@@ -46,7 +45,7 @@ returns c =
     let sd = scale-down-small _ _ d.ensures in
     let good = c.well_formed in
     c.finish.ensures
-    ∙ ap number_read
+    ∙
     (number-good _ s.result s.ensures m.result m.ensures.spans c.if-mantissa-eq0.false
     e.result e.ensures (sym l.ensures ∙ c.if-not-letters_from.false)
     u.result d.result u.ensures d.ensures

@@ -3,8 +3,8 @@ use mathlib.Core.Path.{sym, ◌∙◌}
 use Rattle.decimal.proofs.Answers.{cell-from}
 use Rattle.decimal.proofs.given_cell.Goals as goal
 
-pub returns-in-Value : goal.returns-in-Value
-returns-in-Value c = cell-from _ _ (sym c.in-Value.is ∙ c.number_of.ensures)
+pub returns-in-Ok : goal.returns-in-Ok
+returns-in-Ok c = cell-from _ _ (sym c.in-Ok.is ∙ c.number_of.ensures)
 
-pub returns-in-Wrong : goal.returns-in-Wrong
-returns-in-Wrong c = cell-from _ _ (sym c.in-Wrong.is ∙ c.number_of.ensures)
+pub returns-in-Err : goal.returns-in-Err
+returns-in-Err c = cell-from _ _ (sym c.in-Err.is ∙ c.number_of.ensures)

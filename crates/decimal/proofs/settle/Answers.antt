@@ -1,16 +1,9 @@
 -- `decimal::settle`: the invariant is `Left`, with one law for a turn, and one for the end.
-use native.Mathlib.Omega.{arith}
-use Rattle.decimal.proofs.Settled.{left-none, left-turn, left_end, settle-zero}
+use Rattle.decimal.proofs.Settled.{left-turn, left_end, settle-zero}
 use Rattle.decimal.proofs.settle.Goals as goal
 
 pub returns-then-number-eq0 : goal.returns-then-number-eq0
 returns-then-number-eq0 c = settle-zero _ _ _ _ c.if-number-eq0.true
-
-pub loop-digits-init : goal.loop-digits-init
-loop-digits-init c = left-none _ _ c.if-number-eq0.false
-
-pub loop-digits-smaller : goal.loop-digits-smaller
-loop-digits-smaller c = omega (arith, c.loop-digits.invariant.some)
 
 pub loop-digits-preserved : goal.loop-digits-preserved
 loop-digits-preserved c = left-turn _ _ _ _ c.loop-digits.invariant c.loop-digits-test.true

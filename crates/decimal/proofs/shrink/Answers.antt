@@ -1,13 +1,7 @@
--- `decimal::shrink`: dividing by ten and then by what is left is dividing by the whole power.
-use mathlib.Core.Path.{refl, ◌∙◌}
-use Rattle.decimal.proofs.Order.{shrink-turn, shrink-end}
+-- `decimal::shrink`: a power that does not fit is above every number.
+use native.Mathlib.Omega.{arith}
+use Rattle.decimal.proofs.Capped.{ten-pos}
 use Rattle.decimal.proofs.shrink.Goals as goal
 
-pub loop-left-init : goal.loop-left-init
-loop-left-init c = refl
-
-pub loop-left-preserved : goal.loop-left-preserved
-loop-left-preserved c = shrink-turn _ _ c.loop-left-test.true ∙ c.loop-left.invariant
-
-pub returns : goal.returns
-returns c = shrink-end _ _ c.loop-left-test.false ∙ c.loop-left.invariant
+pub nonzero_div-result : goal.nonzero_div-result
+nonzero_div-result c = omega (arith, c.in-Some.ensures, ten-pos c.args.count)

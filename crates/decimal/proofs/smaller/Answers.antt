@@ -1,15 +1,12 @@
 -- `decimal::smaller`: one law for each side that is cut.
 use native.Mathlib.Omega.{arith}
-use Rattle.decimal.proofs.Order.{smaller-left, smaller-right, smaller-none}
+use Rattle.decimal.proofs.Order.{smaller-left, smaller-right}
 use Rattle.decimal.proofs.smaller.Goals as goal
 
 pub returns-then-a-b : goal.returns-then-a-b
 returns-then-a-b c =
     let v = c.args in
     smaller-left v.a.digits v.a.power v.b.digits v.b.power c.shrink.result c.if-a-b.true c.shrink.ensures
-
-pub returns-then-b-eq0 : goal.returns-then-b-eq0
-returns-then-b-eq0 c = smaller-none _ _ _ c.if-b-eq0.true
 
 pub returns : goal.returns
 returns c =

@@ -1,35 +1,22 @@
 -- `decimal::with_exponent`: the laws of `number_of` of a short word; a size too large goes to `any_number`.
-use Prim.Native.Nat.{ℕ}
-use mathlib.Core.Path.{◌≡◌, ap, sym, ◌∙◌}
-use mathlib.Core.Bool.{Bool, true}
+use Prim.Native.Nat.{ℕ, ◌<◌}
+use mathlib.Core.Path.{◌≡◌, sym, ◌∙◌}
 use native.Mathlib.Omega.{arith}
-use lib.Dec.{ltb}
-use borrow.Author.Tests.{not-true, not-false, ltb-true, ltb-false}
 use Rattle.laws.proofs.Tests.{cond_yes, cond_no}
-use Rattle.decimal.specs.Answers.{number_read}
-use Rattle.decimal.proofs.Results.{number-none, number-bad, scale-up-small, scale-down-small}
+use Rattle.decimal.proofs.Results.{number-bad, scale-up-small, scale-down-small}
 use Rattle.decimal.proofs.Settled.{number_short}
 use Rattle.decimal.proofs.with_exponent.Goals as goal
 
-some-digits : (some : Bool) (count : ℕ) → some ≡ ltb 0 count → some ≡ true → count ≡ 0 → ⊥
-some-digits some count e h z = let k = ltb-true 0 count (sym e ∙ h) in omega (arith, k, z)
-
-pub returns-then-not-begun : goal.returns-then-not-begun
-returns-then-not-begun c =
-    let p = c.requires in
-    let z = ltb-false 0 p.count (sym p.any ∙ not-true _ c.if-not-begun.true) in
-    ap number_read (sym (number-none _ _ p.sign _ p.mantissa.spans (omega (arith, z))))
+some-digits : (count : ℕ) → 0 < count → count ≡ 0 → ⊥
+some-digits count h z = omega arith
 
 pub returns-then-not-letters_from : goal.returns-then-not-letters_from
 returns-then-not-letters_from c =
     let p = c.requires in
     let e = c.exponent_at-exponent in
     let l = c.letters_from in
-    ap number_read (sym (number-bad _ _ p.sign _ p.mantissa.spans (some-digits _ _ p.any (not-false _ c.if-not-begun.false)) e.result e.ensures
-    (sym l.ensures ∙ c.if-not-letters_from.true)))
-
-pub returns-then-size-gt-LOWEST : goal.returns-then-size-gt-LOWEST
-returns-then-size-gt-LOWEST c = c.any_number.ensures
+    sym (number-bad _ _ p.sign _ p.mantissa.spans (some-digits _ p.some) e.result e.ensures
+    (sym l.ensures ∙ c.if-not-letters_from.true))
 
 pub overflow_add-up : goal.overflow_add-up
 overflow_add-up c = omega (arith, scale-up-small _ _ c.scale_up-up.ensures)
@@ -59,7 +46,7 @@ returns-then-exponent c =
     let u = c.scale_up-up in
     let d = c.scale_down in
     let t = c.if-exponent.true in
-    number_short _ p.few _ p.sign _ p.mantissa (some-digits _ _ p.any (not-false _ c.if-not-begun.false)) e.result e.ensures
+    number_short _ p.few _ p.sign _ p.mantissa (some-digits _ p.some) e.result e.ensures
     (sym l.ensures ∙ c.if-not-letters_from.false)
     u.result d.result u.ensures d.ensures _ _
     (omega (arith, cond_yes 0 e.result.size t)) (omega (arith, cond_yes e.result.size 0 t)) _ c.settle.ensures
@@ -82,7 +69,7 @@ returns c =
     let u = c.scale_up-up in
     let d = c.scale_down in
     let t = c.if-exponent.false in
-    number_short _ p.few _ p.sign _ p.mantissa (some-digits _ _ p.any (not-false _ c.if-not-begun.false)) e.result e.ensures
+    number_short _ p.few _ p.sign _ p.mantissa (some-digits _ p.some) e.result e.ensures
     (sym l.ensures ∙ c.if-not-letters_from.false)
     u.result d.result u.ensures d.ensures _ _
     (omega (arith, cond_no 0 e.result.size t)) (omega (arith, cond_no e.result.size 0 t)) _ c.settle-2.ensures

@@ -1,10 +1,7 @@
 -- Each kind of cell.
-use mathlib.Core.Path.{ap, ◌∙◌, sym}
+use mathlib.Core.Path.{ap, sym}
 use Rattle.doubles.specs.Double.{double_of}
 use Rattle.doubles.proofs.double_of.Goals as goal
-
-pub returns-in-Number : goal.returns-in-Number
-returns-in-Number c = c.double_of_number.ensures ∙ sym (ap double_of c.in-Number.is)
 
 pub returns-in-Missing : goal.returns-in-Missing
 unfolding double_of

@@ -1,10 +1,7 @@
 -- The cast loses nothing, and the one operation rounds the exact fraction.
 use native.Mathlib.Omega.{arith}
-use Rattle.doubles.proofs.Scaled.{lossless, divided, multiplied}
+use Rattle.doubles.proofs.Scaled.{divided, multiplied}
 use Rattle.doubles.proofs.size_of.Goals as goal
-
-pub int_to_float-whole : goal.int_to_float-whole
-int_to_float-whole c = lossless _ (omega arith)
 
 pub returns-then-power-lt40 : goal.returns-then-power-lt40
 returns-then-power-lt40 c = divided _ _ (omega arith) _ (omega arith) c.ten_to.ensures

@@ -1,32 +1,28 @@
--- Given before, a fault of the argument, or on: `refused`, `flawed`, `flawless`.
+-- Given before, a fault of the argument, or on: `once-stopped`, `once-given`.
+use Rattle.std.specs.Prelude.{leb}
 use Prim.Native.Nat.{ℕ}
-use mathlib.Core.Path.{sym, ap, ◌∙◌}
+use mathlib.Core.Path.{ap, ◌∙◌}
 use mathlib.Core.List.{List}
-use Rattle.records.specs.Flaws.{told}
-use Rattle.given.specs.Given.{has}
-use Rattle.rules.specs.Header.{header_flaw, header_part}
-use Rattle.rules.proofs.Going.{refused, passed, flawed, flawless}
+use Rattle.records.specs.Flaws.{told, checked}
+use Rattle.rules.specs.Going.{given_once}
+use Rattle.rules.specs.Header.{header_place, header_flaw, header_part}
+use Rattle.rules.specs.declared.Stage.TheVariants.{InHeader}
+use Rattle.rules.proofs.Going.{once-stopped, once-given}
 use Rattle.header_steps.proofs.header_part.Goals as goal
 
-pub returns-then-is_given : goal.returns-then-is_given
+pub returns-in_err-parts : goal.returns-in_err-parts
 unfolding header_part
-returns-then-is_given c = c.stopped.ensures ∙ refused 8 _ _ (sym (ap (has c.args.h.parts) c.part_place-place.ensures) ∙ sym c.is_given.ensures ∙ c.if-is_given.true)
-
-pub part_fault-fault-requires : goal.part_fault-fault-requires
-part_fault-fault-requires c = c.requires.within
-
-pub returns-then-fault-ne0 : goal.returns-then-fault-ne0
-unfolding header_part
-returns-then-fault-ne0 c =
-    let w = c.args.w.now in
-    c.stopped_at.ensures
-    ∙ flawed _ _ (c.part_fault-fault.ensures ∙ ap (λ (v : List ℕ). told w (header_flaw v c.args.p)) c.requires.text) c.if-fault-ne0.true
-    ∙ passed 8 _ _ (sym (ap (has c.args.h.parts) c.part_place-place.ensures) ∙ sym c.is_given.ensures ∙ c.if-is_given.false)
+returns-in_err-parts c =
+    let a = c.args in
+    let e = c.part_fault.ensures ∙ ap (λ (v : List ℕ). checked (told a.w.now (header_flaw v a.p))) c.requires.text in
+    let t = c.once.ensures ∙ ap (λ (i : ℕ). given_once a.h.parts i a.k c.part_fault.result) c.part_place-place.ensures in
+    once-stopped _ _ _ _ (λ g. InHeader (record { line = a.h.line; text = leb 2 (header_place a.p); parts = g })) e t _ c.from_residual.ensures.1 c.in_err-parts.was
 
 pub returns : goal.returns
 unfolding header_part
 returns c =
-    let w = c.args.w.now in
-    rw (c.also.ensures, c.part_place-place.ensures)
-    (flawless _ _ (c.part_fault-fault.ensures ∙ ap (λ (v : List ℕ). told w (header_flaw v c.args.p)) c.requires.text) c.if-fault-ne0.false
-    ∙ passed 8 _ _ (sym (ap (has c.args.h.parts) c.part_place-place.ensures) ∙ sym c.is_given.ensures ∙ c.if-is_given.false))
+    let a = c.args in
+    let e = c.part_fault.ensures ∙ ap (λ (v : List ℕ). checked (told a.w.now (header_flaw v a.p))) c.requires.text in
+    let t = c.once.ensures ∙ ap (λ (i : ℕ). given_once a.h.parts i a.k c.part_fault.result) c.part_place-place.ensures in
+    rw c.part_place-place.ensures
+    (once-given _ _ _ _ (λ g. InHeader (record { line = a.h.line; text = leb 2 (header_place a.p); parts = g })) e t c.in_ok-parts.was)

@@ -5,10 +5,10 @@ use Rattle.hierarchy.specs.Hierarchy.{is_found}
 use Rattle.keywords.specs.Form.{spelled}
 use Rattle.keywords.proofs.gap_or_slip.Goals as goal
 
-pub returns-in-At : goal.returns-in-At
+pub returns-in-Some : goal.returns-in-Some
 unfolding spelled
-returns-in-At c = sym (cond_yes _ _ (sym c.place.ensures.result_value ∙ ap is_found c.in-At.is))
+returns-in-Some c = sym (cond_yes _ _ (sym c.place.ensures.result_value ∙ ap is_found c.in-Some.is))
 
-pub returns-in-Nothing : goal.returns-in-Nothing
+pub returns-in-None : goal.returns-in-None
 unfolding spelled
-returns-in-Nothing c = sym (cond_no _ _ (sym c.place.ensures.result_value ∙ ap is_found c.in-Nothing.is))
+returns-in-None c = sym (cond_no _ _ (sym c.place.ensures.result_value ∙ ap is_found c.in-None.is))

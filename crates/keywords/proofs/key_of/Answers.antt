@@ -1,4 +1,5 @@
 -- The place of the first `]` is the scan's; the tests in the definition's order; where the argument begins by `key-known`.
+use Rattle.std.specs.Prelude.{Err}
 use Prim.Native.Nat.{ℕ, ◌<◌}
 use mathlib.Core.Path.{sym, ap, subst, ◌∙◌}
 use native.Mathlib.Omega.{arith}
@@ -6,7 +7,7 @@ use lib.ListN.{length-map}
 use Rattle.laws.specs.Bytes.{spelled_byte}
 use Rattle.laws.specs.Lists.{part}
 use Rattle.keywords.specs.Form.{spelled}
-use Rattle.keywords.specs.Answers.{keyword_or_nothing, known}
+use Rattle.keywords.specs.Answers.{known}
 use Rattle.keywords.proofs.Laws.{key-open, key_apart, key-known, key-not-carried, key-none, closed-within}
 use Rattle.keywords.proofs.Spelling.{said-too}
 use Rattle.keywords.proofs.Listed.{long-none}
@@ -31,31 +32,26 @@ returns-then-name-gt-LONGEST c =
     (key-not-carried w _ c.find-stop.ensures.value
     (sym c.closed_at.ensures ∙ c.if-not-closed_at.false)
     (sym c.in_parts.ensures ∙ c.if-not-in_parts.false)
-    (ap keyword_or_nothing long)
-    ∙ sym c.gap_or_slip.ensures) in record { value = old.0; result_value = old.1 }
-
-pub overflow_add-stop : goal.overflow_add-stop
-overflow_add-stop c =
-    let h = closed-within c.args.w.now c.find-stop.result (sym c.closed_at.ensures ∙ c.if-not-closed_at.false) in
-    omega arith
+    long
+    ∙ ap Err (sym c.gap_or_slip.ensures)) in record { value = old.0; result_value = old.1 }
 
 pub skip_blanks-requires : goal.skip_blanks-requires
 skip_blanks-requires c =
     let h = closed-within c.args.w.now c.find-stop.result (sym c.closed_at.ensures ∙ c.if-not-closed_at.false) in
     omega arith
 
-pub returns-in-Is : goal.returns-in-Is
-returns-in-Is c = let old : _ × _ = said-too _ _
+pub returns-in-Some : goal.returns-in-Some
+returns-in-Some c = let old : _ × _ = said-too _ _
     (key-known c.args.w.now _ c.find-stop.ensures.value _
     (sym c.closed_at.ensures ∙ c.if-not-closed_at.false)
     (sym c.in_parts.ensures ∙ c.if-not-in_parts.false)
     c.skip_blanks.ensures.value c.skip_blanks.ensures.lower_bound.1
-    ∙ ap (known _ _) (sym c.keyword_named.ensures ∙ c.in-Is.is)) in record { value = old.0; result_value = old.1 }
+    ∙ ap (known _ _) (sym c.keyword_named.ensures ∙ c.in-Some.is)) in record { value = old.0; result_value = old.1 }
 
-pub returns-in-Nothing : goal.returns-in-Nothing
-returns-in-Nothing c = let old : _ × _ = said-too _ _
+pub returns-in-None : goal.returns-in-None
+returns-in-None c = let old : _ × _ = said-too _ _
     (key-not-carried c.args.w.now _ c.find-stop.ensures.value
     (sym c.closed_at.ensures ∙ c.if-not-closed_at.false)
     (sym c.in_parts.ensures ∙ c.if-not-in_parts.false)
-    (sym c.keyword_named.ensures ∙ c.in-Nothing.is)
-    ∙ sym c.gap_or_slip-in-Nothing.ensures) in record { value = old.0; result_value = old.1 }
+    (sym c.keyword_named.ensures ∙ c.in-None.is)
+    ∙ ap Err (sym c.gap_or_slip-in-None.ensures)) in record { value = old.0; result_value = old.1 }

@@ -2,20 +2,19 @@
 use mathlib.Core.Path.{sym, ap, ◌∙◌}
 use Rattle.name_table.specs.Places.{meaning_of}
 use Rattle.keywords.specs.Carried.{carried}
-use Rattle.keywords.specs.Answers.{keyword_or_nothing}
 use Rattle.keywords.proofs.Laws.{meaning-found}
 use Rattle.keywords.proofs.keyword_named.Goals as goal
 
-pub returns-in-At : goal.returns-in-At
+pub returns-in-Some : goal.returns-in-Some
 unfolding meaning_of
-returns-in-At c =
+returns-in-Some c =
     let w = c.args.w.now in
     let p = c.place_as in
-    c.keyword_at.ensures ∙ ap keyword_or_nothing (sym (meaning-found w p.result p.ensures ∙ ap (meaning_of carried) c.in-At.is))
+    c.keyword_at.ensures ∙ (sym (meaning-found w p.result p.ensures ∙ ap (meaning_of carried) c.in-Some.is))
 
-pub returns-in-Nothing : goal.returns-in-Nothing
+pub returns-in-None : goal.returns-in-None
 unfolding meaning_of
-returns-in-Nothing c =
+returns-in-None c =
     let w = c.args.w.now in
     let p = c.place_as in
-    ap keyword_or_nothing (sym (meaning-found w p.result p.ensures ∙ ap (meaning_of carried) c.in-Nothing.is))
+    (sym (meaning-found w p.result p.ensures ∙ ap (meaning_of carried) c.in-None.is))

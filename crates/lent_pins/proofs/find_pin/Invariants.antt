@@ -1,11 +1,7 @@
--- What is found by a place, or behind it, is what the whole search finds; the places left get fewer.
-use Prim.Native.Nat.{◌-◌}
+-- What is found from place i on is what the whole search finds.
 use Rattle.lent_pins.specs.Search.{try_pin}
 use Rattle.lent_pins.proofs.Laws.{Goes}
 use Rattle.lent_pins.proofs.find_pin.Given as goal
 
-abbrev pub invariant-loop-f : goal.invariant-loop-f
-invariant-loop-f l = Goes (try_pin l.sought) l.pins l.used l.i l.f
-
-abbrev pub decreases-loop-f : goal.decreases-loop-f
-decreases-loop-f l = l.len - l.i
+abbrev pub invariant-loop-i : goal.invariant-loop-i
+invariant-loop-i l = Goes (try_pin l.sought) l.pin-items l.i

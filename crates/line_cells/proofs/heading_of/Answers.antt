@@ -1,35 +1,49 @@
--- Word by word: `heading-word`, `heading-other`.
-use mathlib.Core.Path.{refl, sym, ap, ◌∙◌}
-use Rattle.laws.specs.Bytes.{bytes}
-use Rattle.laws.specs.Lists.{eqs}
+-- Name by name, as each is there or another; behind the second, and behind the last, a word more or none.
+use Rattle.std.proofs.Common.{rules, sym, ap, ◌∙◌, Err}
 use Rattle.records.specs.Flaws.{told_in}
-use Rattle.line_cells.specs.Headings.{heading_read}
-use Rattle.line_cells.specs.declared.HeadingRead.TheVariants.{NoHeading}
-use Rattle.line_cells.proofs.Headings.{heading-from, heading-word, heading-other}
+use Rattle.line_cells.proofs.Headings.{heading-from, heading-second, heading-short, heading-cells, long-none, long-more}
 use Rattle.line_cells.proofs.heading_of.Goals as goal
 
-pub returns-then-not-named : goal.returns-then-not-named
-unfolding eqs
-returns-then-not-named c =
-    let w = c.args.w.now in
-    let a = c.word_at-a.ensures in
-    ap NoHeading c.at_fault.ensures
-    ∙ sym (ap heading_read (ap (told_in w) (heading-from _) ∙ heading-other w _ _ a (bytes "signal_name") refl (sym c.named.ensures ∙ c.if-not-named.true) _ _))
+pub returns-in_err-signal : goal.returns-in_err-signal
+returns-in_err-signal c =
+    let o = ap (told_in c.args.w.now) (heading-from _) ∙ c.in_err-signal.ensures.heading _ _ in
+    search rules
 
-pub returns-then-not-named-2 : goal.returns-then-not-named-2
-unfolding eqs
-returns-then-not-named-2 c =
+pub returns-in_err-model : goal.returns-in_err-model
+returns-in_err-model c =
+    let o = ap (told_in c.args.w.now) (heading-second c.in_ok-signal.ensures) ∙ c.in_err-model.ensures.heading _ _ in
+    search rules
+
+pub returns-then-w-more : goal.returns-then-w-more
+returns-then-w-more c = sym (ap (told_in c.args.w.now) (heading-short c.in_ok-signal.ensures c.in_ok-model.ensures c.word_at-more.ensures c.if-w-more.true))
+
+pub returns-in_err-resistance : goal.returns-in_err-resistance
+returns-in_err-resistance c =
+    let h = heading-cells c.in_ok-signal.ensures c.in_ok-model.ensures c.word_at-more.ensures c.if-w-more.false in
+    let o = ap (told_in c.args.w.now) h ∙ c.in_err-resistance.ensures.long _ in
+    search rules
+
+pub returns-in_err-inductance : goal.returns-in_err-inductance
+returns-in_err-inductance c =
+    let h = heading-cells c.in_ok-signal.ensures c.in_ok-model.ensures c.word_at-more.ensures c.if-w-more.false in
+    let o = ap (told_in c.args.w.now) (h ∙ c.in_ok-resistance.ensures.long _) ∙ c.in_err-inductance.ensures.long _ in
+    search rules
+
+pub returns-in_err-capacitance : goal.returns-in_err-capacitance
+returns-in_err-capacitance c =
+    let h = heading-cells c.in_ok-signal.ensures c.in_ok-model.ensures c.word_at-more.ensures c.if-w-more.false in
+    let o = ap (told_in c.args.w.now) (h ∙ c.in_ok-resistance.ensures.long _ ∙ c.in_ok-inductance.ensures.long _) ∙ c.in_err-capacitance.ensures.long _ in
+    search rules
+
+pub returns-then-surplus-w : goal.returns-then-surplus-w
+returns-then-surplus-w c =
     let w = c.args.w.now in
-    let a = c.word_at-a.ensures in
-    let b = c.word_at-b.ensures in
-    ap NoHeading c.at_fault-then-not-named-2.ensures
-    ∙ sym (ap heading_read (ap (told_in w) (heading-from _ ∙ heading-word w _ _ a (bytes "signal_name") refl (sym c.named.ensures ∙ c.if-not-named.false) _ _) ∙ heading-other w _ _ b (bytes "model_name") refl (sym c.named-2.ensures ∙ c.if-not-named-2.true) _ _))
+    let h = heading-cells c.in_ok-signal.ensures c.in_ok-model.ensures c.word_at-more.ensures c.if-w-more.false in
+    ap Err c.at_fault.ensures
+    ∙ sym (ap (told_in w) (h ∙ c.in_ok-resistance.ensures.long _ ∙ c.in_ok-inductance.ensures.long _ ∙ c.in_ok-capacitance.ensures.long _) ∙ long-more w _ _ c.word_at-surplus.ensures c.if-surplus-w.true)
 
 pub returns : goal.returns
-unfolding eqs
 returns c =
     let w = c.args.w.now in
-    let a = c.word_at-a.ensures in
-    let b = c.word_at-b.ensures in
-    c.rest_of.ensures
-    ∙ sym (ap (λ x. heading_read (told_in w x)) (heading-from _ ∙ heading-word w _ _ a (bytes "signal_name") refl (sym c.named.ensures ∙ c.if-not-named.false) _ _ ∙ heading-word w _ _ b (bytes "model_name") refl (sym c.named-2.ensures ∙ c.if-not-named-2.false) _ _))
+    let h = heading-cells c.in_ok-signal.ensures c.in_ok-model.ensures c.word_at-more.ensures c.if-w-more.false in
+    sym (ap (told_in w) (h ∙ c.in_ok-resistance.ensures.long _ ∙ c.in_ok-inductance.ensures.long _ ∙ c.in_ok-capacitance.ensures.long _ ∙ long-none w _ _ c.word_at-surplus.ensures c.if-surplus-w.false))

@@ -34,4 +34,4 @@ returns c =
     let f = c.word_at-fifth.ensures in
     c.row_from.ensures
     ∙ row-worded a (words-just (link a (link b (link d done))) e c.if-w-d.false f c.if-fifth-w.false) (three-from b d e c.if-w-d.false f c.if-fifth-w.false)
-    c.number_word_at.ensures c.cell_word_at.ensures c.cell_word_at-2.ensures c.cell_word_at-3.ensures
+    (cc) (cc) (cc) (cc)

@@ -1,6 +1,5 @@
 -- No slash, a second one, or two numbers: `slope-none`, `slope-two`, `slope-one`.
-use mathlib.Core.Path.{sym, ◌∙◌}
-use lib.Seq.{length-take-le}
+use mathlib.Core.Path.{◌∙◌}
 use Rattle.line_cells.proofs.Laws.{slope-none, slope-two, slope-one}
 use Rattle.line_cells.proofs.slope_of.Goals as goal
 
@@ -9,9 +8,6 @@ returns-then-w-slash c = slope-none c.args.w.now _ c.find-slash.ensures.value c.
 
 pub returns-then-find-w : goal.returns-then-find-w
 returns-then-find-w c = slope-two c.args.w.now _ c.find-slash.ensures.value c.if-w-slash.false _ c.find.ensures.value c.if-find-w.true
-
-pub slice_bounds-number_of-end : goal.slice_bounds-number_of-end
-slice_bounds-number_of-end c = sym (length-take-le _ _ c.find-slash.ensures.lower_bound.1)
 
 pub returns : goal.returns
 returns c =

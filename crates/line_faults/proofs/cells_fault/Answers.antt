@@ -1,12 +1,12 @@
--- By what the answer says.
-use mathlib.Core.Path.{ap, ◌∙◌}
-use Rattle.records.specs.Flaws.{line_fault_in, told_in}
-use Rattle.records.proofs.Columns.{told-fault}
-use Rattle.line_rules.specs.Fields.{cells_line}
-use Rattle.line_rules.proofs.Answers.{triple-said}
+-- The line is fair, so the fault of what is told is what its check answers.
+use mathlib.Core.Path.{sym, ap, ◌∙◌}
+use Rattle.laws.proofs.Handed.{handed_on}
+use Rattle.line_rules.proofs.Fair.{cells-line-fair, fault_of, fair-checked}
 use Rattle.line_faults.proofs.cells_fault.Goals as goal
 
+pub returns-in_err-cells_line : goal.returns-in_err-cells_line
+returns-in_err-cells_line c =
+    handed_on _ c.from_residual.ensures.1 ∙ ap fault_of (sym c.in_err-cells_line.was ∙ c.cells_line.ensures) ∙ fair-checked _ (cells-line-fair c.args.w.now)
+
 pub returns : goal.returns
-returns c =
-    let w = c.args.w.now in
-    c.triple_fault.ensures ∙ ap line_fault_in (triple-said _ (told_in w (cells_line w)) c.cells_line.ensures) ∙ told-fault w (cells_line w)
+returns c = ap fault_of (sym c.in_ok-cells_line.was ∙ c.cells_line.ensures) ∙ fair-checked _ (cells-line-fair c.args.w.now)

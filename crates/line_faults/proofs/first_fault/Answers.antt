@@ -1,7 +1,7 @@
 -- Each place by computing, the places past the third by `first-value`.
 use mathlib.Core.Path.{sym, ap, ◌∙◌}
 use Rattle.laws.proofs.Numbers.{apart-le}
-use Rattle.records.specs.Flaws.{told}
+use Rattle.records.specs.Flaws.{Flaw, told, checked}
 use Rattle.line_faults.specs.Places.{first_at}
 use Rattle.line_faults.proofs.Laws.{first-value}
 use Rattle.line_faults.proofs.first_fault.Goals as goal
@@ -22,4 +22,4 @@ pub returns-in_default : goal.returns-in_default
 returns-in_default c =
     let n = c.args.n in
     let w = c.args.w.now in
-    c.value_fault.ensures ∙ ap (told w) (sym (first-value n w (apart-le 3 n c.in_default.in_default-own.rest)))
+    c.value_fault.ensures ∙ ap (λ (f : Flaw). checked (told w f)) (sym (first-value n w (apart-le 3 n c.in_default.in_default-own.rest)))

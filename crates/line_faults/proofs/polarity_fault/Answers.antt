@@ -2,7 +2,7 @@
 use mathlib.Core.Path.{refl, ap, ◌∙◌}
 use Rattle.laws.specs.Bytes.{is_blank}
 use Rattle.words.specs.Words.{words, grown, onto_word}
-use Rattle.records.specs.Flaws.{told}
+use Rattle.records.specs.Flaws.{Flaw, told, checked}
 use Rattle.name_table.specs.Places.{names_of}
 use Rattle.name_table.specs.declared.NameList.TheVariants.{Polarities}
 use Rattle.line_rules.specs.Tables.{polarities}
@@ -13,4 +13,4 @@ pub returns : goal.returns
 unfolding words grown onto_word is_blank names_of polarities
 returns c =
     let w = c.args.w.now in
-    c.word_line_fault.ensures ∙ ap (told w) (line-flaw polarities Polarities refl w)
+    c.word_line_fault.ensures ∙ ap (λ (f : Flaw). checked (told w f)) (line-flaw polarities Polarities refl w)

@@ -20,21 +20,21 @@ loop-at-init c = (omega arith, omega arith, sym (cond_yes _ _ (le-leb _ 65536 c.
 
 pub loop-at-smaller : goal.loop-at-smaller
 loop-at-smaller c =
-    let g = subst (Goes c.args.s.now c.loop-at.at) c.in-Next.is c.line_check.ensures.goes in
+    let g = subst (Goes c.args.s.now c.loop-at.at) c.in-Ok.is c.line_check.ensures.goes in
     omega (arith, g.0, g.1)
 
 pub loop-at-preserved : goal.loop-at-preserved
 loop-at-preserved c =
     let s = c.args.s.now in
     let l = c.loop-at in
-    let g = subst (Goes s l.at) c.in-Next.is c.line_check.ensures.goes in
-    (g.1, omega (arith, g.0, l.invariant.1), sym (c.line_check.ensures.by_index l.line ∙ ap (checked s l.line) c.in-Next.is) ∙ l.invariant.2)
+    let g = subst (Goes s l.at) c.in-Ok.is c.line_check.ensures.goes in
+    (g.1, omega (arith, g.0, l.invariant.1), sym (c.line_check.ensures.by_index l.line ∙ ap (checked s l.line) c.in-Ok.is) ∙ l.invariant.2)
 
-pub returns-in-Wrong : goal.returns-in-Wrong
-returns-in-Wrong c =
+pub returns-in-Err : goal.returns-in-Err
+returns-in-Err c =
     let s = c.args.s.now in
     let l = c.loop-at in
-    sym (c.line_check.ensures.by_index l.line ∙ ap (checked s l.line) c.in-Wrong.is) ∙ l.invariant.2
+    sym (c.line_check.ensures.by_index l.line ∙ ap (checked s l.line) c.in-Err.is) ∙ l.invariant.2
 
 pub returns : goal.returns
 unfolding fault_from lines_of

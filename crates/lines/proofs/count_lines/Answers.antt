@@ -1,32 +1,29 @@
--- The lines counted and those that are left are all lines; a line has a byte at least.
-use Prim.Native.Nat.{ℕ}
-use mathlib.Core.Path.{ap}
-use mathlib.Core.List.{List}
-use native.Mathlib.Omega.{arith}
-use lib.ListN.{length, drop_of_length-le}
-use Rattle.lines.specs.Lines.{lines_of}
-use Rattle.lines.proofs.Handed.{raw-handed}
+-- By the LFs and the last byte: `Counted`.
+use Rattle.std.proofs.Common.{rules, arith, ◌≡◌, ◌-◌, ◌<◌, ◌≤◌, length, get_or, sym, ◌∙◌}
+use Rattle.std.specs.List.{count_by}
+use lib.Dec.{eqb}
+use Rattle.lines.proofs.Counted.{lines-open, lines-ended, lines-none, lines-le}
 use Rattle.lines.proofs.count_lines.Goals as goal
 
-pub loop-at-init : goal.loop-at-init
-loop-at-init c = (omega arith, omega arith, omega arith)
+pub returns-in-Some-clause-value : goal.returns-in-Some-clause-value
+returns-in-Some-clause-value c =
+    let n : c.count-ended.result ≡ count_by (λ b. eqb b 10) c.args.s.now = search rules in
+    let e : c.in-Some.b.now ≡ get_or c.args.s.now (length c.args.s.now - 1) 0 = search rules in
+    let h : 0 < length c.args.s.now = search rules in
+    lines-open _ _ n h (λ q. c.if-b-ne10.true (e ∙ q))
 
-pub loop-at-smaller : goal.loop-at-smaller
-loop-at-smaller c =
-    let r = raw-handed c.args.s.now c.loop-at.at c.line_at-l.result c.loop-at-test.true c.line_at-l.ensures in
-    omega (arith, r.rises, r.within)
+pub returns-in-Some-clause-upper_bound : goal.returns-in-Some-clause-upper_bound
+returns-in-Some-clause-upper_bound c = omega (arith, lines-le c.args.s.now, returns-in-Some-clause-value c)
 
-pub loop-at-preserved : goal.loop-at-preserved
-loop-at-preserved c =
-    let r = raw-handed c.args.s.now c.loop-at.at c.line_at-l.result c.loop-at-test.true c.line_at-l.ensures in
-    let i = c.loop-at.invariant in
-    (r.within, omega (arith, i.1, r.rises), omega (arith, i.2, ap length r.more))
+pub returns-in_default-clause-value : goal.returns-in_default-clause-value
+returns-in_default-clause-value c =
+    let n : c.count-ended.result ≡ count_by (λ b. eqb b 10) c.args.s.now = search rules in
+    let e : c.in-Some.b.now ≡ get_or c.args.s.now (length c.args.s.now - 1) 0 = search rules in
+    let h : 0 < length c.args.s.now = search rules in
+    lines-ended _ _ n h (sym e ∙ c.if-b-ne10.false)
 
-pub returns : goal.returns
-unfolding lines_of
-returns c =
-    let i = c.loop-at.invariant in
-    record {
-      value = omega (arith, i.2, ap (λ (l : List ℕ). length (lines_of l)) (drop_of_length-le c.args.s.now c.loop-at-test.false));
-      upper_bound = omega (arith, i.0, i.1);
-    }
+pub returns-in_default-2-clause-value : goal.returns-in_default-2-clause-value
+returns-in_default-2-clause-value c =
+    let n : c.count-ended.result ≡ count_by (λ b. eqb b 10) c.args.s.now = search rules in
+    let h : length c.args.s.now ≤ 0 = search rules in
+    lines-none _ _ n h

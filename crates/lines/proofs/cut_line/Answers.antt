@@ -17,13 +17,13 @@ line_to-whole-requires c = record {
 pub slice_bounds-trimmed-count : goal.slice_bounds-trimmed-count
 slice_bounds-trimmed-count c =
     let b = c in
-    omega (arith, c.least-end.ensures, c.text_stop-stop.ensures.lower_bound, (raw-handed b.args.s.now b.args.at c.line_to-whole.result b.requires c.line_to-whole.ensures.value).starts)
+    omega (arith, c.min-end.ensures, c.text_stop-stop.ensures.lower_bound, (raw-handed b.args.s.now b.args.at c.line_to-whole.result b.requires c.line_to-whole.ensures.value).starts)
 
 pub slice_bounds-trimmed-start : goal.slice_bounds-trimmed-start
 slice_bounds-trimmed-start c = slice_bounds-trimmed-count c
 
 pub slice_bounds-trimmed-end : goal.slice_bounds-trimmed-end
-slice_bounds-trimmed-end c = omega (arith, c.least-end.ensures, c.text_stop-stop.ensures.lower_bound)
+slice_bounds-trimmed-end c = omega (arith, c.min-end.ensures, c.text_stop-stop.ensures.lower_bound)
 
 pub returns : goal.returns
 returns c =
@@ -32,7 +32,7 @@ returns c =
     let whole = c.line_to-whole in
     let stop = c.text_stop-stop in
     let lf = c.find in
-    let end = c.least-end in
+    let end = c.min-end in
     let m : end.result - b.args.at ≡ min (whole.result.end - b.args.at) (length (front (other b.args.comment) l)) =
     omega (arith, end.ensures, stop.ensures.value, stop.ensures.result_value, lf.ensures.value, whole.ensures.end_le_stop) in
     cut-read b.args.s.now b.args.at b.args.comment whole.result c.trimmed-left.result whole.ensures.value

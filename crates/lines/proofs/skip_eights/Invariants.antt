@@ -1,12 +1,13 @@
--- The eight bytes of a turn are eight steps of one scan.
-use Prim.Native.Nat.{◌-◌}
-use lib.ListN.{length}
-use Rattle.words.proofs.Scans.{Scan}
-use Rattle.lines.specs.Lines.{is_allowed}
+-- All bytes before i pass.
+use Rattle.std.proofs.Common.{◌+◌, ◌-◌, ◌≤◌, ◌<◌, ℕ, true, get_or, length}
 use Rattle.lines.proofs.skip_eights.Given as goal
 
-abbrev pub invariant-loop-i : goal.invariant-loop-i
-invariant-loop-i l = Scan is_allowed l.s l.at l.i
+abbrev pub invariant-loop-eight : goal.invariant-loop-eight
+invariant-loop-eight g l = record {
+  from : l.at ≤ l.i;
+  within : l.i ≤ length l.s;
+  passed : (k : ℕ) → l.at + k < l.i → goal.F-post g l.passes (get_or l.s (l.at + k) 0) true;
+}
 
-abbrev pub decreases-loop-i : goal.decreases-loop-i
-decreases-loop-i l = length l.s - l.i
+abbrev pub decreases-loop-eight : goal.decreases-loop-eight
+decreases-loop-eight g l = length l.s - l.i

@@ -1,25 +1,31 @@
--- The eight bytes of a turn are eight steps of two scans; `text_stop_slowly` goes on from where they stand.
-use native.Mathlib.Omega.{arith}
+-- Two scans pass over what is neither an LF nor the comment character; one of them stops there, or both at the end.
+use Rattle.std.proofs.Common.{rules, of_calls, ◌≡◌, ◌+◌, ◌<◌, ℕ, ◌⊎◌, inl, inr, length, get_or}
 use Rattle.laws.specs.Lists.{other}
-use Rattle.words.proofs.Scans.{scan-none}
-use Rattle.lines.proofs.Blocks.{scan-eight, text-on}
+use Rattle.laws.proofs.Fronts.{other-yes, other-no}
+use Rattle.words.proofs.Scans.{Scan}
+use Rattle.lines.proofs.Stops.{goes-on, text-stops}
 use Rattle.lines.proofs.text_stop.Goals as goal
 
-pub loop-i-init : goal.loop-i-init
-loop-i-init c = (scan-none (other 10) _ _ c.requires, scan-none (other _) _ _ c.requires)
+module _ (c : goal.After-skip_eights) where
+  lf : (k : ℕ) → c.args.at + k < c.skip_eights.result → get_or c.args.s.now (c.args.at + k) 0 ≡ 10 → ⊥
+  lf k h = let y = c.skip_eights.ensures.passed k h in search (rules, of_calls, y)
 
-pub returns-then-not-eight_without : goal.returns-then-not-eight_without
-returns-then-not-eight_without c = let old : _ × (_ × _) = text-on _ _ _ _ c.loop-i.invariant c.text_stop_slowly.result (c.text_stop_slowly.ensures.value, (c.text_stop_slowly.ensures.lower_bound, c.text_stop_slowly.ensures.result_value)) in record { value = old.0; lower_bound = old.1.0; result_value = old.1.1 }
+  mark : (k : ℕ) → c.args.at + k < c.skip_eights.result → get_or c.args.s.now (c.args.at + k) 0 ≡ c.args.comment → ⊥
+  mark k h = let y = c.skip_eights.ensures.passed k h in search (rules, of_calls, y)
 
-pub returns-then-not-eight_without-2 : goal.returns-then-not-eight_without-2
-returns-then-not-eight_without-2 c = let old : _ × (_ × _) = text-on _ _ _ _ c.loop-i.invariant c.text_stop_slowly-then-not-eight_without-2.result (c.text_stop_slowly-then-not-eight_without-2.ensures.value, (c.text_stop_slowly-then-not-eight_without-2.ensures.lower_bound, c.text_stop_slowly-then-not-eight_without-2.ensures.result_value)) in record { value = old.0; lower_bound = old.1.0; result_value = old.1.1 }
+  stops : c.skip_eights.result < length c.args.s.now → (get_or c.args.s.now c.skip_eights.result 0 ≡ 10) ⊎ (get_or c.args.s.now c.skip_eights.result 0 ≡ c.args.comment)
+  stops h = let y = c.skip_eights.ensures.stopped h in search (rules, of_calls, y)
 
-pub loop-i-preserved : goal.loop-i-preserved
-loop-i-preserved c =
-    let w = c.loop-i.invariant in
-    let mark = c.eight_without in
-    let lf = c.eight_without-in-loop-i in
-    (scan-eight (other 10) _ _ _ w.0 (omega arith) (lf.ensures (c.if-not-eight_without-2.false)), scan-eight (other _) _ _ _ w.1 (omega arith) (mark.ensures (c.if-not-eight_without.false)))
+  lf-scan : Scan (other 10) c.args.s.now c.args.at c.skip_eights.result
+  lf-scan = goes-on _ _ _ c.skip_eights.ensures.lower_bound (other 10) (λ k h. other-yes _ _ (lf k h))
 
-pub returns : goal.returns
-returns c = let old : _ × (_ × _) = text-on _ _ _ _ c.loop-i.invariant c.text_stop_slowly-2.result (c.text_stop_slowly-2.ensures.value, (c.text_stop_slowly-2.ensures.lower_bound, c.text_stop_slowly-2.ensures.result_value)) in record { value = old.0; lower_bound = old.1.0; result_value = old.1.1 }
+  mark-scan : Scan (other c.args.comment) c.args.s.now c.args.at c.skip_eights.result
+  mark-scan = goes-on _ _ _ c.skip_eights.ensures.lower_bound (other c.args.comment) (λ k h. other-yes _ _ (mark k h))
+
+pub returns-clause-value : goal.returns-clause-value
+returns-clause-value c =
+    text-stops _ _ _ c.skip_eights.ensures.lower_bound c.args.comment (lf-scan c) (mark-scan c)
+    (λ h. elim (stops c h) [ inl e ↦ inl (other-no _ _ e) | inr e ↦ inr (other-no _ _ e) ])
+
+pub returns-clause-result_value : goal.returns-clause-result_value
+returns-clause-result_value c = (lf-scan c).1

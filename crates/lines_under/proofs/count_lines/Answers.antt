@@ -1,20 +1,11 @@
 -- The lines counted and those from this cursor on are those from the first: a fold that adds one a line.
 use mathlib.Core.Path.{refl}
 use native.Mathlib.Omega.{arith}
-use Rattle.lines_under.proofs.Folds.{gathers-start, line-less, gathers-line, gathers-room, gathers-end, count-fold, count_small}
+use Rattle.lines_under.proofs.Folds.{gathers-line, gathers-room, gathers-end, count_small}
 use Rattle.lines_under.proofs.count_lines.Goals as goal
-
-pub loop-start-init : goal.loop-start-init
-loop-start-init c = gathers-start count-fold _ _ _ c.requires
-
-pub next_line-requires : goal.next_line-requires
-next_line-requires c = c.loop-start.invariant.along.placed
 
 pub overflow_add-count : goal.overflow_add-count
 overflow_add-count c = omega (arith, gathers-room c.loop-start.invariant c.in-Line.is c.next_line.ensures _ count_small)
-
-pub loop-start-smaller : goal.loop-start-smaller
-loop-start-smaller c = line-less c.loop-start.invariant c.in-Line.is c.next_line.ensures
 
 pub loop-start-preserved : goal.loop-start-preserved
 loop-start-preserved c = gathers-line c.loop-start.invariant c.in-Line.is c.next_line.ensures refl

@@ -1,14 +1,11 @@
 -- By what `Making` says of each turn: it puts a waveform, or the model that all its waveforms are put for.
 use Prim.Native.Nat.{ℕ, suc, ◌+◌, ◌-◌, ◌<◌}
 use mathlib.Core.Path.{sym, ap, subst, ◌∙◌}
-use mathlib.Core.Bool.{Bool, not}
 use mathlib.Core.List.{List}
 use native.Mathlib.Numerals.{add-one}
 use native.Mathlib.Omega.{arith}
-use lib.Dec.{T as Holds}
 use lib.ListN.{length, set}
 use Rattle.records.specs.declared.Model.{Model}
-use Rattle.records.specs.declared.Waveform.{Waveform}
 use Rattle.from_notes.specs.Made.{waveforms_at}
 use Rattle.from_notes.specs.declared.Progress.{Progress}
 use Rattle.reader.proofs.Making.{Made, begins, ready, seconds, firsts}
@@ -27,42 +24,50 @@ pub next_record-p-requires : goal.next_record-p-requires
 next_record-p-requires c =
     let a = c.args in
     let l = c.loop-i in
-    ready a.src.now a.notes.now a.o a.models.now a.waveforms.now a.rows.now l.i l.k l.p l.models l.waveforms l.rows l.invariant (subst (λ (n : ℕ). l.i < n) c.model_count-n.ensures c.loop-i-test.true)
+    ready a.src.now a.notes.now a.o a.models.now a.waveforms.now a.rows.now l.i l.k l.p l.models l.waveforms l.rows l.invariant c.loop-i-test.true
 
 -- behind a waveform
-pub put_waveform-requires : goal.put_waveform-requires
-put_waveform-requires c =
+pub bounds-waveforms-k : goal.bounds-waveforms-k
+bounds-waveforms-k c =
     let a = c.args in
     let l = c.loop-i in
-    (seconds a.src.now a.notes.now a.o a.models.now a.waveforms.now a.rows.now l.i l.k l.p l.models l.waveforms l.rows l.invariant (subst (λ (n : ℕ). l.i < n) c.model_count-n.ensures c.loop-i-test.true)
-    c.next_record-p.result c.next_record-p.new.rows c.next_record-p.ensures (subst Holds (sym c.if-is_waveform.true ∙ c.is_waveform.ensures) tt)).0
+    (seconds a.src.now a.notes.now a.o a.models.now a.waveforms.now a.rows.now l.i l.k l.p l.models l.waveforms l.rows l.invariant c.loop-i-test.true
+    c.next_record-p.result c.next_record-p.new.rows c.next_record-p.ensures c.in-Some.waveform (sym c.waveform_made.ensures ∙ c.in-Some.is)).0
+
+pub offset_bounds-waveforms-k : goal.offset_bounds-waveforms-k
+offset_bounds-waveforms-k c =
+    let a = c.args in
+    let l = c.loop-i in
+    let h : l.k < length l.waveforms =
+    (seconds a.src.now a.notes.now a.o a.models.now a.waveforms.now a.rows.now l.i l.k l.p l.models l.waveforms l.rows l.invariant c.loop-i-test.true
+    c.next_record-p.result c.next_record-p.new.rows c.next_record-p.ensures c.in-Some.waveform (sym c.waveform_made.ensures ∙ c.in-Some.is)).0 in
+    omega (arith, c.well_formed)
 
 pub overflow_add-k : goal.overflow_add-k
 overflow_add-k c =
     let a = c.args in
     let l = c.loop-i in
     let h : l.k < length l.waveforms =
-    (seconds a.src.now a.notes.now a.o a.models.now a.waveforms.now a.rows.now l.i l.k l.p l.models l.waveforms l.rows l.invariant (subst (λ (n : ℕ). l.i < n) c.model_count-n.ensures c.loop-i-test.true)
-    c.next_record-p.result c.next_record-p.new.rows c.next_record-p.ensures (subst Holds (sym c.if-is_waveform.true ∙ c.is_waveform.ensures) tt)).0 in
+    (seconds a.src.now a.notes.now a.o a.models.now a.waveforms.now a.rows.now l.i l.k l.p l.models l.waveforms l.rows l.invariant c.loop-i-test.true
+    c.next_record-p.result c.next_record-p.new.rows c.next_record-p.ensures c.in-Some.waveform (sym c.waveform_made.ensures ∙ c.in-Some.is)).0 in
     record { fits = omega arith }
 
-pub loop-i-smaller-then-is_waveform : goal.loop-i-smaller-then-is_waveform
-loop-i-smaller-then-is_waveform c =
+pub loop-i-smaller-in-Some : goal.loop-i-smaller-in-Some
+loop-i-smaller-in-Some c =
     let a = c.args in
     let l = c.loop-i in
-    fewer (c.model_count-n.result - l.i) (length (waveforms_at a.src.now a.notes.now a.o.models)) l.k
-    (seconds a.src.now a.notes.now a.o a.models.now a.waveforms.now a.rows.now l.i l.k l.p l.models l.waveforms l.rows l.invariant (subst (λ (n : ℕ). l.i < n) c.model_count-n.ensures c.loop-i-test.true)
-    c.next_record-p.result c.next_record-p.new.rows c.next_record-p.ensures (subst Holds (sym c.if-is_waveform.true ∙ c.is_waveform.ensures) tt)).1.0
+    fewer (a.o.models - l.i) (length (waveforms_at a.src.now a.notes.now a.o.models)) l.k
+    (seconds a.src.now a.notes.now a.o a.models.now a.waveforms.now a.rows.now l.i l.k l.p l.models l.waveforms l.rows l.invariant c.loop-i-test.true
+    c.next_record-p.result c.next_record-p.new.rows c.next_record-p.ensures c.in-Some.waveform (sym c.waveform_made.ensures ∙ c.in-Some.is)).1.0
 
-pub loop-i-preserved-then-is_waveform : goal.loop-i-preserved-then-is_waveform
-loop-i-preserved-then-is_waveform c =
+pub loop-i-preserved-in-Some : goal.loop-i-preserved-in-Some
+loop-i-preserved-in-Some c =
     let a = c.args in
     let l = c.loop-i in
     let r = c.next_record-p in
-    subst (λ (n : ℕ). Made a.src.now a.notes.now a.o a.models.now a.waveforms.now a.rows.now l.i n r.result l.models c.put_waveform.new.waveforms r.new.rows) (sym (add-one l.k))
-    (subst (λ (w : List Waveform). Made a.src.now a.notes.now a.o a.models.now a.waveforms.now a.rows.now l.i (suc l.k) r.result l.models w r.new.rows) (sym (c.put_waveform.ensures ∙ ap (set l.waveforms l.k) c.waveform_made-waveform.ensures))
-    (seconds a.src.now a.notes.now a.o a.models.now a.waveforms.now a.rows.now l.i l.k l.p l.models l.waveforms l.rows l.invariant (subst (λ (n : ℕ). l.i < n) c.model_count-n.ensures c.loop-i-test.true)
-    r.result r.new.rows r.ensures (subst Holds (sym c.if-is_waveform.true ∙ c.is_waveform.ensures) tt)).1.1)
+    subst (λ (n : ℕ). Made a.src.now a.notes.now a.o a.models.now a.waveforms.now a.rows.now l.i n r.result l.models (set l.waveforms l.k c.in-Some.waveform) r.new.rows) (sym (add-one l.k))
+    (seconds a.src.now a.notes.now a.o a.models.now a.waveforms.now a.rows.now l.i l.k l.p l.models l.waveforms l.rows l.invariant c.loop-i-test.true
+    r.result r.new.rows r.ensures c.in-Some.waveform (sym c.waveform_made.ensures ∙ c.in-Some.is)).1.1
 
 -- behind a model
 pub loop-i-preserved : goal.loop-i-preserved
@@ -70,7 +75,7 @@ loop-i-preserved c =
     let a = c.args in
     let l = c.loop-i in
     let r = c.next_record-p in
-    subst (λ (n : ℕ). Made a.src.now a.notes.now a.o a.models.now a.waveforms.now a.rows.now n l.k r.result c.put_model.new.models l.waveforms r.new.rows) (sym (add-one l.i))
-    (subst (λ (m : List Model). Made a.src.now a.notes.now a.o a.models.now a.waveforms.now a.rows.now (suc l.i) l.k r.result m l.waveforms r.new.rows) (sym (c.put_model.ensures ∙ ap (set l.models l.i) c.model_made-model.ensures))
-    (firsts a.src.now a.notes.now a.o a.models.now a.waveforms.now a.rows.now l.i l.k l.p l.models l.waveforms l.rows l.invariant (subst (λ (n : ℕ). l.i < n) c.model_count-n.ensures c.loop-i-test.true)
-    r.result r.new.rows r.ensures (subst (λ (b : Bool). Holds (not b)) (sym c.if-is_waveform.false ∙ c.is_waveform.ensures) tt)).1)
+    subst (λ (n : ℕ). Made a.src.now a.notes.now a.o a.models.now a.waveforms.now a.rows.now n l.k r.result (set l.models l.i c.model_made.result) l.waveforms r.new.rows) (sym (add-one l.i))
+    (subst (λ (m : List Model). Made a.src.now a.notes.now a.o a.models.now a.waveforms.now a.rows.now (suc l.i) l.k r.result m l.waveforms r.new.rows) (sym (ap (set l.models l.i) c.model_made.ensures))
+    (firsts a.src.now a.notes.now a.o a.models.now a.waveforms.now a.rows.now l.i l.k l.p l.models l.waveforms l.rows l.invariant c.loop-i-test.true
+    r.result r.new.rows r.ensures (sym c.waveform_made.ensures ∙ c.in-None.is)).1)

@@ -1,57 +1,50 @@
 -- What `loaded` tells of the answer and the notes gives what each fill asks, and what is left is what is promised.
-use Prim.Native.Nat.{◌≤◌}
-use mathlib.Core.Path.{sym, subst}
 use native.Mathlib.Nat.{le_refl}
-use lib.ListN.{length}
-use Rattle.records.specs.declared.Counts.{Counts}
-use Rattle.file_answer.specs.Sorted.{Loads}
-use Rattle.reader.specs.Filling.{ModelsFit, ModelsFilled}
+use Rattle.std.proofs.Common.{rules}
+use Rattle.from_notes.specs.Made.{component_at, pin_at, selector_at, choice_at}
 use Rattle.reader.proofs.Laws.{fits, finishes}
 use Rattle.reader.proofs.read.Goals as goal
 
 pub loaded-a-requires : goal.loaded-a-requires
 loaded-a-requires c = le_refl _
 
-pub fill_components-requires : goal.fill_components-requires
-fill_components-requires c =
+pub fill-requires-clause-room : goal.fill-requires-clause-room
+fill-requires-clause-room c =
     let a = c.args in
-    subst (λ (o : Counts). o.components ≤ length a.components.now) (sym c.counts_of-o.ensures)
     (fits a.src.now a.components.now a.pins.now a.selectors.now a.choices.now a.models.now a.waveforms.now a.rows.now c.loaded-a.result c.loaded-a.new.notes
-    (subst (λ l. Loads l a.src.now c.loaded-a.result c.loaded-a.new.notes) c.lending_of-l.ensures c.loaded-a.ensures)).0
+    c.loaded-a.ensures).0
 
-pub fill_pins-requires : goal.fill_pins-requires
-fill_pins-requires c =
+pub fill-requires-2-clause-room : goal.fill-requires-2-clause-room
+fill-requires-2-clause-room c =
     let a = c.args in
-    subst (λ (o : Counts). o.pins ≤ length a.pins.now) (sym c.counts_of-o.ensures)
     (fits a.src.now a.components.now a.pins.now a.selectors.now a.choices.now a.models.now a.waveforms.now a.rows.now c.loaded-a.result c.loaded-a.new.notes
-    (subst (λ l. Loads l a.src.now c.loaded-a.result c.loaded-a.new.notes) c.lending_of-l.ensures c.loaded-a.ensures)).1.0
+    c.loaded-a.ensures).1.0
 
-pub fill_selectors-requires : goal.fill_selectors-requires
-fill_selectors-requires c =
+pub fill-requires-3-clause-room : goal.fill-requires-3-clause-room
+fill-requires-3-clause-room c =
     let a = c.args in
-    subst (λ (o : Counts). o.selectors ≤ length a.selectors.now) (sym c.counts_of-o.ensures)
     (fits a.src.now a.components.now a.pins.now a.selectors.now a.choices.now a.models.now a.waveforms.now a.rows.now c.loaded-a.result c.loaded-a.new.notes
-    (subst (λ l. Loads l a.src.now c.loaded-a.result c.loaded-a.new.notes) c.lending_of-l.ensures c.loaded-a.ensures)).1.1.0
+    c.loaded-a.ensures).1.1.0
 
-pub fill_choices-requires : goal.fill_choices-requires
-fill_choices-requires c =
+pub fill-requires-4-clause-room : goal.fill-requires-4-clause-room
+fill-requires-4-clause-room c =
     let a = c.args in
-    subst (λ (o : Counts). o.choices ≤ length a.choices.now) (sym c.counts_of-o.ensures)
     (fits a.src.now a.components.now a.pins.now a.selectors.now a.choices.now a.models.now a.waveforms.now a.rows.now c.loaded-a.result c.loaded-a.new.notes
-    (subst (λ l. Loads l a.src.now c.loaded-a.result c.loaded-a.new.notes) c.lending_of-l.ensures c.loaded-a.ensures)).1.1.1.0
+    c.loaded-a.ensures).1.1.1.0
 
 pub fill_models-requires : goal.fill_models-requires
 fill_models-requires c =
     let a = c.args in
-    subst (λ (o : Counts). ModelsFit a.src.now c.loaded-a.new.notes o a.models.now a.waveforms.now a.rows.now) (sym c.counts_of-o.ensures)
     (fits a.src.now a.components.now a.pins.now a.selectors.now a.choices.now a.models.now a.waveforms.now a.rows.now c.loaded-a.result c.loaded-a.new.notes
-    (subst (λ l. Loads l a.src.now c.loaded-a.result c.loaded-a.new.notes) c.lending_of-l.ensures c.loaded-a.ensures)).1.1.1.1
+    c.loaded-a.ensures).1.1.1.1
 
 pub returns : goal.returns
 returns c =
     let a = c.args in
     let m = c.fill_models.new in
-    rw (c.fill_components.ensures, c.fill_pins.ensures, c.fill_selectors.ensures, c.fill_choices.ensures, c.counts_of-o.ensures)
+    let s = a.src.now in
+    let ns = c.loaded-a.new.notes in
+    rw (c.fill.ensures (component_at s ns) (λ k r h p. search rules), c.fill-2.ensures (pin_at s ns) (λ k r h p. search rules), c.fill-3.ensures (selector_at s ns) (λ k r h p. search rules), c.fill-4.ensures (choice_at s ns) (λ k r h p. search rules))
     (finishes a.src.now a.components.now a.pins.now a.selectors.now a.choices.now a.models.now a.waveforms.now a.rows.now c.loaded-a.result c.loaded-a.new.notes
-    (subst (λ l. Loads l a.src.now c.loaded-a.result c.loaded-a.new.notes) c.lending_of-l.ensures c.loaded-a.ensures) m.models m.waveforms m.rows
-    (subst (λ (o : Counts). ModelsFilled a.src.now c.loaded-a.new.notes o a.models.now a.waveforms.now a.rows.now m.models m.waveforms m.rows) c.counts_of-o.ensures c.fill_models.ensures))
+    c.loaded-a.ensures m.models m.waveforms m.rows
+    c.fill_models.ensures)

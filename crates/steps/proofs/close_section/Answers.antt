@@ -1,21 +1,43 @@
--- By cases on the stage; what it lacks is the callee's.
-use mathlib.Core.Path.{sym}
+-- By cases on the stage: what it lacks is told, or it closes: `flawed`, `flawless`.
+use mathlib.Core.Path.{◌∙◌}
+use Rattle.records.specs.Flaws.{bare}
+use Rattle.rules.specs.Going.{unless, passes, quietly}
+use Rattle.rules.specs.Header.{header_done}
+use Rattle.rules.specs.Component.{component_done}
+use Rattle.rules.specs.Model.{model_done}
+use Rattle.rules.specs.declared.Stage.TheVariants.{InHeader, InComponent, InModel}
+use Rattle.rules.proofs.Going.{flawed, flawless}
 use Rattle.steps.proofs.close_section.Goals as goal
 
-pub returns-in-BeforeVersion : goal.returns-in-BeforeVersion
-returns-in-BeforeVersion c = rw c.in-BeforeVersion.is c.stopped.ensures
+pub returns-in_err-at_line-in-InHeader : goal.returns-in_err-at_line-in-InHeader
+unfolding unless passes
+returns-in_err-at_line-in-InHeader c =
+    rw c.in-InHeader.is (flawed (bare (header_done c.in-InHeader.h)) _ (quietly (InHeader c.in-InHeader.h)) c.header_done.ensures c.at_line.ensures _ c.from_residual.ensures.1 c.in_err-at_line-in-InHeader.was)
 
-pub returns-in-InHeader : goal.returns-in-InHeader
-returns-in-InHeader c = rw c.in-InHeader.is (rw (sym c.header_done.ensures) c.quiet_unless.ensures)
+pub returns-in_ok-at_line-in-InHeader : goal.returns-in_ok-at_line-in-InHeader
+unfolding unless passes
+returns-in_ok-at_line-in-InHeader c =
+    c.quiet.ensures
+    ∙ rw c.in-InHeader.is (flawless (bare (header_done c.in-InHeader.h)) _ (quietly (InHeader c.in-InHeader.h)) c.header_done.ensures c.at_line.ensures c.in_ok-at_line-in-InHeader.was)
 
-pub returns-in-InComponent : goal.returns-in-InComponent
-returns-in-InComponent c = rw c.in-InComponent.is (rw (sym c.component_done.ensures) c.quiet_unless-in-InComponent.ensures)
+pub returns-in_err-at_line-in-InComponent : goal.returns-in_err-at_line-in-InComponent
+unfolding unless passes
+returns-in_err-at_line-in-InComponent c =
+    rw c.in-InComponent.is (flawed (bare (component_done c.in-InComponent.c)) _ (quietly (InComponent c.in-InComponent.c)) c.component_done.ensures c.at_line-in-InComponent.ensures _ c.from_residual-in_err-at_line-in-InComponent.ensures.1 c.in_err-at_line-in-InComponent.was)
 
-pub returns-in-InSelector : goal.returns-in-InSelector
-returns-in-InSelector c = rw c.in-InSelector.is c.quiet.ensures
+pub returns-in_ok-at_line-in-InComponent : goal.returns-in_ok-at_line-in-InComponent
+unfolding unless passes
+returns-in_ok-at_line-in-InComponent c =
+    c.quiet-in-InComponent.ensures
+    ∙ rw c.in-InComponent.is (flawless (bare (component_done c.in-InComponent.c)) _ (quietly (InComponent c.in-InComponent.c)) c.component_done.ensures c.at_line-in-InComponent.ensures c.in_ok-at_line-in-InComponent.was)
 
-pub returns-in-InModel : goal.returns-in-InModel
-returns-in-InModel c = rw c.in-InModel.is (rw (sym c.model_done.ensures) c.quiet_unless-in-InModel.ensures)
+pub returns-in_err-at_line-in-InModel : goal.returns-in_err-at_line-in-InModel
+unfolding unless passes
+returns-in_err-at_line-in-InModel c =
+    rw c.in-InModel.is (flawed (bare (model_done c.in-InModel.m)) _ (quietly (InModel c.in-InModel.m)) c.model_done.ensures c.at_line-in-InModel.ensures _ c.from_residual-in_err-at_line-in-InModel.ensures.1 c.in_err-at_line-in-InModel.was)
 
-pub returns-in-AfterEnd : goal.returns-in-AfterEnd
-returns-in-AfterEnd c = rw c.in-AfterEnd.is c.stopped-in-AfterEnd.ensures
+pub returns-in_ok-at_line-in-InModel : goal.returns-in_ok-at_line-in-InModel
+unfolding unless passes
+returns-in_ok-at_line-in-InModel c =
+    c.quiet-in-InModel.ensures
+    ∙ rw c.in-InModel.is (flawless (bare (model_done c.in-InModel.m)) _ (quietly (InModel c.in-InModel.m)) c.model_done.ensures c.at_line-in-InModel.ensures c.in_ok-at_line-in-InModel.was)

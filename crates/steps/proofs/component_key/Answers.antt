@@ -1,7 +1,7 @@
 -- The stage is a component's, or another: `not-component`.
+use Rattle.std.specs.Prelude.{Option}
 use borrow.Enum.Refused.{opened}
 use mathlib.Core.Path.{sym, ap, ◌∙◌}
-use mathlib.Core.Option.{Option}
 use Rattle.rules.specs.Component.{component_part}
 use Rattle.rules.specs.Steps.{within}
 use Rattle.rules.specs.declared.ComponentState.{ComponentState}

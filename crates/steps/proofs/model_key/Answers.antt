@@ -1,7 +1,7 @@
 -- The stage is a model's, or another: `not-model`.
+use Rattle.std.specs.Prelude.{Option}
 use borrow.Enum.Refused.{opened}
 use mathlib.Core.Path.{sym, ap, ◌∙◌}
-use mathlib.Core.Option.{Option}
 use Rattle.rules.specs.Model.{model_part}
 use Rattle.rules.specs.Steps.{within}
 use Rattle.rules.specs.declared.ModelState.{ModelState}

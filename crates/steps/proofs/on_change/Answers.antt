@@ -1,8 +1,10 @@
--- After [End], a fault 5, before [IBIS Ver], its own fault, or on: `refused`, `passed`, `flawed`, `flawless`.
-use mathlib.Core.Path.{refl, sym, ◌∙◌}
+-- After [End], a fault 5, before [IBIS Ver], its own fault, or on: `refused`, `passed`.
+use mathlib.Core.Path.{sym, ◌∙◌}
 use borrow.Author.Tests.{eq-eqb, ne_eqb}
+use Rattle.laws.proofs.Tests.{cond_yes, cond_no}
+use Rattle.rules.specs.Going.{passes}
 use Rattle.rules.specs.Steps.{on_change}
-use Rattle.rules.proofs.Going.{refused, passed, flawed, flawless}
+use Rattle.rules.proofs.Going.{refused, passed}
 use Rattle.steps.proofs.on_change.Goals as goal
 
 pub returns-then-is_ended : goal.returns-then-is_ended
@@ -25,19 +27,19 @@ returns-then-is_before c =
     ∙ passed 7 _ _ (sym c.is_ended.ensures ∙ c.if-is_ended.false)
 
 pub returns-then-fault-ne0 : goal.returns-then-fault-ne0
-unfolding on_change
+unfolding on_change passes
 returns-then-fault-ne0 c =
     c.stopped_at.ensures
-    ∙ flawed _ _ refl c.if-fault-ne0.true
+    ∙ sym (cond_no _ _ (ne_eqb _ 0 c.if-fault-ne0.true))
     ∙ passed 7 _ _ (sym c.is_before.ensures ∙ c.if-is_before.false)
     ∙ passed 5 _ _ (ne_eqb _ 5 c.if-fault-eq5.false)
     ∙ passed 7 _ _ (sym c.is_ended.ensures ∙ c.if-is_ended.false)
 
 pub returns : goal.returns
-unfolding on_change
+unfolding on_change passes
 returns c =
     c.quiet.ensures
-    ∙ flawless _ _ refl c.if-fault-ne0.false
+    ∙ sym (cond_yes _ _ (eq-eqb _ 0 c.if-fault-ne0.false))
     ∙ passed 7 _ _ (sym c.is_before.ensures ∙ c.if-is_before.false)
     ∙ passed 5 _ _ (ne_eqb _ 5 c.if-fault-eq5.false)
     ∙ passed 7 _ _ (sym c.is_ended.ensures ∙ c.if-is_ended.false)

@@ -1,26 +1,23 @@
 -- The name passes or is told: `flawed`, `flawless`.
+use Rattle.std.specs.Prelude.{Ok}
 use Prim.Native.Nat.{ℕ}
 use mathlib.Core.List.{List}
 use mathlib.Core.Path.{ap, ◌∙◌}
-use Rattle.records.specs.Flaws.{told}
+use Rattle.records.specs.Flaws.{told, checked}
 use Rattle.rules.specs.Steps.{opened_flaw, opened}
 use Rattle.rules.specs.declared.Stage.{Stage}
 use Rattle.rules.specs.declared.Event.TheVariants.{Opened}
-use Rattle.rules.specs.declared.Went.TheVariants.{On}
 use Rattle.rules.proofs.Going.{flawed, flawless}
 use Rattle.steps.proofs.open_section.Goals as goal
 
-pub section_fault-fault-requires : goal.section_fault-fault-requires
-section_fault-fault-requires c = c.requires.within
-
-pub returns-then-fault-ne0 : goal.returns-then-fault-ne0
+pub returns-in_err-at_line : goal.returns-in_err-at_line
 unfolding opened
-returns-then-fault-ne0 c =
-    let w = c.args.w.now in
-    c.stopped_at.ensures ∙ flawed _ _ (c.section_fault-fault.ensures ∙ ap (λ (v : List ℕ). told w (opened_flaw v c.args.o)) c.requires.text) c.if-fault-ne0.true
+returns-in_err-at_line c =
+    let e = c.section_fault.ensures ∙ ap (λ (v : List ℕ). checked (told c.args.w.now (opened_flaw v c.args.o))) c.requires.text in
+    flawed _ _ _ e c.at_line.ensures _ c.from_residual.ensures.1 c.in_err-at_line.was
 
 pub returns : goal.returns
 unfolding opened
 returns c =
-    let w = c.args.w.now in
-    ap (λ (s : Stage). On s (Opened c.args.o)) c.section_stage.ensures ∙ flawless _ _ (c.section_fault-fault.ensures ∙ ap (λ (v : List ℕ). told w (opened_flaw v c.args.o)) c.requires.text) c.if-fault-ne0.false
+    let e = c.section_fault.ensures ∙ ap (λ (v : List ℕ). checked (told c.args.w.now (opened_flaw v c.args.o))) c.requires.text in
+    ap (λ (s : Stage). Ok (s, Opened c.args.o)) c.section_stage.ensures ∙ flawless _ _ _ e c.at_line.ensures c.in_ok-at_line.was

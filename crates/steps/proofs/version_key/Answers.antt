@@ -1,7 +1,7 @@
 -- The first of all, one more in the header, or one later: `not-header`.
+use Rattle.std.specs.Prelude.{Option}
 use borrow.Enum.Refused.{opened}
 use mathlib.Core.Path.{sym, ap, ◌∙◌}
-use mathlib.Core.Option.{Option}
 use Rattle.laws.proofs.Tests.{cond_yes, cond_no}
 use Rattle.rules.specs.Going.{stop}
 use Rattle.rules.specs.Steps.{header_of, within, on_version}

@@ -1,21 +1,20 @@
 -- The name lies between the line's first byte and its first `]` (`inside-at`).
-use Rattle.text_buffer.proofs.Laws.{put_as, put-kept}
 use Rattle.keywords.proofs.Laws.{inside-at}
 use Rattle.suggested_keyword.proofs.Laws.{inside-none, suggested}
+use Rattle.text_buffer.proofs.Laws.{put-text}
+use Rattle.text_buffer.specs.Pages.{sheet}
+use borrow.Author.Tests.{eqb-true}
+use lib.ListN.{length}
+use mathlib.Core.Path.{sym, ◌∙◌}
 use Rattle.suggested_keyword.proofs.put_suggestion.Goals as goal
 
-pub returns-then-line-eq0 : goal.returns-then-line-eq0
-returns-then-line-eq0 c =
+pub returns-then-is_empty : goal.returns-then-is_empty
+returns-then-is_empty c =
     let line = c.args.line.now in
-    put_as (suggested line line (inside-none line c.if-line-eq0.true)) c.put_nearest.ensures
+    let none = eqb-true (length line) 0 (sym c.is_empty.ensures ∙ c.if-is_empty.true) in
+    c.put_nearest.ensures ∙ put-text (sheet c.args.page.now) (suggested line line (inside-none line none))
 
-pub shape_of-out-then-line-eq0 : goal.shape_of-out-then-line-eq0
-shape_of-out-then-line-eq0 c = put-kept (returns-then-line-eq0 c)
-
-pub returns : goal.returns
-returns c =
+pub returns-else-is_empty : goal.returns-else-is_empty
+returns-else-is_empty c =
     let line = c.args.line.now in
-    put_as (suggested line _ (inside-at line _ c.find-stop.ensures.value)) c.put_nearest-2.ensures
-
-pub shape_of-out : goal.shape_of-out
-shape_of-out c = put-kept (returns c)
+    c.put_nearest-else-is_empty.ensures ∙ put-text (sheet c.args.page.now) (suggested line _ (inside-at line _ c.find-stop.ensures.value))

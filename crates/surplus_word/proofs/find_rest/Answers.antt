@@ -13,4 +13,4 @@ pub slice_bounds-rest_in-end : goal.slice_bounds-rest_in-end
 slice_bounds-rest_in-end c = (line-lies c.args.src.now c.skip_lines-start.result c.line_at-line.result c.skip_lines-start.ensures.upper_bound c.line_at-line.ensures).ends
 
 pub returns : goal.returns
-returns c = rest-is c.args.src.now c.args.fault c.less_one.result c.skip_lines-start.result c.rest_in-place.result c.line_at-line.result c.less_one.ensures c.skip_lines-start.ensures.value c.line_at-line.ensures c.rest_in-place.ensures.value
+returns c = rest-is c.args.src.now c.args.fault c.saturating_sub.result c.skip_lines-start.result c.rest_in-place.result c.line_at-line.result c.saturating_sub.ensures c.skip_lines-start.ensures.value c.line_at-line.ensures c.rest_in-place.ensures.value

@@ -4,10 +4,10 @@ use borrow.Author.Tests.{eq-eqb, ne_eqb}
 use Rattle.surplus_word.proofs.is_ten.Goals as goal
 
 pub returns-then-f-ne10 : goal.returns-then-f-ne10
-returns-then-f-ne10 c = rw c.in-Refused.is rw (ne_eqb c.in-Refused.f.number 10 c.if-f-ne10.true) refl
+returns-then-f-ne10 c = rw c.in-Err.is rw (ne_eqb c.in-Err.f.number 10 c.if-f-ne10.true) refl
 
-pub returns-in-Accepted : goal.returns-in-Accepted
-returns-in-Accepted c = rw c.in-Accepted.is
+pub returns-in-Ok : goal.returns-in-Ok
+returns-in-Ok c = rw c.in-Ok.is
 
 pub returns-else-f-ne10 : goal.returns-else-f-ne10
-returns-else-f-ne10 c = rw c.in-Refused.is rw (eq-eqb c.in-Refused.f.number 10 c.if-f-ne10.false) refl
+returns-else-f-ne10 c = rw c.in-Err.is rw (eq-eqb c.in-Err.f.number 10 c.if-f-ne10.false) refl

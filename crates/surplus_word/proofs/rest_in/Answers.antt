@@ -5,18 +5,18 @@ use Rattle.surplus_word.proofs.rest_in.Goals as goal
 
 pub returns-then-place-first : goal.returns-then-place-first
 returns-then-place-first c = record {
-  value = rest-first c.args.line.now c.args.column c.less_one-place.result c.skip_blanks-first.result c.less_one-place.ensures c.skip_blanks-first.ensures.value c.if-place-first.true;
+  value = rest-first c.args.line.now c.args.column c.saturating_sub-place.result c.skip_blanks-first.result c.saturating_sub-place.ensures c.skip_blanks-first.ensures.value c.if-place-first.true;
   upper_bound = omega arith;
 }
 
 pub returns-then-line-place : goal.returns-then-line-place
 returns-then-line-place c = record {
-  value = rest-past c.args.line.now c.args.column c.less_one-place.result c.skip_blanks-first.result c.less_one-place.ensures c.skip_blanks-first.ensures.value c.if-line-place.true;
+  value = rest-past c.args.line.now c.args.column c.saturating_sub-place.result c.skip_blanks-first.result c.saturating_sub-place.ensures c.skip_blanks-first.ensures.value c.if-line-place.true;
   upper_bound = omega arith;
 }
 
 pub returns : goal.returns
 returns c = record {
-  value = rest-there c.args.line.now c.args.column c.less_one-place.result c.skip_blanks-first.result c.less_one-place.ensures c.skip_blanks-first.ensures.value (omega (arith, c.if-place-first.false)) (omega (arith, c.if-line-place.false));
+  value = rest-there c.args.line.now c.args.column c.saturating_sub-place.result c.skip_blanks-first.result c.saturating_sub-place.ensures c.skip_blanks-first.ensures.value (omega (arith, c.if-place-first.false)) (omega (arith, c.if-line-place.false));
   upper_bound = omega (arith, c.if-line-place.false);
 }

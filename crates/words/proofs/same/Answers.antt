@@ -1,12 +1,7 @@
--- A text as it stands is spelled as it is.
-use Prim.Native.Nat.{ℕ}
-use mathlib.Core.Path.{ap, ◌∙◌}
-use mathlib.Core.List.{List}
-use Rattle.laws.specs.Lists.{eqs}
-use Rattle.laws.proofs.Same.{map_same}
+-- Equality of slices, as the library has it.
+use Rattle.std.proofs.Common.{◌∙◌}
+use Rattle.words.proofs.ByPlaces.{pointwise-eqs}
 use Rattle.words.proofs.same.Goals as goal
 
 pub returns : goal.returns
-returns c =
-    let a = c.args in
-    c.same_as.ensures ∙ ap (λ (l : List ℕ). eqs l a.other.now) (map_same a.w.now)
+returns c = c.eq.ensures ∙ pointwise-eqs _ _

@@ -1,29 +1,16 @@
--- What is left of the first i bytes is what is left of all: `trim-more` at a turn, `trim-stop` and `trim-none` at the ways out.
-use mathlib.Core.Path.{sym, ap, ◌∙◌}
-use native.Mathlib.Omega.{arith}
-use lib.ListN.{length}
-use lib.Seq.{take-length, length-take-le}
+-- The blanks at the end, by what the test answered at each place from the end on.
+use Rattle.std.proofs.Common.{rules, arith, ◌≡◌, ◌+◌, ◌≤◌, ◌<◌, ℕ, true, false, length, get_or}
 use Rattle.laws.specs.Bytes.{is_blank}
-use Rattle.laws.specs.Lists.{trim}
-use Rattle.laws.proofs.Trims.{trim-more, trim-stop, trim-none}
+use Rattle.words.proofs.ByPlaces.{trim-places}
 use Rattle.words.proofs.trimmed.Goals as goal
 
-pub loop-i-init : goal.loop-i-init
-loop-i-init c = (omega arith, ap (trim is_blank) (sym (take-length _)))
+pub returns-in-Some-clause-value : goal.returns-in-Some-clause-value
+returns-in-Some-clause-value c =
+    let stopped : (k : ℕ) → k + 1 ≡ c.in-Some.k + 1 → false ≡ is_blank (get_or c.args.s.now k 0) = search rules in
+    let passed : (k : ℕ) → c.in-Some.k + 1 ≤ k → k < length c.args.s.now → true ≡ is_blank (get_or c.args.s.now k 0) = search rules in
+    trim-places is_blank c.args.s.now (c.in-Some.k + 1) (search rules) passed stopped
 
-pub returns-then-not-blank : goal.returns-then-not-blank
-returns-then-not-blank c =
-    let v = c.loop-i.invariant in
-    record {
-      value = sym (ap length (v.1 ∙ trim-stop is_blank _ _ 0 c.loop-i-test.true v.0 (sym c.blank.ensures ∙ c.if-not-blank.true)) ∙ length-take-le _ _ v.0);
-      upper_bound = v.0;
-    }
-
-pub loop-i-preserved : goal.loop-i-preserved
-loop-i-preserved c = (omega arith, c.loop-i.invariant.1 ∙ trim-more is_blank _ _ 0 c.loop-i-test.true c.loop-i.invariant.0 (sym c.blank.ensures ∙ c.if-not-blank.false))
-
-pub returns : goal.returns
-returns c = record {
-  value = sym (ap length c.loop-i.invariant.1 ∙ trim-none is_blank _ _ c.loop-i-test.false);
-  upper_bound = c.loop-i.invariant.0;
-}
+pub returns-in-None-clause-value : goal.returns-in-None-clause-value
+returns-in-None-clause-value c =
+    let passed : (k : ℕ) → 0 ≤ k → k < length c.args.s.now → true ≡ is_blank (get_or c.args.s.now k 0) = search rules in
+    trim-places is_blank c.args.s.now 0 (omega arith) passed (λ k h. absurd (omega arith))

@@ -12,4 +12,4 @@ unfolding choice_in
 returns c =
     let w = c.args.w.now in
     let m = word-from w 0 _ c.word_at-model.ensures in
-    rw (c.name_at.ensures, c.words_of.ensures, m.text, part-rest w c.skip_blanks-at.result, choice-behind w _ _ m c.skip_blanks-start.ensures.value _ c.skip_blanks-at.ensures.value)
+    rw (c.name_of.ensures, c.of.ensures, c.words_of.ensures, m.text, part-rest w c.skip_blanks-at.result, choice-behind w _ _ m c.skip_blanks-start.ensures.value _ c.skip_blanks-at.ensures.value)

@@ -10,6 +10,6 @@ pub returns : goal.returns
 returns c =
     let a = c.args in
     let ts = rest a.src.now a.c in
-    let t = c.sites_under-read.ensures in
+    let t = c.under.ensures in
     let q = c.parts_from-parts.ensures ∙ sym (keys-same part-fold no_parts ts (rest a.src.now _) (keys-stop t.stops)) in
     rw (c.name_of.ensures, t.sites, q) (component-is ts a.section a.start a.name.now)

@@ -1,22 +1,13 @@
 -- `decimal::digits_at`: the invariant is `Passed`, with one law for a zero, one for another digit and one for the end.
+use mathlib.Core.Path.{◌≡◌}
 use native.Mathlib.Omega.{arith}
+use lib.ListN.{length}
 use Rattle.laws.specs.Bytes.{is_digit}
 use Rattle.laws.proofs.Fronts.{front-end, front-stop}
 use Rattle.laws.proofs.Bytes.{digit-below, digit-above}
-use Rattle.decimal.proofs.Parts.{passed_none, passed-zero, passed-digit, passed-end}
+use Rattle.decimal.proofs.Parts.{passed-zero, passed-digit, passed-end}
 use Rattle.decimal.proofs.word.digits_at.Goals as goal
 use Rattle.decimal.proofs.word.digits_at.Goals.{in-48, in-49-to-57}
-
-pub loop-i-init : goal.loop-i-init
-loop-i-init c =
-    let p = c.requires in
-    passed_none _ _ _ _ p.0 p.1 p.2
-
-pub overflow_cast-byte : goal.overflow_cast-byte
-overflow_cast-byte c = omega (arith, c.type_inv.w c.loop-i.i)
-
-pub push-read-requires : goal.push-read-requires
-push-read-requires c = omega (arith, c.grow.ensures)
 
 pub loop-i-preserved : goal.loop-i-preserved
 loop-i-preserved c =
@@ -28,10 +19,11 @@ loop-i-preserved c =
           (passed-digit _ _ _ _ _ _ _ l.invariant w.grow.result w.push-read.result t (omega (arith, w.in-49-to-57.in_default-own.rest.1)) (omega (arith, w.in-49-to-57.if-byte-lt58-own.true)) w.grow.ensures w.push-read.ensures)
     ]
 
-pub returns-after-loop-i : goal.returns-after-loop-i
-returns-after-loop-i c =
+pub returns : goal.returns
+returns c =
     let l = c.loop-i in
-    passed-end _ _ _ _ _ _ _ l.invariant (front-end is_digit _ _ c.loop-i-test.false)
+    let stop : length c.args.w.now ≡ l.i = omega arith in
+    rw stop (passed-end _ _ _ _ _ _ _ l.invariant (front-end is_digit _ _ (omega arith)))
 
 pub returns-in_default : goal.returns-in_default
 returns-in_default c =

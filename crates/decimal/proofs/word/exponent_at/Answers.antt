@@ -11,9 +11,6 @@ after_e-requires c =
     let h = c.if-w-at.false in
     (h, e-here _ _ h c.in-101.is)
 
-pub returns-in-101 : goal.returns-in-101
-returns-in-101 c = c.after_e.ensures
-
 pub returns-in_default : goal.returns-in_default
 returns-in_default c =
     exponent-none _ _ c.requires

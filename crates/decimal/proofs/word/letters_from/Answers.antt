@@ -1,28 +1,27 @@
--- `decimal::letters_from`: whether all are letters from i on is whether all are from `at` on.
-use mathlib.Core.Path.{refl, sym, ◌∙◌}
-use native.Mathlib.Omega.{arith}
+-- `decimal::letters_from`: std's test of a whole list is that of the laws.
+use Prim.Native.Nat.{ℕ}
+use mathlib.Core.Path.{◌≡◌, refl, ap, ◌∙◌}
+use mathlib.Core.List.{List, [], ◌∷◌}
+use mathlib.Core.Bool.{Bool, ◌&&◌}
+use lib.ListN.{length}
+use Rattle.std.proofs.Common.{rules, tests}
+use Rattle.std.specs.List.{list_all}
+use Rattle.std.proofs.lemmas.Iterator.{YieldsList-from_slice}
+use Rattle.std.proofs.lemmas.Iterator.Search.{all_from_yields_List}
 use Rattle.laws.specs.Bytes.{is_letter}
-use Rattle.laws.proofs.Fronts.{all_end, all-at}
+use Rattle.laws.specs.Lists.{all, part}
+use Rattle.laws.proofs.Lists.{part-rest}
 use Rattle.decimal.proofs.word.letters_from.Goals as goal
 
-pub loop-i-init : goal.loop-i-init
-loop-i-init c = (c.requires, refl)
-
-pub returns-then-not-letter : goal.returns-then-not-letter
-returns-then-not-letter c =
-    let l = c.letter in
-    sym (c.loop-i.invariant.1
-    ∙ all-at is_letter _ _ 0 c.loop-i-test.true
-    ∙ simp (sym l.ensures, c.if-not-letter.true))
-
-pub loop-i-preserved : goal.loop-i-preserved
-loop-i-preserved c =
-    let l = c.letter in (
-      omega arith,
-      c.loop-i.invariant.1
-          ∙ all-at is_letter _ _ 0 c.loop-i-test.true
-          ∙ simp (sym l.ensures, c.if-not-letter.false),
-    )
+all-list : (p : ℕ → Bool) (l : List ℕ) → list_all p l ≡ all p l
+unfolding all
+all-list p [] = refl
+all-list p (b ∷ bs) = ap (λ (t : Bool). p b && t) (all-list p bs)
 
 pub returns : goal.returns
-returns c = sym (c.loop-i.invariant.1 ∙ all_end is_letter _ _ c.loop-i-test.false)
+returns c =
+    let w = c.args.w.now in
+    let e = part-rest w c.args.at in
+    all_from_yields_List is_letter _ _ c.all.result c.all.ensures.ran (YieldsList-from_slice (part c.args.at (length w) w) (search rules)) (λ x b q k. search (rules, tests))
+    ∙ all-list is_letter _
+    ∙ ap (all is_letter) e

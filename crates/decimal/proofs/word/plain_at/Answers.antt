@@ -1,20 +1,16 @@
 -- `decimal::plain_at`: the invariant is `Goes`, with one law for a digit and one for the end.
+use mathlib.Core.Path.{◌≡◌}
 use native.Mathlib.Omega.{arith}
+use lib.ListN.{length}
 use Rattle.laws.specs.Bytes.{is_digit}
 use Rattle.laws.proofs.Fronts.{front-end, front-stop}
 use Rattle.laws.proofs.Bytes.{digit-below, digit-above}
-use Rattle.decimal.proofs.Parts.{goes_none, goes-digit, goes_end, goes-fits}
+use Rattle.decimal.proofs.Parts.{goes-digit, goes_end, goes-fits}
 use Rattle.decimal.proofs.word.plain_at.Goals as goal
-
-pub loop-i-init : goal.loop-i-init
-loop-i-init c = goes_none _ _ _ c.requires.0 c.requires.2
 
 pub overflow_mul-read : goal.overflow_mul-read
 overflow_mul-read c =
     omega (arith, goes-fits _ _ _ _ _ c.loop-i.invariant c.requires.1 c.loop-i-test.true)
-
-pub overflow_cast-read : goal.overflow_cast-read
-overflow_cast-read c = omega (arith, c.in-48-to-57.if-byte-lt58-own.true)
 
 pub overflow_add-read : goal.overflow_add-read
 overflow_add-read c =
@@ -24,8 +20,10 @@ pub loop-i-preserved : goal.loop-i-preserved
 loop-i-preserved c =
     goes-digit _ _ _ _ _ c.loop-i.invariant c.loop-i-test.true c.in-48-to-57.if-byte-lt48-own.false (omega arith)
 
-pub returns-after-loop-i : goal.returns-after-loop-i
-returns-after-loop-i c = goes_end _ _ _ _ _ c.loop-i.invariant (front-end is_digit _ _ c.loop-i-test.false)
+pub returns : goal.returns
+returns c =
+    let stop : length c.args.w.now ≡ c.loop-i.i = omega arith in
+    rw stop (goes_end _ _ _ _ _ c.loop-i.invariant (front-end is_digit _ _ (omega arith)))
 
 pub returns-in_default : goal.returns-in_default
 returns-in_default c = goes_end _ _ _ _ _ c.loop-i.invariant (front-stop is_digit _ _ 0 c.loop-i-test.true (digit-below _ c.in_default.if-byte-lt48-own.true))

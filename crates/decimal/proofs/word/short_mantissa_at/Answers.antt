@@ -1,17 +1,11 @@
 -- `decimal::short_mantissa_at`: one law with a point, and one without, whether the word ends or another byte stands there.
-use native.Mathlib.Omega.{arith}
 use Rattle.decimal.proofs.Capped.{ten-pos}
-use Rattle.decimal.proofs.Parts.{ten-more, places-end, places-none, short-plain, short-point}
+use Rattle.decimal.proofs.Parts.{places-end, places-none, short-plain, short-point}
 use Rattle.decimal.proofs.word.short_mantissa_at.Goals as goal
 use Rattle.decimal.proofs.word.short_mantissa_at.Goals.{then-point-w+else-w-point-eq46, else-point-w}
 
 pub plain_at-whole-requires : goal.plain_at-whole-requires
 plain_at-whole-requires c = (c.requires.0, c.requires.1, ten-pos _)
-
-pub plain_at-all-requires : goal.plain_at-all-requires
-plain_at-all-requires c =
-    let d = c.plain_at-whole in
-    (omega arith, c.requires.1, omega (arith, ten-more d.result.at d.result.number 0 d.ensures.small (omega arith)))
 
 pub returns-then-w-point-eq46 : goal.returns-then-w-point-eq46
 returns-then-w-point-eq46 c =

@@ -1,11 +1,15 @@
--- What stands behind the text depends on where it ends.
-use Rattle.explain_text.specs.Summaries.{gap_text, column}
-use Rattle.text_buffer.proofs.Laws.{put-filled, put-kept}
+-- The text, and what fills the column behind it: `put-filled`.
+use Prim.Native.Nat.{ℕ, ◌-◌}
+use Rattle.explain_text.specs.Summaries.{gap_text, column, level_text}
+use Rattle.text_buffer.proofs.Laws.{put-text, put-filled}
+use Rattle.text_buffer.specs.Pages.{sheet}
+use mathlib.Core.Path.{ap, ◌∙◌}
 use Rattle.explain_text.proofs.summaries.put_level_column.Goals as goal
 
 pub returns : goal.returns
 unfolding column
-returns c = put-filled (gap_text 8) c.put_level-end.ensures c.put_gap.ensures
-
-pub shape_of-out : goal.shape_of-out
-shape_of-out c = put-kept (returns c)
+returns c =
+    let p = c.args.page.now in
+    let t = c.put_level.new.page in
+    let start = put-text (sheet t) (ap (λ (n : ℕ). gap_text 8 (t.at - n)) c.len-start.ensures) in
+    put-filled (gap_text 8) (level_text c.args.cell) (sheet p) (sheet t) (sheet c.put_gap.new.page) p.within c.put_level.ensures (c.put_gap.ensures ∙ start)

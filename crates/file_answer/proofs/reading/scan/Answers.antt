@@ -29,26 +29,26 @@ slice_bounds-on_plain-end c =
     let h = subst (NextIs c.args.src.now c.loop-line.cursor) c.in-Text.is c.next_text.ensures in
     h.fits
 
-pub note_line-noted-requires : goal.note_line-noted-requires
-note_line-noted-requires c =
+pub note_line-requires : goal.note_line-requires
+note_line-requires c =
     let a = c.args in
     let i = c.loop-line in
     let h = subst (NextIs a.src.now i.cursor) c.in-Text.is c.next_text.ensures in
     rw c.spot_at-p.ensures (ready a.l a.src.now i.notes (standing i.stage i.cursor i.tally) _ i.invariant.0 h)
 
-pub shape_of-notes-then-fault-ne0 : goal.shape_of-notes-then-fault-ne0
-shape_of-notes-then-fault-ne0 c = c.notes-1.given ∙ c.loop-line.invariant.1
+pub shape_of-notes-in-Err-note_line : goal.shape_of-notes-in-Err-note_line
+shape_of-notes-in-Err-note_line c = c.notes-1.given ∙ c.loop-line.invariant.1
 
-pub returns-then-fault-ne0 : goal.returns-then-fault-ne0
-returns-then-fault-ne0 c =
+pub returns-in-Err-note_line : goal.returns-in-Err-note_line
+returns-in-Err-note_line c =
     let a = c.args in
     let s = a.src.now in
     let i = c.loop-line in
-    let n = c.note_line-noted in
+    let n = c.note_line in
     let h = subst (NextIs s i.cursor) c.in-Text.is c.next_text.ensures in
     record {
-      first_cursor_value = first_run a.l s a.notes.now _ _ c.first-cursor.ensures c.nothing-tally.ensures ∙ i.invariant.2 ∙ (rw c.broken_at.ensures (noted-full a.l s i.notes n.new.notes i.stage i.cursor i.tally _ c.spot_at-p.result c.spot_at-p.ensures h n.result _ n.ensures.e_value _ (sym c.on_plain.ensures ∙ c.in-On.is) c.if-fault-ne0.true));
-      names_le_most_names = (rw c.broken_at.ensures (noted-names n.new.notes i.tally n.result n.ensures.kept_by c.if-fault-ne0.true), rw c.broken_at.ensures tt);
+      first_cursor_value = first_run a.l s a.notes.now _ _ c.first-cursor.ensures c.nothing-tally.ensures ∙ i.invariant.2 ∙ (rw c.broken_at.ensures (noted-full a.l s i.notes n.new.notes i.stage i.cursor i.tally _ c.spot_at-p.result c.spot_at-p.ensures h n.result _ n.ensures.e_value _ _ _ (sym c.on_plain.ensures ∙ c.in-Ok.is) c.in-Err-note_line.is));
+      names_le_most_names = (rw c.broken_at.ensures (noted-names n.new.notes i.tally n.result _ _ n.ensures.kept_by c.in-Err-note_line.is), rw c.broken_at.ensures tt);
     }
 
 pub behind_list-y-requires : goal.behind_list-y-requires
@@ -56,9 +56,9 @@ behind_list-y-requires c =
     let a = c.args in
     let s = a.src.now in
     let i = c.loop-line in
-    let n = c.note_line-noted in
+    let n = c.note_line in
     let h = subst (NextIs s i.cursor) c.in-Text.is c.next_text.ensures in
-    rw c.stands-x.ensures (noted-sound a.l s i.notes n.new.notes i.stage i.cursor i.tally _ h n.result i.invariant.0 c.notes-1.given n.ensures.kept_by c.if-fault-ne0.false)
+    rw c.stands-x.ensures (noted-sound a.l s i.notes n.new.notes i.stage i.cursor i.tally _ h n.result _ i.invariant.0 c.notes-1.given n.ensures.kept_by c.in-Ok-note_line.is)
 
 pub loop-line-smaller-then-comes_in_numbers : goal.loop-line-smaller-then-comes_in_numbers
 loop-line-smaller-then-comes_in_numbers c =
@@ -71,10 +71,10 @@ loop-line-preserved-then-comes_in_numbers c =
     let a = c.args in
     let s = a.src.now in
     let i = c.loop-line in
-    let n = c.note_line-noted in
+    let n = c.note_line in
     let h = subst (NextIs s i.cursor) c.in-Text.is c.next_text.ensures in
     let q = c.behind_list-y.ensures in
-    (q.sound, c.notes-then-comes_in_numbers-1.given ∙ c.notes-1.given ∙ i.invariant.1, i.invariant.2 ∙ noted-going a.l s i.notes n.new.notes i.stage i.cursor i.tally _ c.spot_at-p.result c.spot_at-p.ensures h n.result _ n.ensures.e_value _ (sym c.on_plain.ensures ∙ c.in-On.is) c.if-fault-ne0.false ∙ ap (run_from a.l s n.new.notes) (sym c.stands-x.ensures) ∙ q.says)
+    (q.sound, c.notes-then-comes_in_numbers-1.given ∙ c.notes-1.given ∙ i.invariant.1, i.invariant.2 ∙ noted-going a.l s i.notes n.new.notes i.stage i.cursor i.tally _ c.spot_at-p.result c.spot_at-p.ensures h n.result _ n.ensures.e_value _ _ (sym c.on_plain.ensures ∙ c.in-Ok.is) c.in-Ok-note_line.is ∙ ap (run_from a.l s n.new.notes) (sym c.stands-x.ensures) ∙ q.says)
 
 pub loop-line-smaller-else-comes_in_numbers : goal.loop-line-smaller-else-comes_in_numbers
 loop-line-smaller-else-comes_in_numbers c =
@@ -86,21 +86,21 @@ loop-line-preserved-else-comes_in_numbers c =
     let a = c.args in
     let s = a.src.now in
     let i = c.loop-line in
-    let n = c.note_line-noted in
+    let n = c.note_line in
     let h = subst (NextIs s i.cursor) c.in-Text.is c.next_text.ensures in
-    (noted-sound a.l s i.notes n.new.notes i.stage i.cursor i.tally _ h n.result i.invariant.0 c.notes-1.given n.ensures.kept_by c.if-fault-ne0.false, c.notes-1.given ∙ i.invariant.1, i.invariant.2 ∙ noted-going a.l s i.notes n.new.notes i.stage i.cursor i.tally _ c.spot_at-p.result c.spot_at-p.ensures h n.result _ n.ensures.e_value _ (sym c.on_plain.ensures ∙ c.in-On.is) c.if-fault-ne0.false)
+    (noted-sound a.l s i.notes n.new.notes i.stage i.cursor i.tally _ h n.result _ i.invariant.0 c.notes-1.given n.ensures.kept_by c.in-Ok-note_line.is, c.notes-1.given ∙ i.invariant.1, i.invariant.2 ∙ noted-going a.l s i.notes n.new.notes i.stage i.cursor i.tally _ c.spot_at-p.result c.spot_at-p.ensures h n.result _ n.ensures.e_value _ _ (sym c.on_plain.ensures ∙ c.in-Ok.is) c.in-Ok-note_line.is)
 
-pub shape_of-notes-in-Stop : goal.shape_of-notes-in-Stop
-shape_of-notes-in-Stop c = c.loop-line.invariant.1
+pub shape_of-notes-in-Err : goal.shape_of-notes-in-Err
+shape_of-notes-in-Err c = c.loop-line.invariant.1
 
-pub returns-in-Stop : goal.returns-in-Stop
-returns-in-Stop c =
+pub returns-in-Err : goal.returns-in-Err
+returns-in-Err c =
     let a = c.args in
     let s = a.src.now in
     let i = c.loop-line in
     let h = subst (NextIs s i.cursor) c.in-Text.is c.next_text.ensures in
     record {
-      first_cursor_value = first_run a.l s a.notes.now _ _ c.first-cursor.ensures c.nothing-tally.ensures ∙ i.invariant.2 ∙ (rw c.broken.ensures (text-stop a.l s i.notes i.notes i.stage i.cursor i.tally _ h _ (sym c.on_plain.ensures ∙ c.in-Stop.is)));
+      first_cursor_value = first_run a.l s a.notes.now _ _ c.first-cursor.ensures c.nothing-tally.ensures ∙ i.invariant.2 ∙ (rw c.broken.ensures (text-stop a.l s i.notes i.notes i.stage i.cursor i.tally _ h _ (sym c.on_plain.ensures ∙ c.in-Err.is)));
       names_le_most_names = (rw c.broken.ensures (omega (arith, names-small i.tally i.invariant.0.within)), rw c.broken.ensures tt);
     }
 
@@ -115,20 +115,20 @@ loop-line-preserved c =
     let s = a.src.now in
     let i = c.loop-line in
     let h = subst (NextIs s i.cursor) c.in-Change.is c.next_text.ensures in
-    (line-sound a.l s i.notes i.stage i.cursor i.tally _ _ _ h i.invariant.0, i.invariant.1, i.invariant.2 ∙ line_on a.l s i.notes i.stage i.cursor i.tally _ _ _ h _ _ (sym c.on_change.ensures ∙ c.in-On-on_change.is))
+    (line-sound a.l s i.notes i.stage i.cursor i.tally _ _ _ h i.invariant.0, i.invariant.1, i.invariant.2 ∙ line_on a.l s i.notes i.stage i.cursor i.tally _ _ _ h _ _ (sym c.on_change.ensures ∙ c.in-Ok-on_change.is))
 
-pub shape_of-notes-in-Stop-on_change : goal.shape_of-notes-in-Stop-on_change
-shape_of-notes-in-Stop-on_change c = c.loop-line.invariant.1
+pub shape_of-notes-in-Err-on_change : goal.shape_of-notes-in-Err-on_change
+shape_of-notes-in-Err-on_change c = c.loop-line.invariant.1
 
-pub returns-in-Stop-on_change : goal.returns-in-Stop-on_change
-returns-in-Stop-on_change c =
+pub returns-in-Err-on_change : goal.returns-in-Err-on_change
+returns-in-Err-on_change c =
     let a = c.args in
     let s = a.src.now in
     let i = c.loop-line in
     let h = subst (NextIs s i.cursor) c.in-Change.is c.next_text.ensures in
     record {
-      first_cursor_value = first_run a.l s a.notes.now _ _ c.first-cursor.ensures c.nothing-tally.ensures ∙ i.invariant.2 ∙ (rw c.broken-in-Stop-on_change.ensures (line-stop a.l s i.notes i.stage i.cursor i.tally _ _ _ h _ (sym c.on_change.ensures ∙ c.in-Stop-on_change.is)));
-      names_le_most_names = (rw c.broken-in-Stop-on_change.ensures (omega (arith, names-small i.tally i.invariant.0.within)), rw c.broken-in-Stop-on_change.ensures tt);
+      first_cursor_value = first_run a.l s a.notes.now _ _ c.first-cursor.ensures c.nothing-tally.ensures ∙ i.invariant.2 ∙ (rw c.broken-in-Err-on_change.ensures (line-stop a.l s i.notes i.stage i.cursor i.tally _ _ _ h _ (sym c.on_change.ensures ∙ c.in-Err-on_change.is)));
+      names_le_most_names = (rw c.broken-in-Err-on_change.ensures (omega (arith, names-small i.tally i.invariant.0.within)), rw c.broken-in-Err-on_change.ensures tt);
     }
 
 pub shape_of-notes-in-Out : goal.shape_of-notes-in-Out

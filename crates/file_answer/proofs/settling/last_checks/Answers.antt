@@ -14,19 +14,19 @@ last_fault-requires c = record {
   n_value = c.requires.names;
 }
 
-pub returns-in-Fine : goal.returns-in-Fine
-returns-in-Fine c =
+pub returns-in-Ok : goal.returns-in-Ok
+returns-in-Ok c =
     let a = c.args in
     let s = a.src.now in
     let xs = a.notes.now in
     let read = c.requires in
     let done = passed (held_of (log_of s xs a.t)) in
-    accepts a.l s xs a.t read _ _ (through a.l s xs a.t read ∙ c.last_fault.ensures done ∙ ap (last_is done) c.in-Fine.is) c.accepted.ensures
+    accepts a.l s xs a.t read _ _ (through a.l s xs a.t read ∙ c.last_fault.ensures done ∙ ap (last_is done) c.in-Ok.is) c.accepted.ensures
 
-pub returns-in-Faulty : goal.returns-in-Faulty
-returns-in-Faulty c =
+pub returns-in-Err : goal.returns-in-Err
+returns-in-Err c =
     let a = c.args in
     let s = a.src.now in
     let xs = a.notes.now in
     let done = passed (held_of (log_of s xs a.t)) in
-    refuses a.l s _ _ _ (through a.l s xs a.t c.requires ∙ c.last_fault.ensures done ∙ ap (last_is done) c.in-Faulty.is) c.refused.ensures
+    refuses a.l s _ _ _ (through a.l s xs a.t c.requires ∙ c.last_fault.ensures done ∙ ap (last_is done) c.in-Err.is) c.refused.ensures

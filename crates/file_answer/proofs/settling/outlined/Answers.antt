@@ -5,12 +5,12 @@ use Rattle.file_answer.proofs.Accepts.{refuses}
 use Rattle.file_answer.proofs.settling.outlined.Goals as goal
 
 pub settle-requires : goal.settle-requires
-settle-requires c = (sym c.check_bytes.ensures ∙ c.in-Clean.is, c.requires)
+settle-requires c = (sym c.check_bytes.ensures ∙ c.in-Ok.is, c.requires)
 
-pub returns-in-Clean : goal.returns-in-Clean
-returns-in-Clean c = c.settle.ensures
+pub returns-in-Ok : goal.returns-in-Ok
+returns-in-Ok c = c.settle.ensures
 
-pub returns-in-Faulty : goal.returns-in-Faulty
-returns-in-Faulty c =
+pub returns-in-Err : goal.returns-in-Err
+returns-in-Err c =
     let a = c.args in
-    refuses a.l a.src.now _ _ _ (faulty a.l a.src.now _ (sym c.check_bytes.ensures ∙ c.in-Faulty.is)) c.refused.ensures
+    refuses a.l a.src.now _ _ _ (faulty a.l a.src.now _ (sym c.check_bytes.ensures ∙ c.in-Err.is)) c.refused.ensures

@@ -19,19 +19,19 @@ first_clash-requires c = c.scan-z.ensures.names_le_most_names.0
 pub last_checks-requires : goal.last_checks-requires
 last_checks-requires c =
     let a = c.args in
-    all_read a.l a.src.now c.scan-z.new.notes c.scan-z.result c.requires.0 c.scan-z.ensures.first_cursor_value (no-clash _ (sym c.in-NoClash.is ∙ c.first_clash.ensures)) c.in-Whole.is c.scan-z.ensures.names_le_most_names.1
+    all_read a.l a.src.now c.scan-z.new.notes c.scan-z.result c.requires.0 c.scan-z.ensures.first_cursor_value (no-clash _ (sym c.in-None.is ∙ c.first_clash.ensures)) c.in-Ok.is c.scan-z.ensures.names_le_most_names.1
 
-pub returns-in-At : goal.returns-in-At
-returns-in-At c =
+pub returns-in-Some : goal.returns-in-Some
+returns-in-Some c =
     let a = c.args in
     let s = a.src.now in
-    refuses a.l s _ _ _ (twice a.l s c.scan-z.new.notes c.scan-z.result c.requires.0 c.scan-z.ensures.first_cursor_value _ (found-clash _ _ (sym c.in-At.is ∙ c.first_clash.ensures))) c.refused_at.ensures
+    refuses a.l s _ _ _ (twice a.l s c.scan-z.new.notes c.scan-z.result c.requires.0 c.scan-z.ensures.first_cursor_value _ (found-clash _ _ (sym c.in-Some.is ∙ c.first_clash.ensures))) c.refused_at.ensures
 
-pub returns-in-Whole : goal.returns-in-Whole
-returns-in-Whole c = c.last_checks.ensures
+pub returns-in-Ok : goal.returns-in-Ok
+returns-in-Ok c = c.last_checks.ensures
 
-pub returns-in-Broken : goal.returns-in-Broken
-returns-in-Broken c =
+pub returns-in-Err : goal.returns-in-Err
+returns-in-Err c =
     let a = c.args in
     let s = a.src.now in
-    refuses a.l s _ _ _ (broken a.l s c.scan-z.new.notes c.scan-z.result c.requires.0 c.scan-z.ensures.first_cursor_value _ (no-clash _ (sym c.in-NoClash.is ∙ c.first_clash.ensures)) c.in-Broken.is) c.refused.ensures
+    refuses a.l s _ _ _ (broken a.l s c.scan-z.new.notes c.scan-z.result c.requires.0 c.scan-z.ensures.first_cursor_value _ (no-clash _ (sym c.in-None.is ∙ c.first_clash.ensures)) c.in-Err.is) c.refused.ensures

@@ -2,8 +2,6 @@
 use mathlib.Core.Path.{ap, ◌∙◌}
 use Rattle.laws.specs.Said.{or_else}
 use Rattle.line_rules.specs.Fields.{three_cells}
-use Rattle.line_rules.proofs.Answers.{triple-said}
-use Rattle.records.specs.Flaws.{told_in}
 use Rattle.records.specs.Stored.{no_cells}
 use Rattle.records.proofs.Columns.{told-else}
 use Rattle.model_record.proofs.bodies.cells_of.Goals as goal
@@ -11,4 +9,4 @@ use Rattle.model_record.proofs.bodies.cells_of.Goals as goal
 pub returns : goal.returns
 returns c =
     let w = c.args.argument.now in
-    c.triple_is.ensures ∙ ap (or_else no_cells) (triple-said _ (told_in w (three_cells w)) c.three_cells.ensures) ∙ told-else w no_cells (three_cells w)
+    c.triple_is.ensures ∙ ap (or_else no_cells) c.three_cells.ensures ∙ told-else w no_cells (three_cells w)

@@ -35,7 +35,7 @@ loop-start-smaller-in-3 c = line-less c.loop-start.invariant c.in-Line.is c.next
 pub loop-start-preserved-in-3 : goal.loop-start-preserved-in-3
 loop-start-preserved-in-3 c =
     gathers-line c.loop-start.invariant c.in-Line.is c.next_line.ensures
-    (line-comp c.loop-start.marks c.loop-start.comp c.loop-start.split c.loop-start.levels _ _ (sym c.model_line.ensures ∙ c.in-At.is) (omega (arith, c.in-3.is)) c.comp_after-comp.ensures)
+    (line-comp c.loop-start.marks c.loop-start.comp c.loop-start.split c.loop-start.levels _ _ (sym c.model_line.ensures ∙ c.in-Some.is) (omega (arith, c.in-3.is)) c.comp_after-comp.ensures)
 
 pub slice_bounds-marks_after-count : goal.slice_bounds-marks_after-count
 slice_bounds-marks_after-count c = line-starts c.loop-start.invariant c.in-Line.is c.next_line.ensures
@@ -52,7 +52,7 @@ loop-start-smaller-then-n-lt3 c = line-less c.loop-start.invariant c.in-Line.is 
 pub loop-start-preserved-then-n-lt3 : goal.loop-start-preserved-then-n-lt3
 loop-start-preserved-then-n-lt3 c =
     gathers-line c.loop-start.invariant c.in-Line.is c.next_line.ensures
-    (line-marks c.loop-start.marks c.loop-start.comp c.loop-start.split c.loop-start.levels _ _ (sym c.model_line.ensures ∙ c.in-At.is) (omega (arith, c.in-0.if-n-lt3-own.true)) c.marks_after-marks.ensures)
+    (line-marks c.loop-start.marks c.loop-start.comp c.loop-start.split c.loop-start.levels _ _ (sym c.model_line.ensures ∙ c.in-Some.is) (omega (arith, c.in-0.if-n-lt3-own.true)) c.marks_after-marks.ensures)
 
 pub slice_bounds-split_after-count : goal.slice_bounds-split_after-count
 slice_bounds-split_after-count c = line-starts c.loop-start.invariant c.in-Line.is c.next_line.ensures
@@ -69,7 +69,7 @@ loop-start-smaller-then-n-lt8 c = line-less c.loop-start.invariant c.in-Line.is 
 pub loop-start-preserved-then-n-lt8 : goal.loop-start-preserved-then-n-lt8
 loop-start-preserved-then-n-lt8 c =
     gathers-line c.loop-start.invariant c.in-Line.is c.next_line.ensures
-    (line-split c.loop-start.marks c.loop-start.comp c.loop-start.split c.loop-start.levels _ _ (sym c.model_line.ensures ∙ c.in-At.is) (omega (arith, c.in-4.if-n-lt8-own.true)) (omega (arith, c.in-4.if-n-lt8-own.true)) c.split_after-split.ensures)
+    (line-split c.loop-start.marks c.loop-start.comp c.loop-start.split c.loop-start.levels _ _ (sym c.model_line.ensures ∙ c.in-Some.is) (omega (arith, c.in-4.if-n-lt8-own.true)) (omega (arith, c.in-4.if-n-lt8-own.true)) c.split_after-split.ensures)
 
 pub slice_bounds-levels_after-count : goal.slice_bounds-levels_after-count
 slice_bounds-levels_after-count c = line-starts c.loop-start.invariant c.in-Line.is c.next_line.ensures
@@ -86,7 +86,7 @@ loop-start-smaller-in_default-n c = line-less c.loop-start.invariant c.in-Line.i
 pub loop-start-preserved-in_default-n : goal.loop-start-preserved-in_default-n
 loop-start-preserved-in_default-n c =
     gathers-line c.loop-start.invariant c.in-Line.is c.next_line.ensures
-    (line-levels c.loop-start.marks c.loop-start.comp c.loop-start.split c.loop-start.levels _ _ (sym c.model_line.ensures ∙ c.in-At.is) (omega (arith, c.in_default-n.if-n-lt8-own.false, c.in_default-n.if-n-lt3-own.false, c.in_default-n.in_default-own.rest)) c.levels_after-levels.ensures)
+    (line-levels c.loop-start.marks c.loop-start.comp c.loop-start.split c.loop-start.levels _ _ (sym c.model_line.ensures ∙ c.in-Some.is) (omega (arith, c.in_default-n.if-n-lt8-own.false, c.in_default-n.if-n-lt3-own.false, c.in_default-n.in_default-own.rest)) c.levels_after-levels.ensures)
 
 pub loop-start-smaller : goal.loop-start-smaller
 loop-start-smaller c = line-less c.loop-start.invariant c.in-Line.is c.next_line.ensures

@@ -35,7 +35,7 @@ loop-start-smaller-in-0 c = line-less c.loop-start.invariant c.in-Line.is c.next
 pub loop-start-preserved-in-0 : goal.loop-start-preserved-in-0
 loop-start-preserved-in-0 c =
     gathers-line c.loop-start.invariant c.in-Line.is c.next_line.ensures
-    (line-rise c.loop-start.rise c.loop-start.fall c.loop-start.load _ _ (sym c.ramp_line.ensures ∙ c.in-At.is) (omega (arith, c.in-0.is)) c.slopes_after-rise.ensures)
+    (line-rise c.loop-start.rise c.loop-start.fall c.loop-start.load _ _ (sym c.ramp_line.ensures ∙ c.in-Some.is) (omega (arith, c.in-0.is)) c.slopes_after-rise.ensures)
 
 pub slice_bounds-slopes_after-count-in-1 : goal.slice_bounds-slopes_after-count-in-1
 slice_bounds-slopes_after-count-in-1 c = line-starts c.loop-start.invariant c.in-Line.is c.next_line.ensures
@@ -52,7 +52,7 @@ loop-start-smaller-in-1 c = line-less c.loop-start.invariant c.in-Line.is c.next
 pub loop-start-preserved-in-1 : goal.loop-start-preserved-in-1
 loop-start-preserved-in-1 c =
     gathers-line c.loop-start.invariant c.in-Line.is c.next_line.ensures
-    (line-fall c.loop-start.rise c.loop-start.fall c.loop-start.load _ _ (sym c.ramp_line.ensures ∙ c.in-At.is) (omega (arith, c.in-1.is)) c.slopes_after-fall.ensures)
+    (line-fall c.loop-start.rise c.loop-start.fall c.loop-start.load _ _ (sym c.ramp_line.ensures ∙ c.in-Some.is) (omega (arith, c.in-1.is)) c.slopes_after-fall.ensures)
 
 pub slice_bounds-number_after-count : goal.slice_bounds-number_after-count
 slice_bounds-number_after-count c = line-starts c.loop-start.invariant c.in-Line.is c.next_line.ensures
@@ -69,7 +69,7 @@ loop-start-smaller-in_default-n c = line-less c.loop-start.invariant c.in-Line.i
 pub loop-start-preserved-in_default-n : goal.loop-start-preserved-in_default-n
 loop-start-preserved-in_default-n c =
     gathers-line c.loop-start.invariant c.in-Line.is c.next_line.ensures
-    (line-load c.loop-start.rise c.loop-start.fall c.loop-start.load _ _ (sym c.ramp_line.ensures ∙ c.in-At.is) (omega (arith, c.in_default-n.in_default-n-own.rest)) c.number_after-load.ensures)
+    (line-load c.loop-start.rise c.loop-start.fall c.loop-start.load _ _ (sym c.ramp_line.ensures ∙ c.in-Some.is) (omega (arith, c.in_default-n.in_default-n-own.rest)) c.number_after-load.ensures)
 
 pub loop-start-smaller : goal.loop-start-smaller
 loop-start-smaller c = line-less c.loop-start.invariant c.in-Line.is c.next_line.ensures

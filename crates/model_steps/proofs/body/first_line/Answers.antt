@@ -1,39 +1,33 @@
--- No name of a first line, one that was given, a line with a fault; else on.
+-- No name of a first line; else given before, a line with a fault, or on: `once-stopped`, `once-given`.
 use mathlib.Core.Path.{sym, ap, ◌∙◌}
-use Rattle.records.specs.Flaws.{told}
+use Rattle.records.specs.Flaws.{Flaw, told, checked}
 use Rattle.line_faults.proofs.Laws.{first-named}
 use Rattle.records.specs.declared.LineFault.{LineFault}
 use Rattle.rules.specs.Going.{stop_at, quietly}
+use Rattle.rules.specs.Model.{with_first}
 use Rattle.rules.specs.declared.Stage.TheVariants.{InModel}
-use Rattle.rules.proofs.Going.{refused, passed, flawed, flawless}
+use Rattle.rules.proofs.Going.{once-stopped, once-given}
 use Rattle.model_steps.proofs.body.first_line.Goals as goal
 
 pub returns-in_default : goal.returns-in_default
 returns-in_default c = rw (sym c.model_line.ensures ∙ c.in_default.is) (c.stopped_at.ensures ∙ ap (λ (f : LineFault). stop_at f c.args.k) c.name_fault.ensures)
 
-pub returns-then-is_given : goal.returns-then-is_given
-returns-then-is_given c =
-    rw (sym c.model_line.ensures ∙ c.in-At.is)
-    (c.stopped.ensures ∙ refused 8 _ _ (sym c.is_given.ensures ∙ c.if-is_given.true))
-
-pub returns-then-fault-ne0 : goal.returns-then-fault-ne0
-returns-then-fault-ne0 c =
-    let w = c.args.w.now in
-    let at = sym c.model_line.ensures ∙ c.in-At.is in
-    rw at
-    (c.stopped_at-then-fault-ne0.ensures
-    ∙ flawed _ _ (c.first_fault-fault.ensures ∙ ap (told w) (first-named _ w at)) c.if-fault-ne0.true
-    ∙ passed 8 _ _ (sym c.is_given.ensures ∙ c.if-is_given.false))
+pub returns-in_err-first : goal.returns-in_err-first
+returns-in_err-first c =
+    let a = c.args in
+    let at = sym c.model_line.ensures ∙ c.in-Some.is in
+    let e = c.first_fault.ensures ∙ ap (λ (f : Flaw). checked (told a.w.now f)) (first-named _ a.w.now at) in
+    rw at (once-stopped _ _ _ _ (λ g. InModel (with_first a.m a.w.now g)) e c.once.ensures _ c.from_residual.ensures.1 c.in_err-first.was)
 
 pub with_first-requires : goal.with_first-requires
-with_first-requires c = sym c.model_line.ensures ∙ c.in-At.is
+with_first-requires c = sym c.model_line.ensures ∙ c.in-Some.is
 
 pub returns : goal.returns
 returns c =
-    let w = c.args.w.now in
-    let at = sym c.model_line.ensures ∙ c.in-At.is in
+    let a = c.args in
+    let at = sym c.model_line.ensures ∙ c.in-Some.is in
+    let e = c.first_fault.ensures ∙ ap (λ (f : Flaw). checked (told a.w.now f)) (first-named _ a.w.now at) in
     rw at
     (c.quiet.ensures
     ∙ ap (λ (m : _). quietly (InModel m)) c.with_first.ensures
-    ∙ flawless _ _ (c.first_fault-fault.ensures ∙ ap (told w) (first-named _ w at)) c.if-fault-ne0.false
-    ∙ passed 8 _ _ (sym c.is_given.ensures ∙ c.if-is_given.false))
+    ∙ once-given _ _ _ _ (λ g. InModel (with_first a.m a.w.now g)) e c.once.ensures c.in_ok-first.was)

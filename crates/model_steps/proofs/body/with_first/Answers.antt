@@ -11,7 +11,6 @@ returns c =
     let a = c.args in
     let at = c.requires in
     rw (
-      c.also.ensures,
       c.type_after.ensures,
       takes-type (word_line model_types) a.m.kind a.w.now a.n at,
       c.number_after.ensures,

@@ -18,15 +18,6 @@ returns-then-not-both_given-2 c =
     ∙ refused 9 _ _ (ap not (sym (c.both_given-in-WaveformRows.ensures ∙ fixture-given _) ∙ c.if-not-both_given-2.true))
     ∙ sym (ap (model_shut c.args.m) c.in-WaveformRows.is)
 
-pub returns-in-ModelFirst : goal.returns-in-ModelFirst
-returns-in-ModelFirst c = c.closed.ensures ∙ sym (ap (model_shut c.args.m) c.in-ModelFirst.is)
-
-pub returns-in-ModelShut : goal.returns-in-ModelShut
-returns-in-ModelShut c = c.closed-in-ModelShut.ensures ∙ sym (ap (model_shut c.args.m) c.in-ModelShut.is)
-
-pub returns-in-CurrentRows : goal.returns-in-CurrentRows
-returns-in-CurrentRows c = c.close_table.ensures ∙ sym (ap (model_shut c.args.m) c.in-CurrentRows.is)
-
 pub returns-else-not-both_given : goal.returns-else-not-both_given
 returns-else-not-both_given c =
     c.closed-in-RampLines.ensures

@@ -1,35 +1,28 @@
--- A part that was given, an argument with a fault; else on.
+-- A part that was given, an argument with a fault; else on: `once-stopped`, `once-given`.
 use Prim.Native.Nat.{ℕ}
-use mathlib.Core.Path.{sym, ap, ◌∙◌}
+use mathlib.Core.Path.{ap, ◌∙◌}
 use mathlib.Core.List.{List}
-use Rattle.records.specs.Flaws.{told}
-use Rattle.given.specs.Given.{has}
-use Rattle.rules.specs.Model.{model_flaw, single_part}
-use Rattle.rules.proofs.Going.{refused, passed, flawed, flawless}
+use Rattle.records.specs.Flaws.{told, checked}
+use Rattle.rules.specs.Going.{given_once, quietly}
+use Rattle.rules.specs.Model.{model_flaw, model_opens, with_parts, single_part}
+use Rattle.rules.specs.declared.Stage.TheVariants.{InModel}
+use Rattle.rules.proofs.Going.{once-stopped, once-given}
 use Rattle.model_steps.proofs.parts.single_part.Goals as goal
 
-pub returns-then-is_given : goal.returns-then-is_given
+pub returns-in_err-parts : goal.returns-in_err-parts
 unfolding single_part
-returns-then-is_given c =
-    c.stopped.ensures
-    ∙ refused 8 _ _ (sym (c.is_given.ensures ∙ ap (has c.args.m.parts) c.model_place-place.ensures) ∙ c.if-is_given.true)
-
-pub model_fault-fault-requires : goal.model_fault-fault-requires
-model_fault-fault-requires c = c.requires.within
-
-pub returns-then-fault-ne0 : goal.returns-then-fault-ne0
-unfolding single_part
-returns-then-fault-ne0 c =
-    let w = c.args.w.now in
-    c.stopped_at.ensures
-    ∙ flawed _ _ (c.model_fault-fault.ensures ∙ ap (λ (v : List ℕ). told w (model_flaw v c.args.p)) c.requires.text) c.if-fault-ne0.true
-    ∙ passed 8 _ _ (sym (c.is_given.ensures ∙ ap (has c.args.m.parts) c.model_place-place.ensures) ∙ c.if-is_given.false)
+returns-in_err-parts c =
+    let a = c.args in
+    let e = c.model_fault-own.ensures ∙ ap (λ (v : List ℕ). checked (told a.w.now (model_flaw v a.p))) c.requires.text in
+    let t = c.once.ensures ∙ ap (λ (i : ℕ). given_once a.m.parts i a.k c.model_fault-own.result) c.model_place.ensures in
+    once-stopped _ _ _ _ (λ g. InModel (with_parts a.m g a.m.waveforms (model_opens a.k a.p))) e t _ c.from_residual.ensures.1 c.in_err-parts.was
 
 pub returns : goal.returns
 unfolding single_part
 returns c =
-    let w = c.args.w.now in
+    let a = c.args in
+    let e = c.model_fault-own.ensures ∙ ap (λ (v : List ℕ). checked (told a.w.now (model_flaw v a.p))) c.requires.text in
+    let t = c.once.ensures ∙ ap (λ (i : ℕ). given_once a.m.parts i a.k c.model_fault-own.result) c.model_place.ensures in
     c.quiet.ensures
-    ∙ rw (c.with_list-next.ensures, c.also-next.ensures, c.model_opens.ensures, c.model_place-place.ensures)
-    (flawless _ _ (c.model_fault-fault.ensures ∙ ap (λ (v : List ℕ). told w (model_flaw v c.args.p)) c.requires.text) c.if-fault-ne0.false
-    ∙ passed 8 _ _ (sym (c.is_given.ensures ∙ ap (has c.args.m.parts) c.model_place-place.ensures) ∙ c.if-is_given.false))
+    ∙ ap (λ (l : _). quietly (InModel (with_parts a.m c.in_ok-parts.parts a.m.waveforms l))) c.model_opens-list.ensures
+    ∙ once-given _ _ _ _ (λ g. InModel (with_parts a.m g a.m.waveforms (model_opens a.k a.p))) e t c.in_ok-parts.was

@@ -1,9 +1,9 @@
 -- By what the line says as a row: `row-amiss`, else `row-refused` or `row-taken`.
+use Rattle.std.specs.Prelude.{Err}
 use mathlib.Core.Path.{sym, ap, ◌∙◌}
 use native.Mathlib.Omega.{arith}
 use Rattle.line_cells.proofs.Rows.{row-there, row-amiss}
 use Rattle.model_steps.specs.Rows.{row_step}
-use Rattle.model_steps.specs.declared.RowStep.TheVariants.{NoRow}
 use Rattle.model_steps.proofs.Laws.{row-refused, row-taken}
 use Rattle.model_steps.proofs.rows.row_step.Goals as goal
 
@@ -20,7 +20,7 @@ returns-then-not-rising c =
     let a = c.args in
     let n = c.decimal_in-number.ensures in
     let t = row-there a.w.now c.row_words-row.ensures c.if-row-ne0.false in
-    ap NoRow c.bare_fault.ensures ∙ row-refused t a.r (rw (sym n) (sym c.rising.ensures ∙ c.if-not-rising.true))
+    ap Err c.bare_fault.ensures ∙ row-refused t a.r (rw (sym n) (sym c.rising.ensures ∙ c.if-not-rising.true))
 
 pub returns : goal.returns
 returns c =

@@ -1,19 +1,17 @@
--- Each test by its law.
-use borrow.Author.Tests.{not-true, not-false}
-use Rattle.model_steps.proofs.Laws.{table-few, table-many, table-head, table-tail, table-fine}
+-- The rows fit, or not.
+use Rattle.std.specs.Prelude.{Err}
+use Prim.Native.Nat.{ℕ}
+use mathlib.Core.Path.{sym, ap, ◌∙◌}
+use Rattle.laws.proofs.Tests.{cond_yes, cond_no}
+use Rattle.records.specs.Flaws.{bare, checked}
+use Rattle.rules.specs.Model.{table_fault}
 use Rattle.model_steps.proofs.rows.table_fault.Goals as goal
 
-pub returns-then-r-lt2 : goal.returns-then-r-lt2
-returns-then-r-lt2 c = table-few _ _ c.if-r-lt2.true
+pub returns-then-not-rows_fit : goal.returns-then-not-rows_fit
+unfolding table_fault
+returns-then-not-rows_fit c =
+    ap Err c.bare_fault.ensures ∙ sym (ap (λ (n : ℕ). checked (bare n)) (cond_no 0 13 (sym c.rows_fit.ensures ∙ c.if-not-rows_fit.true)))
 
-pub returns-then-most-r : goal.returns-then-most-r
-returns-then-most-r c = table-many _ _ c.if-most-r.true
-
-pub returns-then-not-r : goal.returns-then-not-r
-returns-then-not-r c = table-head _ _ (not-true c.args.r.head c.if-not-r.true)
-
-pub returns-then-r : goal.returns-then-r
-returns-then-r c = table-fine _ _ c.if-r-lt2.false c.if-most-r.false (not-false c.args.r.head c.if-not-r.false) c.if-r.true
-
-pub returns-else-r : goal.returns-else-r
-returns-else-r c = table-tail _ _ c.if-r.false
+pub returns : goal.returns
+unfolding table_fault
+returns c = sym (ap (λ (n : ℕ). checked (bare n)) (cond_yes 0 13 (sym c.rows_fit.ensures ∙ c.if-not-rows_fit.false)))

@@ -16,6 +16,3 @@ pub returns-then-is_target : goal.returns-then-is_target
 returns-then-is_target c =
     let a = c.args in
     hit-target a.src.now a.notes.now a.i a.n c.requires.n_value.0 c.place_of-place.result (sym c.is_target.ensures ∙ c.if-is_target.true)
-
-pub returns : goal.returns
-returns c = c.search_target.ensures

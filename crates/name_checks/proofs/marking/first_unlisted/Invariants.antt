@@ -1,11 +1,8 @@
 -- The first fault from here on is told, from the last name up.
-use Prim.Native.Nat.{◌-◌, ◌≤◌}
+use Prim.Native.Nat.{◌-◌}
 use mathlib.Core.Path.{◌≡◌}
 use Rattle.name_checks.specs.Lookup.{unmarked_from}
 use Rattle.name_checks.proofs.marking.first_unlisted.Given as goal
 
 abbrev pub invariant-loop-j : goal.invariant-loop-j
-invariant-loop-j l = (l.j ≤ l.n) × (l.first ≡ unmarked_from l.notes l.marks l.j (l.n - l.j))
-
-abbrev pub decreases-loop-j : goal.decreases-loop-j
-decreases-loop-j l = l.j
+invariant-loop-j l = l.first ≡ unmarked_from l.notes l.marks l.j (l.n - l.j)

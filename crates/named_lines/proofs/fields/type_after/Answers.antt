@@ -8,8 +8,8 @@ use Rattle.named_lines.proofs.fields.type_after.Goals as goal
 pub returns-then-n-ne0 : goal.returns-then-n-ne0
 returns-then-n-ne0 c = sym (cond_no _ _ (ne_eqb _ _ c.if-n-ne0.true))
 
-pub returns-in-OfType : goal.returns-in-OfType
-returns-in-OfType c = type-some c.args.before c.args.w.now c.type_of.ensures c.in-OfType.is ∙ sym (cond_yes _ _ (eq-eqb _ _ c.if-n-ne0.false))
+pub returns-in-Ok : goal.returns-in-Ok
+returns-in-Ok c = type-some c.args.before c.args.w.now c.type_of.ensures c.in-Ok.is ∙ sym (cond_yes _ _ (eq-eqb _ _ c.if-n-ne0.false))
 
-pub returns-in-NoType : goal.returns-in-NoType
-returns-in-NoType c = type-none c.args.before c.args.w.now c.type_of.ensures c.in-NoType.is ∙ sym (cond_yes _ _ (eq-eqb _ _ c.if-n-ne0.false))
+pub returns-in-Err : goal.returns-in-Err
+returns-in-Err c = type-none c.args.before c.args.w.now c.type_of.ensures c.in-Err.is ∙ sym (cond_yes _ _ (eq-eqb _ _ c.if-n-ne0.false))

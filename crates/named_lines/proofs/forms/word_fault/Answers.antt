@@ -1,15 +1,18 @@
 -- The word has the form, or its first character is told.
-use mathlib.Core.Path.{sym, ◌∙◌}
+use Rattle.std.specs.Prelude.{Err}
+use mathlib.Core.Path.{sym, ap, ◌∙◌}
+use Rattle.records.specs.Flaws.{checked}
 use Rattle.named_lines.specs.Views.{has_form}
 use Rattle.named_lines.proofs.FormLaws.{word-right, word-wrong}
 use Rattle.named_lines.proofs.forms.word_fault.Goals as goal
 
-pub returns-then-has_form : goal.returns-then-has_form
-returns-then-has_form c =
+pub returns-then-not-has_form : goal.returns-then-not-has_form
+returns-then-not-has_form c =
     let a = c.args in
-    c.bare_fault.ensures ∙ sym (word-right (has_form a.form) a.w.now a.at _ c.word_at-word.ensures (sym c.has_form.ensures ∙ c.if-has_form.true))
+    ap Err c.at_fault.ensures
+    ∙ sym (ap checked (word-wrong (has_form a.form) a.w.now a.at _ c.word_at-word.ensures (sym c.has_form.ensures ∙ c.if-not-has_form.true)))
 
 pub returns : goal.returns
 returns c =
     let a = c.args in
-    c.at_fault.ensures ∙ sym (word-wrong (has_form a.form) a.w.now a.at _ c.word_at-word.ensures (sym c.has_form.ensures ∙ c.if-has_form.false))
+    sym (ap checked (word-right (has_form a.form) a.w.now a.at _ c.word_at-word.ensures (sym c.has_form.ensures ∙ c.if-not-has_form.false)))

@@ -1,11 +1,11 @@
 -- The list in the code has the table's words, by computing both, so the place found stands for the meaning.
+use Rattle.std.specs.Prelude.{None}
 use mathlib.Core.Path.{refl, sym, ap, ◌∙◌}
 use Rattle.laws.specs.Bytes.{is_blank}
 use Rattle.laws.specs.Said.{or_else}
 use Rattle.words.specs.Words.{words, grown, onto_word}
 use Rattle.name_table.specs.Places.{names_of}
 use Rattle.name_table.specs.declared.NameList.TheVariants.{Enables}
-use Rattle.records.specs.declared.Enable.TheVariants.{NoEnable}
 use Rattle.records.proofs.Columns.{told-else}
 use Rattle.line_rules.specs.Fields.{word_line}
 use Rattle.line_rules.specs.Tables.{enables}
@@ -15,17 +15,17 @@ use Rattle.named_lines.proofs.lookups.enable_of.Goals as goal
 pub enable_at-requires : goal.enable_at-requires
 unfolding words grown onto_word is_blank names_of enables
 enable_at-requires c =
-    line-within enables Enables refl c.args.w.now c.listed_word.ensures c.in-Listed.is
+    line-within enables Enables refl c.args.w.now c.listed_word.ensures c.in-Ok.is
 
-pub returns-in-Listed : goal.returns-in-Listed
+pub returns-in-Ok : goal.returns-in-Ok
 unfolding words grown onto_word is_blank names_of enables
-returns-in-Listed c =
+returns-in-Ok c =
     let w = c.args.w.now in
-    sym (ap (or_else NoEnable) (line-means enables Enables refl w c.listed_word.ensures c.in-Listed.is c.enable_at.ensures))
+    sym (ap (or_else None) (line-means enables Enables refl w c.listed_word.ensures c.in-Ok.is c.enable_at.ensures))
 
-pub returns-in-Unlisted : goal.returns-in-Unlisted
+pub returns-in-Err : goal.returns-in-Err
 unfolding words grown onto_word is_blank names_of enables
-returns-in-Unlisted c =
+returns-in-Err c =
     let w = c.args.w.now in
-    sym (ap (or_else NoEnable) (line-fault enables Enables refl w c.listed_word.ensures c.in-Unlisted.is))
-    ∙ told-else w NoEnable (word_line enables w)
+    sym (ap (or_else None) (line-fault enables Enables refl w c.listed_word.ensures c.in-Err.is))
+    ∙ told-else w None (word_line enables w)

@@ -1,15 +1,13 @@
--- The fault of the answer is what is told of the line's flaw.
-use mathlib.Core.Path.{◌∙◌}
-use Rattle.named_lines.specs.Views.{place_line}
-use Rattle.named_lines.proofs.TableLaws.{listed-told}
+-- The word is fair, so the fault of what is told is what its check answers.
+use mathlib.Core.Path.{sym, ap, ◌∙◌}
+use Rattle.laws.proofs.Handed.{handed_on}
+use Rattle.line_rules.proofs.Fair.{fault_of, fair-checked}
+use Rattle.named_lines.proofs.TableLaws.{place-fair}
 use Rattle.named_lines.proofs.lookups.word_line_fault.Goals as goal
 
-pub returns-in-Listed : goal.returns-in-Listed
-returns-in-Listed c =
-    let a = c.args in
-    c.bare_fault.ensures ∙ listed-told a.w.now (place_line a.list a.w.now) c.listed_word.ensures c.in-Listed.is
+pub returns-in_err-listed_word : goal.returns-in_err-listed_word
+returns-in_err-listed_word c =
+    handed_on _ c.from_residual.ensures.1 ∙ ap fault_of (sym c.in_err-listed_word.was ∙ c.listed_word.ensures) ∙ fair-checked _ (place-fair c.args.list c.args.w.now)
 
-pub returns-in-Unlisted : goal.returns-in-Unlisted
-returns-in-Unlisted c =
-    let a = c.args in
-    listed-told a.w.now (place_line a.list a.w.now) c.listed_word.ensures c.in-Unlisted.is
+pub returns : goal.returns
+returns c = ap fault_of (sym c.in_ok-listed_word.was ∙ c.listed_word.ensures) ∙ fair-checked _ (place-fair c.args.list c.args.w.now)

@@ -1,10 +1,6 @@
 -- A row more is counted: every row stands behind a byte of the file, so the count stays small.
-use native.Mathlib.Omega.{arith}
 use Rattle.noted_events.proofs.EventLaws.{row-going, kept_row}
 use Rattle.noted_events.proofs.events.count_row.Goals as goal
-
-pub overflow_add-d : goal.overflow_add-d
-overflow_add-d c = let h = c.requires in omega (arith, h.rows, h.text.starts, h.text.fits, h.small)
 
 pub returns : goal.returns
 returns c =

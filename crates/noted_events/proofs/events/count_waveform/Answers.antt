@@ -14,9 +14,6 @@ returns-then-waveform_bound-j c =
       kept_by = omega (arith, names-small a.t c.requires.within);
     }
 
-pub overflow_add-d : goal.overflow_add-d
-overflow_add-d c = omega (arith, c.requires.within.waveforms)
-
 pub returns : goal.returns
 returns c =
     let a = c.args in

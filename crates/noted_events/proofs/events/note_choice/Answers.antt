@@ -1,14 +1,8 @@
 -- The note is the row's, by the place of its first word.
 use mathlib.Core.Path.{refl}
 use Rattle.records.specs.declared.Kind.TheVariants.{OfChoice}
-use Rattle.noted_events.proofs.EventLaws.{row_fits, told-row}
+use Rattle.noted_events.proofs.EventLaws.{told-row}
 use Rattle.noted_events.proofs.events.note_choice.Goals as goal
-
-pub row_note-x-requires : goal.row_note-x-requires
-row_note-x-requires c =
-    let a = c.args in
-    let x = c.first_in-name in
-    row_fits a.src.now a.notes.now a.l a.t a.p c.requires x.result x.result x.ensures.from x.ensures.starts x.ensures.ends x.ensures.from x.ensures.starts x.ensures.ends
 
 pub returns : goal.returns
 returns c =

@@ -1,18 +1,8 @@
 -- The note is the row's, by the places of its first and third words.
 use mathlib.Core.Path.{refl}
-use native.Mathlib.Omega.{arith}
 use Rattle.records.specs.declared.Kind.TheVariants.{OfPin}
-use Rattle.noted_events.proofs.EventLaws.{row_fits, told-row, third-in}
+use Rattle.noted_events.proofs.EventLaws.{told-row, third-in}
 use Rattle.noted_events.proofs.events.note_pin.Goals as goal
-
-pub row_note-x-requires : goal.row_note-x-requires
-row_note-x-requires c =
-    let a = c.args in
-    let x = c.first_in-name in
-    let y = c.first_in-signal in
-    let z = c.first_in-model in
-    row_fits a.src.now a.notes.now a.l a.t a.p c.requires x.result z.result x.ensures.from x.ensures.starts x.ensures.ends
-    (omega (arith, x.ensures.from, x.ensures.starts, y.ensures.from, y.ensures.starts, z.ensures.from)) z.ensures.starts z.ensures.ends
 
 pub returns : goal.returns
 returns c =

@@ -2,44 +2,11 @@
 use Prim.Native.Nat.{ℕ}
 use mathlib.Core.Path.{refl, ap, ◌∙◌}
 use mathlib.Core.List.{List}
-use native.Mathlib.Omega.{arith}
 use Rattle.words.specs.Words.{word, words}
 use Rattle.records.specs.declared.Kind.TheVariants.{OfComponent, OfSelector, OfModel}
 use Rattle.note_words.specs.Store.{log_in}
-use Rattle.noted_events.proofs.EventLaws.{section-fits, told-section}
+use Rattle.noted_events.proofs.EventLaws.{told-section}
 use Rattle.noted_events.proofs.events.note_section.Goals as goal
-
-pub section_note-x-requires : goal.section_note-x-requires
-section_note-x-requires c =
-    let a = c.args in
-    let r = c.requires in
-    let d = c.argument_in-a in
-    record {
-      models_bound = omega (arith, r.within.components, r.within.selectors, r.within.models);
-      section_fits = section-fits a.src.now a.notes.now a.l a.t a.p r d.result a.p.end a.t.counts.pins 0 d.ensures.from d.ensures.ends (omega arith) (omega (arith, r.within.pins)) (omega arith);
-    }
-
-pub section_note-x-requires-in-Selector : goal.section_note-x-requires-in-Selector
-section_note-x-requires-in-Selector c =
-    let a = c.args in
-    let r = c.requires in
-    let d = c.argument_in-a in
-    let w = c.first_in-w in
-    record {
-      models_bound = omega (arith, r.within.components, r.within.selectors, r.within.models);
-      section_fits = section-fits a.src.now a.notes.now a.l a.t a.p r w.result.start w.result.end a.t.counts.choices 0 (omega (arith, d.ensures.from, w.ensures.from)) w.ensures.starts w.ensures.ends (omega (arith, r.within.choices)) (omega arith);
-    }
-
-pub section_note-x-requires-in-Model : goal.section_note-x-requires-in-Model
-section_note-x-requires-in-Model c =
-    let a = c.args in
-    let r = c.requires in
-    let d = c.argument_in-a in
-    let w = c.first_in-w in
-    record {
-      models_bound = omega (arith, r.within.components, r.within.selectors, r.within.models);
-      section_fits = section-fits a.src.now a.notes.now a.l a.t a.p r w.result.start w.result.end a.t.counts.waveforms a.t.counts.rows (omega (arith, d.ensures.from, w.ensures.from)) w.ensures.starts w.ensures.ends (omega (arith, r.within.waveforms)) (omega (arith, r.rows, r.text.starts, r.text.fits, r.small));
-    }
 
 pub returns-in-Component : goal.returns-in-Component
 unfolding log_in

@@ -1,5 +1,5 @@
 -- From place i on the search finds what it finds from the start.
-use Prim.Native.Nat.{ℕ, ◌-◌, ◌≤◌}
+use Prim.Native.Nat.{ℕ}
 use mathlib.Core.Bool.{Bool}
 use mathlib.Core.List.{List}
 use lib.Dec.{eqb}
@@ -11,7 +11,4 @@ abbrev pub test : ℕ → List ℕ → ℕ → ℕ → Bool
 test size table k i = eqb (number_at (record_at size table i) 0) k
 
 abbrev pub invariant-loop-i : goal.invariant-loop-i
-invariant-loop-i l = (l.i ≤ l.n) × Seeks (test l.size l.table l.k) 0 l.n l.i
-
-abbrev pub decreases-loop-i : goal.decreases-loop-i
-decreases-loop-i l = l.n - l.i
+invariant-loop-i l = Seeks (test l.size l.table l.k) 0 l.n l.i

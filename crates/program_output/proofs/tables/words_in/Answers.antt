@@ -1,10 +1,9 @@
 -- By whether the table has more records.
 use Prim.Native.Nat.{ℕ, ◌*◌, ◌/◌, ◌≤◌, ◌<◌}
 use mathlib.Core.Path.{◌≡◌, refl, ap, ◌∙◌}
-use native.Mathlib.Nat.{le_of_lt}
+use native.Mathlib.Nat.{le_of_lt, div-zero, mul-le-mul_right, div-mul-le_self}
 use native.Mathlib.Omega.{arith}
 use borrow.Author.Tests.{lt-ltb, le-ltb}
-use native.Mathlib.Nat.{div-zero, mul-le-mul_right, div-mul-le_self}
 use Rattle.program_output.proofs.tables.words_in.Goals as goal
 
 -- fewer records than the table has fit into it

@@ -1,6 +1,6 @@
 -- By whether the pin needs a model.
 use mathlib.Core.Path.{refl, sym, ap, ◌∙◌}
-use Rattle.records.specs.declared.Name.{Name}
+use Rattle.records.specs.Texts.{Name}
 use Rattle.questions.specs.Named.{name_bytes}
 use Rattle.questions.specs.Searched.{model_named}
 use Rattle.questions.specs.Chosen.{model_for}

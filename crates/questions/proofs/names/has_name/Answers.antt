@@ -19,31 +19,27 @@ returns-then-name_length-name c =
 
 pub loop-i-init : goal.loop-i-init
 loop-i-init c =
-    let a = c.args in (
-      omega arith,
-      ap (λ (l : List ℕ). eqs l a.name.now) (map_same (text a.words.now a.name.now))
-          ∙ sym (named_in a.words.now a.name.now (length a.name.now) (sym c.name_length.ensures ∙ c.if-name_length-name.false)),
-    )
+    let a = c.args in
+    ap (λ (l : List ℕ). eqs l a.name.now) (map_same (text a.words.now a.name.now))
+    ∙ sym (named_in a.words.now a.name.now (length a.name.now) (sym c.name_length.ensures ∙ c.if-name_length-name.false))
 
-pub returns-then-byte_in-name : goal.returns-then-byte_in-name
-returns-then-byte_in-name c =
+pub returns-then-byte_in-b : goal.returns-then-byte_in-b
+returns-then-byte_in-b c =
     let a = c.args in
     let l = c.loop-i in
     let here = c.loop-i-test.true in
     let within : l.i < length (text a.words.now a.name.now) = omega (arith, here, bytes-length a.words.now (length a.name.now)) in
-    sym (same-differ kept (text a.words.now a.name.now) a.name.now l.i within here (λ e. c.if-byte_in-name.true (c.byte_in.ensures ∙ sym (bytes-get a.words.now (length a.name.now) l.i here) ∙ e)))
-    ∙ l.invariant.1
+    sym (same-differ kept (text a.words.now a.name.now) a.name.now l.i within here (λ e. c.if-byte_in-b.true (c.byte_in.ensures ∙ sym (bytes-get a.words.now (length a.name.now) l.i here) ∙ e)))
+    ∙ l.invariant
 
 pub loop-i-preserved : goal.loop-i-preserved
 loop-i-preserved c =
     let a = c.args in
     let l = c.loop-i in
     let here = c.loop-i-test.true in
-    let within : l.i < length (text a.words.now a.name.now) = omega (arith, here, bytes-length a.words.now (length a.name.now)) in (
-      omega arith,
-      same-go kept (text a.words.now a.name.now) a.name.now l.i within here (bytes-get a.words.now (length a.name.now) l.i here ∙ sym c.byte_in.ensures ∙ c.if-byte_in-name.false)
-          ∙ l.invariant.1,
-    )
+    let within : l.i < length (text a.words.now a.name.now) = omega (arith, here, bytes-length a.words.now (length a.name.now)) in
+    same-go kept (text a.words.now a.name.now) a.name.now l.i within here (bytes-get a.words.now (length a.name.now) l.i here ∙ sym c.byte_in.ensures ∙ c.if-byte_in-b.false)
+    ∙ l.invariant
 
 pub returns : goal.returns
 returns c =
@@ -52,4 +48,4 @@ returns c =
     let all : length (text a.words.now a.name.now) ≤ l.i = omega (arith, c.loop-i-test.false, bytes-length a.words.now (length a.name.now)) in
     sym (le-leb (length a.name.now) l.i c.loop-i-test.false)
     ∙ sym (same_end kept (text a.words.now a.name.now) a.name.now l.i all)
-    ∙ l.invariant.1
+    ∙ l.invariant

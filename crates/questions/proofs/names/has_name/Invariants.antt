@@ -1,5 +1,5 @@
 -- Equality from i on is equality of all: `same-go` at a turn; the ways out are another length, `same-differ` and `same_end`.
-use Prim.Native.Nat.{ℕ, ◌-◌, ◌≤◌}
+use Prim.Native.Nat.{ℕ}
 use mathlib.Core.Path.{◌≡◌}
 use mathlib.Core.List.{List, map}
 use lib.ListN.{length, drop}
@@ -17,8 +17,4 @@ abbrev pub text : List ℕ → List ℕ → List ℕ
 text words name = bytes_from words (length name)
 
 abbrev pub invariant-loop-i : goal.invariant-loop-i
-invariant-loop-i l =
-    (l.i ≤ length l.name) × (eqs (map kept (drop l.i (text l.words l.name))) (drop l.i l.name) ≡ is_named (name_from l.words) l.name)
-
-abbrev pub decreases-loop-i : goal.decreases-loop-i
-decreases-loop-i l = length l.name - l.i
+invariant-loop-i l = eqs (map kept (drop l.i (text l.words l.name))) (drop l.i l.name) ≡ is_named (name_from l.words) l.name

@@ -1,5 +1,4 @@
 -- From place i on the search finds what it finds from the start.
-use Prim.Native.Nat.{◌-◌, ◌≤◌}
 use lib.ListN.{drop}
 use Rattle.table_records.specs.Values.{record_at}
 use Rattle.table_records.specs.Records.{name_from}
@@ -8,7 +7,4 @@ use Rattle.questions.proofs.Laws.{Seeks}
 use Rattle.questions.proofs.searches.first_named.Given as goal
 
 abbrev pub invariant-loop-i : goal.invariant-loop-i
-invariant-loop-i l = (l.i ≤ l.n) × Seeks (λ k. is_named (name_from (drop l.word (record_at l.size l.table k))) l.name) l.from l.n l.i
-
-abbrev pub decreases-loop-i : goal.decreases-loop-i
-decreases-loop-i l = l.n - l.i
+invariant-loop-i l = Seeks (λ k. is_named (name_from (drop l.word (record_at l.size l.table k))) l.name) l.from l.n l.i

@@ -6,10 +6,10 @@ use Rattle.table_records.specs.Records.{component_from}
 use Rattle.table_records.proofs.Places.{record-none}
 use Rattle.questions.proofs.values.package_of.Goals as goal
 
-pub returns-in-At : goal.returns-in-At
-returns-in-At c = rw c.in-At.is c.component_in.ensures
+pub returns-in-Some : goal.returns-in-Some
+returns-in-Some c = rw c.in-Some.is c.component_in.ensures
 
-pub returns-in-Nothing : goal.returns-in-Nothing
-returns-in-Nothing c =
+pub returns-in-None : goal.returns-in-None
+returns-in-None c =
     let t = c.args.components.now in
-    rw c.in-Nothing.is (c.component_in-in-Nothing.ensures ∙ ap component_from (record-none 26 t (length t) (div-le_self (length t) 26)))
+    rw c.in-None.is (c.component_in-in-None.ensures ∙ ap component_from (record-none 26 t (length t) (div-le_self (length t) 26)))

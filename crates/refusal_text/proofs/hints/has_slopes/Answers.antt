@@ -4,7 +4,7 @@ use Rattle.refusal_text.proofs.HintLaws.{slopes-rise, slopes-fall}
 use Rattle.refusal_text.proofs.hints.has_slopes.Goals as goal
 
 pub returns-then-same : goal.returns-then-same
-returns-then-same c = slopes-rise c.args.w.now c.word_at-first.result c.word_at-first.ensures (sym c.same.ensures ∙ c.if-same.true)
+returns-then-same c = c.if-same.true ∙ slopes-rise c.args.w.now c.word_at-first.result c.word_at-first.ensures (sym c.same.ensures ∙ c.if-same.true)
 
-pub returns : goal.returns
-returns c = c.same-2.ensures ∙ slopes-fall c.args.w.now c.word_at-first.result c.word_at-first.ensures (sym c.same.ensures ∙ c.if-same.false)
+pub returns-else-same : goal.returns-else-same
+returns-else-same c = c.same-else-same.ensures ∙ slopes-fall c.args.w.now c.word_at-first.result c.word_at-first.ensures (sym c.same.ensures ∙ c.if-same.false)

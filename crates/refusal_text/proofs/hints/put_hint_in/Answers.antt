@@ -1,9 +1,10 @@
 -- The word lies where it was found.
 use Prim.Native.Nat.{ℕ}
-use mathlib.Core.Path.{ap}
+use mathlib.Core.Path.{◌∙◌, ap}
 use mathlib.Core.List.{List}
 use Rattle.refusal_text.specs.Hints.{hint_at}
-use Rattle.text_buffer.proofs.Laws.{put_as, put-kept}
+use Rattle.text_buffer.specs.Pages.{sheet}
+use Rattle.text_buffer.proofs.Laws.{put-text}
 use Rattle.refusal_text.proofs.hints.put_hint_in.Goals as goal
 
 pub slice_bounds-put_hint_at-count : goal.slice_bounds-put_hint_at-count
@@ -16,7 +17,4 @@ pub slice_bounds-put_hint_at-end : goal.slice_bounds-put_hint_at-end
 slice_bounds-put_hint_at-end c = c.find_word-found.ensures.ends
 
 pub returns : goal.returns
-returns c = put_as (ap (λ (v : List ℕ). hint_at c.args.w.now v c.args.number c.args.surplus) c.find_word-found.ensures.is) c.put_hint_at.ensures
-
-pub shape_of-out : goal.shape_of-out
-shape_of-out c = put-kept (returns c)
+returns c = c.put_hint_at.ensures ∙ put-text (sheet c.args.page.now) (ap (λ (v : List ℕ). hint_at c.args.w.now v c.args.number c.args.surplus) c.find_word-found.ensures.is)

@@ -3,7 +3,6 @@ use Prim.Native.Nat.{ℕ, ◌+◌}
 use mathlib.Core.Path.{◌≡◌, refl, ap, ◌∙◌}
 use mathlib.Core.List.{List}
 use native.Mathlib.Numerals.{add-one}
-use native.Mathlib.Omega.{arith}
 use Rattle.lines.specs.Places.{line_from}
 use Rattle.lines.specs.declared.LineReader.{LineReader}
 use Rattle.refusal_text.specs.Places.{place_behind}
@@ -13,12 +12,12 @@ goes_on : (s t : List ℕ) (a k : ℕ) → s ≡ t → a ≡ place_behind t k �
 unfolding place_behind
 goes_on s t a k e h = rw (e, h, add-one k) refl
 
-pub loop-i-init : goal.loop-i-init
+pub loop-init : goal.loop-init
 unfolding place_behind
-loop-i-init c = (omega arith, ap (λ (r : LineReader). r.src.now) c.new-reader.ensures, ap (λ (r : LineReader). r.at) c.new-reader.ensures)
+loop-init c = (ap (λ (r : LineReader). r.src.now) c.new-reader.ensures, ap (λ (r : LineReader). r.at) c.new-reader.ensures)
 
-pub loop-i-preserved : goal.loop-i-preserved
-loop-i-preserved c =
-    let l = c.loop-i in
+pub loop-preserved : goal.loop-preserved
+loop-preserved c =
+    let l = c.loop in
     let e = c.next.ensures.1 in
-    (omega (arith, c.loop-i-test.true), ap (λ (r : LineReader). r.src.now) e ∙ l.invariant.1, ap (λ (r : LineReader). r.at) e ∙ goes_on _ _ _ l.i l.invariant.1 l.invariant.2)
+    (ap (λ (r : LineReader). r.src.now) e ∙ l.invariant.0, ap (λ (r : LineReader). r.at) e ∙ goes_on _ _ _ l.counter l.invariant.0 l.invariant.1)

@@ -1,27 +1,23 @@
--- By the fault's number, and whether its line is one.
+-- By the number and the line.
+use Rattle.refusal_text.proofs.Laws.{line-none, line-text, meant-other, meant-slip}
+use Rattle.refusal_text.specs.Refusals.{first_suggestion}
+use Rattle.text_buffer.proofs.Laws.{put-text}
+use Rattle.text_buffer.specs.Pages.{sheet}
 use mathlib.Core.Path.{◌∙◌}
 use native.Mathlib.Omega.{arith}
-use Rattle.refusal_text.specs.Refusals.{first_suggestion}
-use Rattle.text_buffer.proofs.Laws.{put_as, put-kept}
-use Rattle.refusal_text.proofs.Laws.{line-none, line-text, meant-other, meant-slip}
+use Rattle.refusal_text.proofs.refusals.put_meant.Goals.{else-fault-eq21-via-then-fault-eq21+else-fault-ne0, else-fault-eq21-via-else-fault-eq21}
 use Rattle.refusal_text.proofs.refusals.put_meant.Goals as goal
 
-pub returns-then-fault-ne21 : goal.returns-then-fault-ne21
-returns-then-fault-ne21 c = put_as (meant-other c.args.src.now c.args.fault c.if-fault-ne21.true) c.put_bytes.ensures
+pub returns-then-fault-ne0 : goal.returns-then-fault-ne0
+returns-then-fault-ne0 c =
+    let line = line-text first_suggestion c.args.src.now c.args.fault.line c.skip_lines-start.result (omega (arith, c.if-fault-ne0.true)) c.skip_lines-start.ensures.value in
+    c.put_first_suggestion.ensures ∙ put-text (sheet c.args.page.now) (line ∙ meant-slip c.args.src.now c.args.fault c.if-fault-eq21.true)
 
-pub returns-then-fault-eq0 : goal.returns-then-fault-eq0
-returns-then-fault-eq0 c = put_as (line-none first_suggestion c.args.src.now c.args.fault.line c.if-fault-eq0.true ∙ meant-slip c.args.src.now c.args.fault c.if-fault-ne21.false) c.put_bytes-then-fault-eq0.ensures
-
-pub returns : goal.returns
-returns c =
-    let line = line-text first_suggestion c.args.src.now c.args.fault.line c.skip_lines-start.result (omega (arith, c.if-fault-eq0.false)) c.skip_lines-start.ensures.value in
-    put_as (line ∙ meant-slip c.args.src.now c.args.fault c.if-fault-ne21.false) c.put_first_suggestion.ensures
-
-pub shape_of-out-then-fault-ne21 : goal.shape_of-out-then-fault-ne21
-shape_of-out-then-fault-ne21 c = put-kept (returns-then-fault-ne21 c)
-
-pub shape_of-out-then-fault-eq0 : goal.shape_of-out-then-fault-eq0
-shape_of-out-then-fault-eq0 c = put-kept (returns-then-fault-eq0 c)
-
-pub shape_of-out : goal.shape_of-out
-shape_of-out c = put-kept (returns c)
+pub returns-else-fault-eq21 : goal.returns-else-fault-eq21
+returns-else-fault-eq21 c =
+    let s = c.args.src.now in
+    let f = c.args.fault in
+    elim c.else-fault-eq21.branch [
+      | else-fault-eq21-via-then-fault-eq21+else-fault-ne0 w ↦ put-text (sheet c.args.page.now) (line-none first_suggestion s f.line w.if-fault-ne0.false ∙ meant-slip s f w.if-fault-eq21.true)
+      | else-fault-eq21-via-else-fault-eq21 w ↦ put-text (sheet c.args.page.now) (meant-other s f w.if-fault-eq21.false)
+    ]

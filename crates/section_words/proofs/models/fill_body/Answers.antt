@@ -23,50 +23,50 @@ pub shape_of-rows-then-ends : goal.shape_of-rows-then-ends
 shape_of-rows-then-ends c = rows-length c.loop-keyword.invariant.walks c.requires.c_in_bounds c.requires.c_in_bounds_2
 
 pub returns-then-ends : goal.returns-then-ends
-returns-then-ends c = fills-whole c.loop-keyword.invariant (walks-end c.loop-keyword.invariant.walks (key-found c.in-Key.is c.next_key.ensures) (sym c.ends.ensures ∙ c.if-ends.true))
+returns-then-ends c = fills-whole c.loop-keyword.invariant (walks-end c.loop-keyword.invariant.walks (key-found c.in-Some.is c.next_key.ensures) (sym c.ends.ensures ∙ c.if-ends.true))
 
 pub offset_bounds-waveforms-waves : goal.offset_bounds-waveforms-waves
 offset_bounds-waveforms-waves c =
-    let l = key-found c.in-Key.is c.next_key.ensures in
+    let l = key-found c.in-Some.is c.next_key.ensures in
     omega (arith, waves-fit c.loop-keyword.invariant.walks c.requires.c_in_bounds c.requires.c_in_bounds_2 l (sym c.ends.ensures ∙ c.if-ends.false), waves-length c.loop-keyword.invariant.walks c.requires.c_in_bounds c.requires.c_in_bounds_2, c.well_formed)
 
 pub slice_bounds-fill_key-count : goal.slice_bounds-fill_key-count
 slice_bounds-fill_key-count c =
-    let l = key-found c.in-Key.is c.next_key.ensures in
+    let l = key-found c.in-Some.is c.next_key.ensures in
     omega (arith, waves-fit c.loop-keyword.invariant.walks c.requires.c_in_bounds c.requires.c_in_bounds_2 l (sym c.ends.ensures ∙ c.if-ends.false))
 
 pub slice_bounds-fill_key-start : goal.slice_bounds-fill_key-start
 slice_bounds-fill_key-start c =
-    let l = key-found c.in-Key.is c.next_key.ensures in
+    let l = key-found c.in-Some.is c.next_key.ensures in
     omega (arith, waves-fit c.loop-keyword.invariant.walks c.requires.c_in_bounds c.requires.c_in_bounds_2 l (sym c.ends.ensures ∙ c.if-ends.false))
 
 pub offset_bounds-rows-words : goal.offset_bounds-rows-words
 offset_bounds-rows-words c =
-    let l = key-found c.in-Key.is c.next_key.ensures in
+    let l = key-found c.in-Some.is c.next_key.ensures in
     omega (arith, rows_fit c.loop-keyword.invariant.walks c.requires.c_in_bounds c.requires.c_in_bounds_2 l (sym c.ends.ensures ∙ c.if-ends.false), rows-length c.loop-keyword.invariant.walks c.requires.c_in_bounds c.requires.c_in_bounds_2, c.well_formed)
 
-pub slice_bounds-fill_key-count-in-Key : goal.slice_bounds-fill_key-count-in-Key
-slice_bounds-fill_key-count-in-Key c =
-    let l = key-found c.in-Key.is c.next_key.ensures in
+pub slice_bounds-fill_key-count-in-Some : goal.slice_bounds-fill_key-count-in-Some
+slice_bounds-fill_key-count-in-Some c =
+    let l = key-found c.in-Some.is c.next_key.ensures in
     omega (arith, rows_fit c.loop-keyword.invariant.walks c.requires.c_in_bounds c.requires.c_in_bounds_2 l (sym c.ends.ensures ∙ c.if-ends.false))
 
-pub slice_bounds-fill_key-start-in-Key : goal.slice_bounds-fill_key-start-in-Key
-slice_bounds-fill_key-start-in-Key c =
-    let l = key-found c.in-Key.is c.next_key.ensures in
+pub slice_bounds-fill_key-start-in-Some : goal.slice_bounds-fill_key-start-in-Some
+slice_bounds-fill_key-start-in-Some c =
+    let l = key-found c.in-Some.is c.next_key.ensures in
     omega (arith, rows_fit c.loop-keyword.invariant.walks c.requires.c_in_bounds c.requires.c_in_bounds_2 l (sym c.ends.ensures ∙ c.if-ends.false))
 
-pub slice_bounds-fill_key-count-in-Key-2 : goal.slice_bounds-fill_key-count-in-Key-2
-slice_bounds-fill_key-count-in-Key-2 c = omega (arith, (key-found c.in-Key.is c.next_key.ensures).starts)
+pub slice_bounds-fill_key-count-in-Some-2 : goal.slice_bounds-fill_key-count-in-Some-2
+slice_bounds-fill_key-count-in-Some-2 c = omega (arith, (key-found c.in-Some.is c.next_key.ensures).starts)
 
-pub slice_bounds-fill_key-start-in-Key-2 : goal.slice_bounds-fill_key-start-in-Key-2
-slice_bounds-fill_key-start-in-Key-2 c = omega (arith, (key-found c.in-Key.is c.next_key.ensures).starts)
+pub slice_bounds-fill_key-start-in-Some-2 : goal.slice_bounds-fill_key-start-in-Some-2
+slice_bounds-fill_key-start-in-Some-2 c = omega (arith, (key-found c.in-Some.is c.next_key.ensures).starts)
 
-pub slice_bounds-fill_key-end-in-Key-2 : goal.slice_bounds-fill_key-end-in-Key-2
-slice_bounds-fill_key-end-in-Key-2 c = (key-found c.in-Key.is c.next_key.ensures).fits
+pub slice_bounds-fill_key-end-in-Some-2 : goal.slice_bounds-fill_key-end-in-Some-2
+slice_bounds-fill_key-end-in-Some-2 c = (key-found c.in-Some.is c.next_key.ensures).fits
 
 pub fill_key-filled-requires : goal.fill_key-filled-requires
 fill_key-filled-requires c =
-    let l = key-found c.in-Key.is c.next_key.ensures in
+    let l = key-found c.in-Some.is c.next_key.ensures in
     let p = c.loop-keyword.invariant in
     record {
       placed = (l.placed, place-fits p l (sym c.ends.ensures ∙ c.if-ends.false), omega (arith, p.sized, c.requires.placed.2));
@@ -76,42 +76,42 @@ fill_key-filled-requires c =
 
 pub overflow_add-place : goal.overflow_add-place
 overflow_add-place c =
-    let l = key-found c.in-Key.is c.next_key.ensures in
+    let l = key-found c.in-Some.is c.next_key.ensures in
     let p = c.loop-keyword.invariant in
     let t = (filled p l (sym c.ends.ensures ∙ c.if-ends.false) c.fill_key-filled.ensures).taken in
     omega (arith, place_is p l (sym c.ends.ensures ∙ c.if-ends.false) c.fill_key-filled.ensures, t.fits.row, t.placed.within, c.well_formed)
 
 pub overflow_add-waves : goal.overflow_add-waves
 overflow_add-waves c =
-    let l = key-found c.in-Key.is c.next_key.ensures in
+    let l = key-found c.in-Some.is c.next_key.ensures in
     let p = c.loop-keyword.invariant in
     omega (arith, waves-fit p.walks c.requires.c_in_bounds c.requires.c_in_bounds_2 l (sym c.ends.ensures ∙ c.if-ends.false), (filled p l (sym c.ends.ensures ∙ c.if-ends.false) c.fill_key-filled.ensures).waveform.used, waves-length p.walks c.requires.c_in_bounds c.requires.c_in_bounds_2, c.well_formed)
 
 pub overflow_add-words : goal.overflow_add-words
 overflow_add-words c =
-    let l = key-found c.in-Key.is c.next_key.ensures in
+    let l = key-found c.in-Some.is c.next_key.ensures in
     let p = c.loop-keyword.invariant in
     omega (arith, rows_fit p.walks c.requires.c_in_bounds c.requires.c_in_bounds_2 l (sym c.ends.ensures ∙ c.if-ends.false), (filled p l (sym c.ends.ensures ∙ c.if-ends.false) c.fill_key-filled.ensures).rows.used, rows-length p.walks c.requires.c_in_bounds c.requires.c_in_bounds_2, c.well_formed)
 
 pub loop-keyword-smaller : goal.loop-keyword-smaller
 loop-keyword-smaller c =
-    let l = key-found c.in-Key.is c.next_key.ensures in
+    let l = key-found c.in-Some.is c.next_key.ensures in
     let r = (filled c.loop-keyword.invariant l (sym c.ends.ensures ∙ c.if-ends.false) c.fill_key-filled.ensures).taken in
     omega (arith, l.rises, r.rises, r.placed.within)
 
 pub loop-keyword-preserved : goal.loop-keyword-preserved
 loop-keyword-preserved c =
-    let l = key-found c.in-Key.is c.next_key.ensures in
+    let l = key-found c.in-Some.is c.next_key.ensures in
     fills-key c.loop-keyword.invariant l (sym c.ends.ensures ∙ c.if-ends.false) c.fill_key-filled.ensures c.requires.c_in_bounds c.requires.c_in_bounds_2 refl refl c.model-1.given
 
-pub shape_of-model-in-NoKey : goal.shape_of-model-in-NoKey
-shape_of-model-in-NoKey c = c.loop-keyword.invariant.sized
+pub shape_of-model-in-None : goal.shape_of-model-in-None
+shape_of-model-in-None c = c.loop-keyword.invariant.sized
 
-pub shape_of-waveforms-in-NoKey : goal.shape_of-waveforms-in-NoKey
-shape_of-waveforms-in-NoKey c = waves-length c.loop-keyword.invariant.walks c.requires.c_in_bounds c.requires.c_in_bounds_2
+pub shape_of-waveforms-in-None : goal.shape_of-waveforms-in-None
+shape_of-waveforms-in-None c = waves-length c.loop-keyword.invariant.walks c.requires.c_in_bounds c.requires.c_in_bounds_2
 
-pub shape_of-rows-in-NoKey : goal.shape_of-rows-in-NoKey
-shape_of-rows-in-NoKey c = rows-length c.loop-keyword.invariant.walks c.requires.c_in_bounds c.requires.c_in_bounds_2
+pub shape_of-rows-in-None : goal.shape_of-rows-in-None
+shape_of-rows-in-None c = rows-length c.loop-keyword.invariant.walks c.requires.c_in_bounds c.requires.c_in_bounds_2
 
-pub returns-in-NoKey : goal.returns-in-NoKey
-returns-in-NoKey c = fills-whole c.loop-keyword.invariant (walks-out c.loop-keyword.invariant.walks (key-out _ _ c.in-NoKey.is c.next_key.ensures))
+pub returns-in-None : goal.returns-in-None
+returns-in-None c = fills-whole c.loop-keyword.invariant (walks-out c.loop-keyword.invariant.walks (key-out _ _ c.in-None.is c.next_key.ensures))

@@ -1,19 +1,14 @@
--- The words still to be written, from here on, give what all of them give from the start.
-use Prim.Native.Nat.{◌+◌}
-use mathlib.Core.Path.{◌≡◌, refl, sym, ◌∙◌}
-use lib.ListN.{length-set}
+-- What lies before the words and behind them stays: `put_mid-paste`, `sets-eq`.
+use mathlib.Core.Path.{refl, sym, ◌∙◌}
+use lib.ListN.{length}
+use lib.Seq.{take-length, sets-eq}
 use native.Mathlib.Omega.{arith}
-use Rattle.note_words.proofs.Laws.{sets-turn, sets_end}
+use Rattle.std.proofs.lemmas.Slice.{put_mid-paste}
 use Rattle.section_words.proofs.puts.put.Goals as goal
 
-pub loop-i-init : goal.loop-i-init
-loop-i-init c = let e : c.args.at + 0 ≡ c.args.at = omega arith in (omega arith, refl, rw e refl)
-
-pub loop-i-preserved : goal.loop-i-preserved
-loop-i-preserved c = (omega arith, length-set c.loop-i.out (c.args.at + c.loop-i.i) _ ∙ c.loop-i.invariant.1, sets-turn c.loop-i.out c.args.words.now c.args.at c.loop-i.i c.loop-i-test.true ∙ c.loop-i.invariant.2)
-
-pub shape_of-out : goal.shape_of-out
-shape_of-out c = c.loop-i.invariant.1
-
 pub returns : goal.returns
-returns c = sym (sets_end c.loop-i.out c.args.words.now (c.args.at + c.loop-i.i) c.loop-i.i (omega arith)) ∙ c.loop-i.invariant.2
+returns c =
+    let out = c.args.out.now in
+    let words = c.args.words.now in
+    put_mid-paste c.args.at _ out _ words (length words) c.copy_from_slice.ensures.after (omega arith) refl
+    ∙ rw take-length (sym (sets-eq words out c.args.at c.requires))

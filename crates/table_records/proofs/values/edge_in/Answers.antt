@@ -1,13 +1,14 @@
--- By the test.
-use mathlib.Core.Path.{refl}
-use borrow.Author.Tests.{eq-eqb, ne_eqb}
+-- By the number.
+use mathlib.Core.Path.{◌≡◌, refl}
+use native.Mathlib.Omega.{arith}
+use borrow.Author.Tests.{ne_eqb}
 use Rattle.table_records.specs.Values.{edge_in}
 use Rattle.table_records.proofs.values.edge_in.Goals as goal
 
-pub returns-then-n-eq1 : goal.returns-then-n-eq1
+pub returns-in-1 : goal.returns-in-1
 unfolding edge_in
-returns-then-n-eq1 c = rw (eq-eqb _ _ c.if-n-eq1.true) refl
+returns-in-1 c = rw c.in-1.is refl
 
-pub returns : goal.returns
+pub returns-in_default : goal.returns-in_default
 unfolding edge_in
-returns c = rw (ne_eqb _ _ c.if-n-eq1.false) refl
+returns-in_default c = let ne : c.args.n ≡ 1 → ⊥ = omega arith in rw (ne_eqb _ _ ne) refl

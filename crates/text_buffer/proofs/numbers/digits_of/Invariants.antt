@@ -1,12 +1,8 @@
 -- The digits of what is left go before those that were found.
-use Prim.Native.Nat.{◌≤◌}
 use mathlib.Core.Path.{◌≡◌}
 use lib.ListN.{length, drop}
 use Rattle.text_buffer.specs.Numerals.{digits_from, numeral_of}
 use Rattle.text_buffer.proofs.numbers.digits_of.Given as goal
 
 abbrev pub invariant-loop-first : goal.invariant-loop-first
-invariant-loop-first l = (l.first ≤ 20) × (length l.bytes ≡ 20) × (digits_from l.first l.rest (drop l.first l.bytes) ≡ numeral_of l.number)
-
-abbrev pub decreases-loop-first : goal.decreases-loop-first
-decreases-loop-first l = l.first
+invariant-loop-first l = (length l.bytes ≡ 20) × (digits_from l.first l.rest (drop l.first l.bytes) ≡ numeral_of l.number)

@@ -1,5 +1,0 @@
--- By what its parts are while nothing is read.
-use Rattle.blank_records.proofs.blank_model.Goals as goal
-
-pub returns : goal.returns
-returns c = rw (c.no_cells-cells.ensures, c.no_name.ensures, c.no_ramp.ensures)

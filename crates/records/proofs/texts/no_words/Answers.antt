@@ -1,8 +1,0 @@
--- Zeros alone, by computing.
-use mathlib.Core.Path.{refl}
-use Rattle.records.specs.Stored.{padded}
-use Rattle.records.proofs.texts.no_words.Goals as goal
-
-pub returns : goal.returns
-unfolding padded
-returns c = refl
