@@ -110,6 +110,10 @@ written_put xs s t h e =
     let a : t.at ≡ min (s.at + length xs) (length s.bytes) = ap (λ (u : Sheet). u.at) q in
     record { written = b; stop = a; within = omega (arith, ap length b, length-sets s.bytes s.at xs) }
 
+-- a buffer keeps its length
+pub put-kept : {a b : List ℕ} {at r : ℕ} {xs : List ℕ} → Put a b at xs r → length b ≡ length a
+put-kept {a} {b} {at} {r} {xs} p = ap length p.written ∙ length-sets a at xs
+
 -- the same from any place on, of a page whose text begins there or at the buffer's end
 pub put-at : (xs l : List ℕ) (i : ℕ) (s t : Sheet) → s.bytes ≡ l → s.at ≡ min i (length l) → t ≡ put xs s → t.bytes ≡ sets l i xs
 put-at xs l i s t e a p =
