@@ -3,3 +3,4 @@ pub mod Tables
 pub mod Making
 pub mod Laws
 pub mod Strength
+pub mod Answered
