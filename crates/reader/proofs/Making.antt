@@ -1,25 +1,32 @@
 -- The models, their waveforms and their rows as they are made one after the other: what each turn keeps, and what is left at the end.
-use Rattle.std.specs.Prelude.{Some, None, is_some}
+use Rattle.std.specs.Prelude.{Option, Some, None, is_some}
+use Rattle.std.specs.Option.{unwrap_or}
 use Prim.Native.Nat.{ℕ, suc, ◌≤◌, ◌<◌}
 use mathlib.Core.Path.{◌≡◌, refl, sym, ap, ◌∙◌}
 use mathlib.Core.List.{List, [], ◌∷◌, ◌++◌}
-use mathlib.Core.Bool.{true}
+use mathlib.Core.Bool.{true, not}
 use native.Mathlib.Omega.{arith}
+use lib.Dec.{T as Holds}
 use lib.ListN.{length, set, length-append}
 use Rattle.laws.proofs.Tests.{by-test, impossible}
 use Rattle.table_walks.specs.Filled.{filled_to}
+use Rattle.table_walks.proofs.Elem.{Data, Elem, of_struct, struct-elem}
 use Rattle.table_walks.proofs.Filled.{length-filled}
+use Rattle.table_walks.proofs.Makes.{Makes}
 use Rattle.records.specs.Stored.{stored, over}
+use Rattle.records.specs.declared.Edge.TheVariants.{Rising}
 use Rattle.records.specs.declared.Kind.TheVariants.{OfModel}
 use Rattle.records.specs.declared.Counts.{Counts}
 use Rattle.records.specs.declared.Model.{Model}
 use Rattle.records.specs.declared.Waveform.{Waveform}
+use Rattle.walked_records.proofs.Tables as R
 use Rattle.cut_lines.specs.Texts.{Text}
 use Rattle.rules.specs.Reading.{tables_in}
 use Rattle.layout.specs.Laid.{waveforms_laid}
 use Rattle.layout_by_notes.specs.Lies.{waveforms_noted, rows_noted}
 use Rattle.table_rows.specs.Rows.{Lies}
 use Rattle.table_rows.specs.Parts.{model_words}
+use Rattle.table_rows.specs.Waveforms.{bare_waveform}
 use Rattle.table_rows.proofs.Stores.{stored-length, over_none, over-length}
 use Rattle.table_rows.proofs.RowWalks.{lies-start}
 use Rattle.model_record.specs.declared.Body.{Body}
@@ -29,8 +36,16 @@ use Rattle.from_notes.specs.Models.{none_made, model_from, Partly, Reached, Soun
 use Rattle.from_notes.specs.declared.Progress.{Progress}
 use Rattle.from_notes.proofs.Joined.{joined-rise}
 use Rattle.from_notes.proofs.Steps.{not_so}
+use Rattle.from_notes.specs.contracts.Progress as P
+use Rattle.from_notes.proofs.Progress.TheLaws as P'
 use Rattle.reader.specs.Filling.{ModelsFit, ModelsFilled}
 use Rattle.reader.proofs.Tables.{over-put}
+
+abbrev pub progress : Data
+progress = of_struct P.the_type P'.the_laws
+
+pub progress-elem : Elem progress
+progress-elem = struct-elem P.the_type P'.the_laws P'.the_copy P'.the_plain
 
 -- part of a model: what is made so far is no longer than with all of it
 module _ {s ns : List ℕ} {k : ℕ} {f : FirstLines} {b : Body} {ts : List Text} {waves : List Waveform} {rowed : List ℕ} (p : Partly s ns k f b ts waves rowed) where
@@ -177,3 +192,42 @@ module _ (s ns : List ℕ) (o : Counts) (ms : List Model) (ws : List Waveform) (
         waveforms = g.waveforms ∙ ap (over ws) ((g.reached.1 q).waveforms ∙ ap waved e);
         rows = g.rows.store ∙ ap (over rs) ((g.reached.1 q).rows ∙ ap stores e);
       })
+
+-- ---- the loop as `Makes` has it: the waveform that stands in a state, or a blank one where none does
+
+pub some_there : {A : Type 0} (o : Option A) (d : A) → Holds (is_some o) → o ≡ Some (unwrap_or o d)
+some_there None d h = absurd h
+some_there (Some x) d h = refl
+
+pub none_there : {A : Type 0} (o : Option A) → Holds (not (is_some o)) → o ≡ None
+none_there None h = refl
+none_there (Some x) h = absurd h
+
+abbrev second_of : Progress → Waveform
+second_of p = unwrap_or p.taken.waveform (bare_waveform Rising 0)
+
+abbrev pub making : Makes R.models R.waveforms R.rows progress R.counts
+making =
+    record {
+      many = λ (o : Counts). o.models;
+      start = none_made;
+      is_second = λ (p : Progress). is_some p.taken.waveform;
+      second = second_of;
+      first = λ (s ns : List ℕ) (p : Progress) (k : ℕ). model_from s ns k p.lines p.taken.body;
+      wants = λ (s ns : List ℕ) (p : Progress) (k : ℕ) (rs : List ℕ). Ready s ns p k rs;
+      tells =
+          λ (s ns : List ℕ) (p : Progress) (k : ℕ) (rs : List ℕ) (r : Progress) (rs' : List ℕ).
+          ((waves : List Waveform) (rowed store : List ℕ) → Reached s ns p k waves rowed → Lies store rs p.words rowed → length (stored (rows_at s ns (suc k))) ≤ length store → Goes s ns k waves rowed store rs' r);
+      asks = ModelsFit;
+      Left = ModelsFilled;
+      total = λ (s ns : List ℕ) (o : Counts). length (waveforms_at s ns o.models);
+      Goes = Made;
+      begins = begins;
+      below = below;
+      ready = ready;
+      seconds =
+          λ s ns o ms ws rs i k p ms' ws' rs' g h r rs'' t there.
+          seconds s ns o ms ws rs i k p ms' ws' rs' g h r rs'' t (second_of r) (some_there r.taken.waveform (bare_waveform Rising 0) there);
+      firsts = λ s ns o ms ws rs i k p ms' ws' rs' g h r rs'' t none. firsts s ns o ms ws rs i k p ms' ws' rs' g h r rs'' t (none_there r.taken.waveform none);
+      ends = ends;
+    }
