@@ -1,2 +1,3 @@
--- Laws of a search.
+-- Laws of a search, and the search as the walks have it.
 pub mod Laws
+pub mod Records
