@@ -87,7 +87,7 @@ fn rows_fit(most: u64, r: RowsSeen) -> bool
     2 <= r.count && r.count <= most && r.head && r.tail
 }
 
-// The fault of a whole table of at most so many rows, 0 for none.
+// The fault of a whole table of at most so many rows, or that it has none.
 pub fn table_fault(most: u64, r: RowsSeen) -> Result<(), LineFault>
     ensures { result ≡ checked (bare (table_fault most r)) }
 {

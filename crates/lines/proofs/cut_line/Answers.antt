@@ -11,7 +11,7 @@ use Rattle.lines.proofs.cut_line.Goals as goal
 pub line_to-whole-requires : goal.line_to-whole-requires
 line_to-whole-requires c = record {
   at_in_bounds = c.requires;
-  stop_value = c.find.ensures.value ∙ c.text_stop-stop.ensures.result_value;
+  stop_value = c.line_end.ensures.value ∙ c.text_stop-stop.ensures.result_value;
 }
 
 pub slice_bounds-trimmed-count : goal.slice_bounds-trimmed-count
@@ -31,7 +31,7 @@ returns c =
     let l = drop b.args.at b.args.s.now in
     let whole = c.line_to-whole in
     let stop = c.text_stop-stop in
-    let lf = c.find in
+    let lf = c.line_end in
     let end = c.min-end in
     let m : end.result - b.args.at ≡ min (whole.result.end - b.args.at) (length (front (other b.args.comment) l)) =
     omega (arith, end.ensures, stop.ensures.value, stop.ensures.result_value, lf.ensures.value, whole.ensures.end_le_stop) in

@@ -8,7 +8,7 @@ returns-then-s-at c = hands_none c.args.s.now _ c.if-s-at.true
 pub line_to-requires : goal.line_to-requires
 line_to-requires c = record {
   at_in_bounds = c.if-s-at.false;
-  stop_value = c.find.ensures.value;
+  stop_value = c.line_end.ensures.value;
 }
 
 pub returns : goal.returns
