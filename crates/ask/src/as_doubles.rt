@@ -1,6 +1,6 @@
 // `doubles`: every cell of an accepted file as a double, section by section in file order. A selector has no cells.
 use crate::cells::{put_component, put_model};
-use program_output::put_out;
+use program_output::put_page;
 use program_output::sections::{sections_in, with_section};
 use program_output::tables::Tables;
 use program_output::walks::put_all;
@@ -23,5 +23,5 @@ pub(crate) fn print_doubles(t: Tables) {
     let mut page = Page::new(&mut out);
     let n = sections_in(t.components, t.selectors, t.models);
     put_all(&mut page, n, |page, k| put_section(page, k, t));
-    put_out(&page);
+    put_page(&page);
 }

@@ -5,6 +5,7 @@
 
 use heads::{Next, lending_in, next_file};
 use patterns::{PATTERN, is_plain, renewed};
+use program_output::put_out;
 use program_output::tables::{
     CHOICE_TABLE, COMPONENT_TABLE, MODEL_TABLE, PIN_TABLE, ROW_TABLE, SELECTOR_TABLE,
     WAVEFORM_TABLE, words_in,
@@ -19,7 +20,7 @@ mod heads; // heads.rt: records of standard input
 mod patterns; // patterns.rt: tables that hold a pattern where nothing is read
 
 fn tell_changed() {
-    io::write_all(1, b"CHANGED\n");
+    put_out(b"CHANGED\n", 8);
 }
 
 // Prints a file's dump. Of each table so many records are lent, and no more than it has.

@@ -6,7 +6,7 @@ ghost use Rattle.table_reader.specs.ReadInWords.{ReadInWords};
 
 use dump_text::components::{accepted_line, end_line, header_lines};
 use program_output::tables::Tables;
-use program_output::{print_refusal, put_out};
+use program_output::{print_refusal, put_page};
 use records::Answer;
 use sections::put_sections;
 use text_buffer::Page;
@@ -20,7 +20,7 @@ fn print_dump(page: &mut Page, answer: Answer, t: Tables) {
     header_lines(page, answer.header);
     put_sections(page, t.in_use(answer.counts));
     end_line(page);
-    put_out(page);
+    put_page(page);
 }
 
 // Reads a file into the lent tables, as `table_reader::read` does, and prints its dump or its refusal.

@@ -1,7 +1,7 @@
 // What a person is told of a file that was read into tables of words, on standard output: a summary, or the fault and its line.
 #![tactic(auto)]
 
-use program_output::put_out;
+use program_output::put_page;
 use program_output::tables::Tables;
 use records::{
     Answer, Fault, Lengths, MOST_CHOICES, MOST_COMPONENTS, MOST_MODELS, MOST_PINS, MOST_SELECTORS,
@@ -32,7 +32,7 @@ fn is_surplus(src: &[u8], fault: Fault) -> bool {
 
 fn print_refusal(page: &mut Page, name: &[u8], src: &[u8], fault: Fault) {
     refusal_text::put_refusal(page, name, src, fault, is_surplus(src, fault));
-    put_out(page);
+    put_page(page);
 }
 
 pub fn print_answer(name: &[u8], src: &[u8], answer: Answer, tables: Tables) {

@@ -3,7 +3,7 @@
 ghost use Rattle.std.specs.Prelude.{cond, ◌≡◌, ltb};
 
 use explain_text::Widths;
-use program_output::put_out;
+use program_output::put_page;
 use program_output::tables::{Tables, records_in};
 use program_output::walks::{put_all, put_span};
 use questions::choices::model_for;
@@ -86,5 +86,5 @@ pub(crate) fn print_summary(page: &mut Page, name: &[u8], answer: Answer, tables
     explain_text::put_header(page, name, answer.header);
     explain_text::put_counts(page, answer.counts);
     put_tables(page, tables.in_use(answer.counts));
-    put_out(page);
+    put_page(page);
 }

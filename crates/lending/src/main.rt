@@ -224,16 +224,16 @@ fn print_answer(a: Answer) {
         Ok(()) => dump_text::accepted_line(&mut page, a.counts),
         Err(f) => text_buffer::refused_line(&mut page, f),
     }
-    program_output::put_out(&page);
+    program_output::put_page(&page);
 }
 
 fn print_pins(pins: [Pin; 3]) {
     let mut out = io::buffer();
-    let mut page = Page::new(&mut out);
     for pin in pins {
+        let mut page = Page::new(&mut out);
         dump_text::pin_line(&mut page, pin);
+        program_output::put_page(&page);
     }
-    program_output::put_out(&page);
 }
 
 // 1 for a word past those of the rows that are used that holds what it held.
@@ -257,7 +257,7 @@ fn print_kept(rows: &[u64], used: usize) {
     page.put_bytes(b"KEPT ");
     page.put_number(words_kept(rows, used));
     page.put_byte(b'\n');
-    program_output::put_out(&page);
+    program_output::put_page(&page);
 }
 
 // A pin's place and its signal.
@@ -269,7 +269,7 @@ fn print_place(k: usize, pin: Pin) {
     page.put_byte(b' ');
     page.put_name(pin.signal);
     page.put_byte(b'\n');
-    program_output::put_out(&page);
+    program_output::put_page(&page);
 }
 
 fn print_found(pins: [Pin; 3], f: Option<usize>) {
@@ -280,7 +280,7 @@ fn print_found(pins: [Pin; 3], f: Option<usize>) {
             }
         }
         None => {
-            io::write_all(1, b"FOUND NOTHING\n");
+            program_output::put_out(b"FOUND NOTHING\n", 14);
         }
     }
 }

@@ -1,6 +1,6 @@
 // The listing on standard output: the counts, and a line for each pin with the thresholds of the model chosen for it.
 use decimal::Cell;
-use program_output::put_out;
+use program_output::put_page;
 use program_output::tables::{records_in, used};
 use program_output::walks::put_all;
 use questions::choices::{model_for, name_for};
@@ -43,7 +43,7 @@ pub(crate) fn print_answer(
             put_all(&mut page, records_in(all, PIN_WORDS), |page, k| {
                 put_pin(page, pin_in(all, k), s, c, m);
             });
-            put_out(&page);
+            put_page(&page);
         }
         Err(f) => program_output::print_refusal(f),
     }

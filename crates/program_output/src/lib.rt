@@ -2,9 +2,9 @@
 // standard output.
 #![tactic(auto)]
 
-ghost use Rattle.std.specs.Prelude.{◌≡◌};
+ghost use Rattle.std.specs.Prelude.{◌≡◌, length};
 ghost use Rattle.text_buffer.specs.Pages.{sheet};
-ghost use Rattle.program_output.specs.Kept.{file_buffer, after_flush};
+ghost use Rattle.program_output.specs.Kept.{file_buffer, next_place, after_flush};
 
 use records::Fault;
 use text_buffer::Page;
@@ -20,17 +20,35 @@ pub fn file_buffer() -> [u8; 65537]
     [0; 65537]
 }
 
+// Writes the first n bytes.
+pub fn put_out(out: &[u8], n: usize) {
+    if n <= out.len() {
+        io::write_all(1, &out[..n]);
+    }
+}
+
+// Writes the first n bytes once they are more than half of the buffer; answers where the next text goes.
+pub fn flushed(out: &[u8], n: usize) -> usize
+    ensures { result ≡ next_place (length out.now) n }
+{
+    if n <= out.len() / 2 {
+        return n;
+    }
+    put_out(out, n);
+    0
+}
+
 // Writes out what a page holds.
-pub fn put_out(page: &Page) {
-    io::write_all(1, page.written());
+pub fn put_page(page: &Page) {
+    put_out(page.written(), page.len());
 }
 
 // Writes out what a page holds once that is more than half of it; the next text then goes to its front.
-pub fn flushed(page: &mut Page)
+pub fn flush(page: &mut Page)
     ensures { sheet page.new ≡ after_flush (sheet page.old) }
 {
     if page.is_half_full() {
-        put_out(page);
+        put_page(page);
         page.turn();
     }
 }
@@ -39,5 +57,5 @@ pub fn print_refusal(f: Fault) {
     let mut out = io::buffer();
     let mut page = Page::new(&mut out);
     text_buffer::refused_line(&mut page, f);
-    put_out(&page);
+    put_page(&page);
 }

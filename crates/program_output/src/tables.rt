@@ -43,8 +43,12 @@ pub struct Tables<'a> {
 }
 
 impl<'a> Tables<'a> {
+    ghost use Rattle.program_output.specs.Tables.{InUse};
+
     // The records in use alone; of rows all, since spans tell which are.
-    pub fn in_use(self, counts: Counts) -> Tables<'a> {
+    pub fn in_use(self, counts: Counts) -> Tables<'a>
+        ensures { InUse self.entry counts result }
+    {
         Tables {
             components: used(self.components, COMPONENT_WORDS, counts.components),
             pins: used(self.pins, PIN_WORDS, counts.pins),

@@ -1,0 +1,2 @@
+-- What the walks over records make of a page.
+pub mod Turns
