@@ -1,5 +1,5 @@
 -- An equation with a definition has one left side; the other forms are records of such equations, or fix the lengths of what they say.
-use Prim.Native.Nat.{ℕ}
+use Prim.Native.Nat.{ℕ, ◌≤◌}
 use mathlib.Core.Path.{◌≡◌, sym, ap, ◌∙◌}
 use mathlib.Core.List.{List}
 use native.Mathlib.Omega.{arith}
@@ -10,9 +10,12 @@ use Rattle.named_lines.specs.Places.{NameIs}
 use Rattle.component_steps.specs.Steps.{NamesLie}
 use Rattle.noted_events.specs.Places.{FirstIn, ArgumentIn}
 use Rattle.name_checks.specs.Lookup.{Within}
-use Rattle.text_buffer.specs.Put.{Put}
+use Rattle.text_buffer.specs.Put.{Put, Sheet}
+use Rattle.text_buffer.specs.Pages.{Writes, sheet}
+use Rattle.text_buffer.specs.declared.page.Page.{Page}
+use Rattle.text_buffer.proofs.Laws.{written_put}
 use Rattle.text_buffer.specs.Parts.{PartAt}
-use Rattle.promise_forms.specs.One.{One, OneOfBoth}
+use Rattle.promise_forms.specs.One.{One, OneOfBoth, OnePage}
 
 -- "the result is what the definition says"; and so the content of lent memory
 pub equation : {A : Type 0} (definition : A) → One (λ (r : A). r ≡ definition)
@@ -21,6 +24,16 @@ equation definition r s a b = a ∙ sym b
 -- a text put into a buffer
 pub put : (before text : List ℕ) (at : ℕ) → OneOfBoth (λ (r : ℕ) (after : List ℕ). Put before after at text r)
 put before text at r s x y a b = (a.stop ∙ sym b.stop, a.written ∙ sym b.written)
+
+-- a text put onto a page
+pub page : (before : Page) (text : List ℕ) → OnePage (λ (after : Page). Writes before after text)
+page before text r s a b =
+    let e = a ∙ sym b in
+    record { lent = ap (λ (x : Sheet). x.lent) e; bytes = ap (λ (x : Sheet). x.bytes) e; place = ap (λ (x : Sheet). x.at) e }
+
+-- which is the text put into the page's buffer at its place
+pub page-put : (before after : Page) (text : List ℕ) → before.at ≤ length before.bytes.now → Writes before after text → Put before.bytes.now after.bytes.now before.at text after.at
+page-put before after text h w = written_put text (sheet before) (sheet after) h w
 
 -- ---- places found: what stands there, and an equation for the place
 
