@@ -27,15 +27,14 @@ fn print_file(name: &[u8], src: &[u8]) {
         &mut waveforms,
         &mut rows,
     );
-    // A summary tells of no waveform and no row. Handing these two on would have 350 KiB more written at each start.
     let tables = Tables {
         components: &components,
         pins: &pins,
         selectors: &selectors,
         choices: &choices,
         models: &models,
-        waveforms: &[],
-        rows: &[],
+        waveforms: &waveforms,
+        rows: &rows,
     };
     print_answer(name, src, answer, tables);
 }

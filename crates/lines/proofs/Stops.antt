@@ -1,6 +1,7 @@
 -- Where a text stops: two scans side by side, of which the first to stop says where.
-use Rattle.std.proofs.Common.{ℕ, ◌+◌, ◌-◌, ◌≤◌, ◌<◌, ◌≡◌, ◌⊎◌, inl, inr, List, Bool, true, false, length, get_or, arith, sym}
+use Rattle.std.proofs.Common.{ℕ, ◌+◌, ◌-◌, ◌≤◌, ◌<◌, ◌≡◌, ◌⊎◌, inl, inr, List, Bool, true, false, length, take, get_or, arith, sym, ◌∙◌}
 use mathlib.Core.Path.{subst}
+use Rattle.std.proofs.lemmas.List.{get_or-take}
 use Rattle.laws.specs.Lists.{other}
 use Rattle.laws.proofs.Tests.{by_order}
 use Rattle.words.proofs.Scans.{Scan, scan-stop, scan-end}
@@ -22,3 +23,16 @@ module _ (s : List ℕ) (at r : ℕ) (b : (at ≤ r) × (r ≤ length s)) where
         | inl e ↦ omega (arith, (scan-stop (other 10) s at r v h e).0, w.1)
         | inr e ↦ omega (arith, (scan-stop (other c) s at r w h e).0, v.1)
       ])
+
+-- a byte of the front is the whole's
+pub near-byte : (x n i : ℕ) (s : List ℕ) → i < n → (get_or (take n s) i 0 ≡ x → ⊥) → get_or s i 0 ≡ x → ⊥
+near-byte x n i s h f q = f (get_or-take n s i 0 h ∙ q)
+
+-- what holds of each byte up to a place, and of each from there on
+pub up-to : (P : ℕ → Type 0) (s : List ℕ) (at m r : ℕ) → ((k : ℕ) → at + k < m → P (get_or s (at + k) 0)) → ((k : ℕ) → m + k < r → P (get_or s (m + k) 0)) → (k : ℕ) → at + k < r → P (get_or s (at + k) 0)
+up-to P s at m r y z k h =
+    by_order m (at + k)
+    (λ g.
+    let e : m + (at + k - m) ≡ at + k = omega arith in
+    subst (λ (i : ℕ). P (get_or s i 0)) e (z (at + k - m) (omega arith)))
+    (λ g. y k g)

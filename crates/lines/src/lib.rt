@@ -83,17 +83,19 @@ fn skip_allowed(s: &[u8], at: usize) -> usize
     skip_eights(s, at, allowed)
 }
 
-// Where a line stops, at the first LF from at on, or at the end of s. Behind a comment character that may be most of a line: by `words::find`, a byte at a time, a file of
-// comments takes twice the instructions. Most lines have no comment, and stop where they are asked for.
+// Where a line stops, at the first LF from at on, or at the end of s: the next eight bytes one by one, for most lines stop where they are asked for, and then eight at once,
+// for behind a comment character that may be most of a line. By `words::find` alone a file of comments takes twice the instructions.
 fn line_end(s: &[u8], at: usize) -> usize
     requires { at ≤ length s.now }
     ensures value { result ≡ line_stop s.now at }
     ensures lower_bound { (at ≤ result) × (result ≤ length s.now) }
 {
-    if at < s.len() && s[at] == b'\n' {
-        return at;
+    let near = s.len().min(at + 8);
+    let stop = words::skip(&s[..near], at, |b| b != b'\n');
+    if stop < near {
+        return stop;
     }
-    skip_eights(s, at, |b| b != b'\n')
+    skip_eights(s, stop, |b| b != b'\n')
 }
 
 // How many bytes of a line's end stand at a place: 1 for LF, 2 for CR LF, else 0.
