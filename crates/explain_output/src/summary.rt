@@ -1,6 +1,8 @@
 // The summary of an accepted file on standard output: the file, each component with its pins in columns as wide as their names, and the die
 // capacitance of each model.
 ghost use Rattle.std.specs.Prelude.{cond, ◌≡◌, ltb};
+ghost use Rattle.text_buffer.specs.Pages.{sheet};
+ghost use Rattle.explain_output.specs.Capacitances.{capacitances};
 
 use explain_text::Widths;
 use program_output::put_page;
@@ -60,7 +62,9 @@ fn put_component(page: &mut Page, w: Widths, c: Component, t: Tables) {
 
 // ---- models and their die capacitance
 
-fn put_capacitances(page: &mut Page, width: usize, models: &[u64]) {
+fn put_capacitances(page: &mut Page, width: usize, models: &[u64])
+    ensures { sheet page.new ≡ capacitances width models.now (sheet page.old) }
+{
     explain_text::put_capacitance_heading(page, width);
     put_all(page, records_in(models, MODEL_WORDS), |page, k| {
         explain_text::put_capacitances(page, width, model_in(models, k));

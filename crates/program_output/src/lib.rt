@@ -27,7 +27,7 @@ pub fn put_out(out: &[u8], n: usize) {
     }
 }
 
-// Writes the first n bytes once they are more than half of the buffer; answers where the next text goes.
+// Writes the first n bytes once they are more than half of the buffer; answers where the next text goes. For a buffer that is no page.
 pub fn flushed(out: &[u8], n: usize) -> usize
     ensures { result ≡ next_place (length out.now) n }
 {

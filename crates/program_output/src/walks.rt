@@ -13,7 +13,7 @@ use text_buffer::Page;
 // For each place below n.
 pub fn put_all<F: FnMut(&mut Page, usize)>(page: &mut Page, n: usize, mut put: F)
     requires { F.IsAlwaysCallable put }
-    ensures { (text : ℕ → Sheet → Sheet) → Puts F.FnMut text → sheet page.new ≡ walked text 0 n (sheet page.old) }
+    ensures { (text : ℕ → Sheet → Sheet) → Puts F.FnMut put text → sheet page.new ≡ walked text 0 n (sheet page.old) }
 {
     for i in 0..n {
         put(page, i);
@@ -24,7 +24,7 @@ pub fn put_all<F: FnMut(&mut Page, usize)>(page: &mut Page, n: usize, mut put: F
 // For each place of a span in a table of n records.
 pub fn put_span<F: FnMut(&mut Page, usize)>(page: &mut Page, span: Span, n: usize, mut put: F)
     requires { F.IsAlwaysCallable put }
-    ensures { (text : ℕ → Sheet → Sheet) → Puts F.FnMut text → sheet page.new ≡ walked text span.start (min (span.start + span.count) n - span.start) (sheet page.old) }
+    ensures { (text : ℕ → Sheet → Sheet) → Puts F.FnMut put text → sheet page.new ≡ walked text span.start (min (span.start + span.count) n - span.start) (sheet page.old) }
 {
     for i in span.start..end_in(span, n) {
         put(page, i);

@@ -10,4 +10,4 @@ use Rattle.program_output.proofs.walks.put_all.Given as goal
 abbrev pub invariant-loop-i : goal.invariant-loop-i
 invariant-loop-i g l =
     (always_mut g.F.FnMut l.initial.put → always_mut g.F.FnMut l.put)
-    × ((text : ℕ → Sheet → Sheet) → Puts g.F.FnMut text → sheet l.page ≡ walked text 0 l.i (sheet l.initial.page))
+    × ((text : ℕ → Sheet → Sheet) → Puts g.F.FnMut l.initial.put text → Puts g.F.FnMut l.put text × (sheet l.page ≡ walked text 0 l.i (sheet l.initial.page)))

@@ -11,4 +11,4 @@ abbrev pub invariant-loop-i : goal.invariant-loop-i
 invariant-loop-i g l =
     (always_mut g.F.FnMut l.initial.put → always_mut g.F.FnMut l.put)
     × (l.i ≤ l.fn.span.start + (l.i-end - l.fn.span.start))
-    × ((text : ℕ → Sheet → Sheet) → Puts g.F.FnMut text → sheet l.page ≡ walked text l.fn.span.start (l.i - l.fn.span.start) (sheet l.initial.page))
+    × ((text : ℕ → Sheet → Sheet) → Puts g.F.FnMut l.initial.put text → Puts g.F.FnMut l.put text × (sheet l.page ≡ walked text l.fn.span.start (l.i - l.fn.span.start) (sheet l.initial.page)))

@@ -1,0 +1,2 @@
+-- What a summary tells.
+pub mod Capacitances
