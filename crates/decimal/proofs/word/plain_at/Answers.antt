@@ -1,7 +1,5 @@
 -- `decimal::plain_at`: the invariant is `Goes`, with one law for a digit and one for the end.
-use mathlib.Core.Path.{◌≡◌}
 use native.Mathlib.Omega.{arith}
-use lib.ListN.{length}
 use Rattle.laws.specs.Bytes.{is_digit}
 use Rattle.laws.proofs.Fronts.{front-end, front-stop}
 use Rattle.laws.proofs.Bytes.{digit-below, digit-above}
@@ -20,10 +18,8 @@ pub loop-i-preserved : goal.loop-i-preserved
 loop-i-preserved c =
     goes-digit _ _ _ _ _ c.loop-i.invariant c.loop-i-test.true c.in-48-to-57.if-byte-lt48-own.false (omega arith)
 
-pub returns : goal.returns
-returns c =
-    let stop : length c.args.w.now ≡ c.loop-i.i = omega arith in
-    rw stop (goes_end _ _ _ _ _ c.loop-i.invariant (front-end is_digit _ _ (omega arith)))
+pub returns-after-loop-i : goal.returns-after-loop-i
+returns-after-loop-i c = goes_end _ _ _ _ _ c.loop-i.invariant (front-end is_digit _ _ c.loop-i-test.false)
 
 pub returns-in_default : goal.returns-in_default
 returns-in_default c = goes_end _ _ _ _ _ c.loop-i.invariant (front-stop is_digit _ _ 0 c.loop-i-test.true (digit-below _ c.in_default.if-byte-lt48-own.true))
