@@ -271,10 +271,11 @@ pub fn cell_word(w: &[u8]) -> u64
 fn shrink(number: u64, count: u8) -> u64
     ensures { result ≡ number / 10 ^ count }
 {
-    match 10u64.checked_pow(count as u32) {
-        Some(power) => number / power,
-        None => 0,
+    let mut rest = number;
+    for _ in 0..count {
+        rest = rest / 10;
     }
+    rest
 }
 
 // Is a below b, signs aside? The one with the lower power is cut to whole units of the other, so that nothing grows.

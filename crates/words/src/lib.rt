@@ -91,7 +91,15 @@ pub fn skip_blanks(s: &[u8], at: usize) -> usize
     ensures value { result ≡ at + length (front is_blank (drop at s.now)) }
     ensures lower_bound { (at ≤ result) × (result ≤ length s.now) }
 {
-    skip(s, at, blank)
+    // The words of each row are found by these two: by `skip` a row's words take a quarter more of the time.
+    let mut i = at;
+    while i < s.len() {
+        if !blank(s[i]) {
+            return i;
+        }
+        i += 1;
+    }
+    i
 }
 
 // Where the bytes other than blanks from at on end.
@@ -100,7 +108,14 @@ pub fn skip_ink(s: &[u8], at: usize) -> usize
     ensures value { result ≡ at + length (front is_ink (drop at s.now)) }
     ensures lower_bound { (at ≤ result) × (result ≤ length s.now) }
 {
-    skip(s, at, |b| !blank(b))
+    let mut i = at;
+    while i < s.len() {
+        if blank(s[i]) {
+            return i;
+        }
+        i += 1;
+    }
+    i
 }
 
 // How much of s is left without the blanks at its end.

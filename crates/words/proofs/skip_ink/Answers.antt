@@ -1,15 +1,25 @@
--- What the test answered at each place says where the front ends.
-use Rattle.std.proofs.Common.{rules, of_calls, ◌≡◌, ◌+◌, ◌<◌, ℕ, true, false, length, get_or, sym, refl}
-use Rattle.laws.specs.Bytes.{is_blank}
+-- The front from i on is the front from the start: `front-more` at a turn, `front-stop` and `front-end` at the ways out.
+use mathlib.Core.Path.{refl, sym, ◌∙◌}
+use native.Mathlib.Omega.{arith}
+use Rattle.laws.proofs.Fronts.{front-more, front-stop, front-end}
 use Rattle.words.specs.Words.{is_ink}
 use Rattle.words.proofs.Laws.{ink-no, ink-yes}
-use Rattle.words.proofs.ByPlaces.{front-places}
 use Rattle.words.proofs.skip_ink.Goals as goal
 
-pub returns-clause-value : goal.returns-clause-value
-returns-clause-value c =
-    let e = c.skip.ensures in
-    let s = c.args.s.now in
-    let passed : (k : ℕ) → c.args.at + k < c.skip.result → is_blank (get_or s (c.args.at + k) 0) ≡ false = λ k h. let y = e.passed k h in search (rules, of_calls, y) in
-    let stopped : c.skip.result < length s → is_blank (get_or s c.skip.result 0) ≡ true = λ h. let y = e.stopped h in search (rules, of_calls, y) in
-    front-places is_ink _ _ _ e.lower_bound (λ k h. sym (ink-yes _ _ refl (passed k h))) (λ h. sym (ink-no _ _ refl (stopped h)))
+pub loop-i-init : goal.loop-i-init
+loop-i-init c = (omega arith, refl)
+
+pub returns-then-blank : goal.returns-then-blank
+returns-then-blank c = record {
+  value = sym (front-stop is_ink _ _ 0 c.loop-i-test.true (ink-no _ _ c.blank.ensures c.if-blank.true)) ∙ c.loop-i.invariant.1;
+  lower_bound = omega arith;
+}
+
+pub loop-i-preserved : goal.loop-i-preserved
+loop-i-preserved c = (omega arith, front-more is_ink _ _ 0 c.loop-i-test.true (ink-yes _ _ c.blank.ensures c.if-blank.false) ∙ c.loop-i.invariant.1)
+
+pub returns : goal.returns
+returns c = record {
+  value = sym (front-end is_ink _ _ c.loop-i-test.false) ∙ c.loop-i.invariant.1;
+  lower_bound = omega arith;
+}
