@@ -1,5 +1,5 @@
 -- The parts of a word: what the code knows while it passes digits, and what it has then read.
-use Prim.Native.Nat.{ℕ, ◌+◌, ◌-◌, ◌*◌, ◌^◌, ◌≤◌, ◌<◌, min}
+use Prim.Native.Nat.{ℕ, ◌+◌, ◌-◌, ◌*◌, ◌^◌, ◌%◌, ◌≤◌, ◌<◌, min}
 use Prim.Native.Char.{code}
 use mathlib.Core.Path.{◌≡◌, refl, sym, ap, subst, ◌∙◌}
 use mathlib.Core.List.{List, [], ◌∷◌, ◌++◌, append_assoc, append-nil}
@@ -21,7 +21,7 @@ use Rattle.decimal.specs.declared.word.Figures.{Figures}
 use Rattle.decimal.specs.declared.word.Plain.{Plain}
 use Rattle.decimal.specs.Decimal.{is_minus, after_sign, point_places, after_point, figures, after_figures, after_e, exponent_digits, letters, numeral, numeral_from}
 use Rattle.decimal.specs.Parts.{cap, short, StandsFor, SignRead, DigitsRead, PlainRead, CappedRead, Spans, MantissaRead, ShortRead, ExponentRead}
-use Rattle.laws.proofs.Bytes.{digit-yes, digit-above, letter-below}
+use Rattle.laws.proofs.Bytes.{digit-yes, digit-below, digit-above, letter-below}
 use Rattle.decimal.proofs.Numerals.{numeral-append, stands-grown, stands-none, stands-zero, stands-digit}
 
 -- ---- digits: those from `at` up to i are passed
@@ -132,6 +132,15 @@ module _ (w : List ℕ) (at n : ℕ) where
           within = p.within;
           small = p.small;
         }
+
+-- ---- how far a byte lies behind "0", in 64 bits: a digit less than ten, and nothing else
+
+pub near-0 : (b : ℕ) → b < 2 ^ 8 → (b + 18446744073709551568) % 18446744073709551616 ≤ 9
+    → (code "0" ≤ b) × (b ≤ code "9") × ((b + 18446744073709551568) % 18446744073709551616 ≡ b - code "0")
+near-0 b f h = (omega (arith, f, h), omega (arith, f, h), omega (arith, f, h))
+
+pub far_from_0 : (b : ℕ) → b < 2 ^ 8 → 9 < (b + 18446744073709551568) % 18446744073709551616 → is_digit b ≡ false
+far_from_0 b f h = by_order b 47 (λ k. digit-below b (omega (arith, k))) (λ k. digit-above b (omega (arith, f, h, k)))
 
 -- ---- the number that digits say, capped: what was read of them with its waiting zeros
 

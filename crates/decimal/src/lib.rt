@@ -144,7 +144,6 @@ fn any_number(w: &[u8]) -> Result<Decimal, u8>
 }
 
 // The same of a short word, from what was read of it. A size up to LOWEST leaves both sides of the power small enough to settle.
-#[inline(never)]
 fn with_exponent(w: &[u8], begun: Begun) -> Result<Decimal, u8>
     requires { BegunRead w.now begun }
     ensures { result ≡ number_of w.now }
@@ -166,44 +165,59 @@ fn with_exponent(w: &[u8], begun: Begun) -> Result<Decimal, u8>
     settle(begun.minus, begun.number, up + size, down)
 }
 
-// What any word says as a number, soonest for a short one that has letters alone behind its digits. Every word would pay for the slow ways
-// if their answers were handed on straight, if w itself were handed on, or if the compiler took with_exponent in.
-fn number_read(w: &[u8]) -> Result<Decimal, u8>
-    ensures { result ≡ number_of w.now }
+// What was read as one word, so that it passes in a register: the number's word of the row store, or the word of a fault, which no cell has.
+fn answer_word(read: Result<Decimal, u8>) -> u64
+    ensures { result ≡ number_word read }
+{
+    match read {
+        Ok(d) => word_of_number(d),
+        Err(fault) => FAULTS - fault as u64,
+    }
+}
+
+// What any word says as a number, as one word. This and exponent_word are calls of their own that take and hand back numbers: in number_word they would cost every
+// number a frame, and a remainder by LIMIT where their answers came together with its own.
+#[inline(never)]
+fn any_word(w: &[u8]) -> u64
+    ensures { result ≡ number_word (number_of w.now) }
+{
+    answer_word(any_number(w))
+}
+
+// The same of a short word that has more than letters behind its digits, from what was read of it.
+#[inline(never)]
+fn exponent_word(w: &[u8], minus: bool, number: u64, places: u64, at: usize) -> u64
+    requires { BegunRead w.now (record { minus = minus; number = number; places = places; at = at }) }
+    ensures { result ≡ number_word (number_of w.now) }
+{
+    let begun = Begun {
+        minus,
+        number,
+        places,
+        at,
+    };
+    answer_word(with_exponent(w, begun))
+}
+
+// What any word says as a number, as one word, soonest for a short word that has letters alone behind its digits.
+pub fn number_word(w: &[u8]) -> u64
+    ensures { result ≡ number_word (number_of w.now) }
 {
     if SHORT < w.len() {
-        let slow = any_number(&w[0..]);
-        return slow;
+        return any_word(w);
     }
     let sign = sign_at(w, 0);
     let mantissa = short_mantissa_at(w, sign.at);
     let at = mantissa.at;
     if mantissa.count == 0 {
-        return Err(11);
+        return FAULTS - 11;
     }
     if !letters_from(w, at) {
-        let begun = Begun {
-            minus: sign.minus,
-            number: mantissa.number,
-            places: mantissa.places,
-            at: at,
-        };
-        let slow = with_exponent(&w[0..], begun);
-        return slow;
+        return exponent_word(w, sign.minus, mantissa.number, mantissa.places, at);
     }
     let up = scale_up(w, at) + LOWEST;
     let down = mantissa.places + scale_down(w, at);
-    settle(sign.minus, mantissa.number, up, down)
-}
-
-// The same in one word, so that it passes in a register: the number's word of the row store, or the word of a fault, which no cell has.
-pub fn number_word(w: &[u8]) -> u64
-    ensures { result ≡ number_word (number_of w.now) }
-{
-    match number_read(w) {
-        Ok(d) => word_of_number(d),
-        Err(fault) => FAULTS - fault as u64,
-    }
+    answer_word(settle(sign.minus, mantissa.number, up, down))
 }
 
 // The fault that such a word tells; 0 of a cell's word.

@@ -175,13 +175,12 @@ fn plain_at(w: &[u8], at: usize, number: u64) -> Plain
     // With `for`, whether it returns or breaks, the compiler counts three times in the loop of every number.
     let mut i = at;
     while i < w.len() {
-        let byte = w[i];
-        match byte {
-            b'0'..=b'9' => {
-                read = read * 10 + (byte - b'0') as u64;
-            }
-            _ => break,
+        // How far the byte lies behind 0, and far above 9 for what is no digit; as a byte it would be widened in each turn.
+        let digit = (w[i] as u64).wrapping_sub(b'0' as u64);
+        if 9 < digit {
+            break;
         }
+        read = read * 10 + digit;
         i += 1;
     }
     Plain {
